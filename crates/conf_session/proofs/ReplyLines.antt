@@ -138,7 +138,7 @@ decimal-high n = number-high 63 n
 pub decimal-bytes : (n : ℕ) → IsBytes (decimal n)
 decimal-bytes n = high-bytes (decimal n) (decimal-high n)
 
-spaced-bytes : (numbers : List ℕ) → IsBytes (spaced_numbers numbers)
+pub spaced-bytes : (numbers : List ℕ) → IsBytes (spaced_numbers numbers)
 spaced-bytes [] = refl
 spaced-bytes (n ∷ []) = decimal-bytes n
 spaced-bytes (n ∷ m ∷ numbers) = all-append is_line_byte (decimal n) (32 ∷ spaced_numbers (m ∷ numbers)) (decimal-bytes n) (spaced-bytes (m ∷ numbers))

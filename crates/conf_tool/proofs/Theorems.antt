@@ -7,3 +7,4 @@ pub mod BestPlan
 pub mod UndoneScript
 pub mod ServingPaths
 pub mod PlanScript
+pub mod PlanScriptLeads

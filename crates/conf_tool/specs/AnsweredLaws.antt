@@ -95,10 +95,10 @@ kept-ran session rewriter count total parts before mid new ran k = record {
 }
 
 -- what `plan` has written stays written after a flush
-pub kept-planned : (options : PlanOptions) (count number : ℕ) (now : Option Configuration) (status : Status) (total : Script (List ℕ) → Output) (parts : List (List ℕ)) (before mid new : Option (List ℕ)) →
-    HasPlanned options count number now status total parts before mid → Keeps mid new → HasPlanned options count number now status total parts before new
-kept-planned options count number now status total parts before mid new planned k = record {
-  prefix = kept-prefix total (plan_left options count number now status) parts before mid new planned.prefix k;
+pub kept-planned : (options : PlanOptions) (session : SessionState) (count number : ℕ) (now : Option Configuration) (status : Status) (total : Script (List ℕ) → Output) (parts : List (List ℕ)) (before mid new : Option (List ℕ)) →
+    HasPlanned options session count number now status total parts before mid → Keeps mid new → HasPlanned options session count number now status total parts before new
+kept-planned options session count number now status total parts before mid new planned k = record {
+  prefix = kept-prefix total (plan_left options session count number now status) parts before mid new planned.prefix k;
   counted = planned.counted;
   few = planned.few;
   valid = planned.valid;

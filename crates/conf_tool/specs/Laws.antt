@@ -1,7 +1,9 @@
 -- Laws of the modes' outputs: what a user can rely on, when one mode reads what another printed.
-use Rattle.std.specs.Prelude.{◌≡◌, ◌≤◌, ◌+◌, ◌-◌, ℕ, true, false, List, ◌++◌, [], ◌∷◌, length, slice_get, Result, Ok, Err, Some, None}
+use Rattle.std.specs.Prelude.{◌≡◌, ◌≤◌, ◌<◌, ◌+◌, ◌-◌, ◌^◌, ℕ, true, false, List, ◌++◌, [], ◌∷◌, length, slice_get, codes, Option, Result, Ok, Err, Some, None}
+use Rattle.quorum_sets.specs.Ids.{Ids, ascending}
 use Rattle.ascii_text.specs.Lines.{newline, lines_of}
 use Rattle.dd_file.specs.Laws.{ends_in_long_blank, directives_of, IsComplete}
+use Rattle.dd_file.specs.DirectiveText.{DirectiveText}
 use Rattle.dd_file.specs.Position.{longest_input}
 use Rattle.dd_file.specs.Grammar.{Script, script_of, listing_of}
 use Rattle.dd_file.specs.declared.item.Item.{Item}
@@ -11,20 +13,21 @@ use Rattle.conf_change.specs.Configuration.{Configuration, has_voter}
 use Rattle.conf_change.specs.declared.step.Step.{Step}
 use Rattle.conf_plan.specs.Best.{IsBest}
 use Rattle.conf_plan.specs.PathBy.{has_path, Serves}
-use Rattle.conf_plan.specs.PlanSteps.{IsPlan}
+use Rattle.conf_plan.specs.PlanSteps.{HasU64Ids, IsPlan}
 use Rattle.conf_plan.specs.PlanText.{plan_text}
 use Rattle.conf_session.specs.SessionState.{SessionState, new_session, current}
+use Rattle.conf_session.specs.Commands.{answer, after_answers}
 use Rattle.conf_session.specs.Undo.{undo_plan_of}
 use Rattle.conf_tool.specs.Pairs.{NumberedLine, numbered, configuration_lines, configuration_at, both_of}
 use Rattle.conf_tool.specs.declared.plan_input_fault.PlanInputFault.{PlanInputFault}
-use Rattle.conf_tool.specs.PlanScript.{script_text}
-use Rattle.conf_tool.specs.PlanAnswer.{plan_text_between}
+use Rattle.conf_tool.specs.PlanScript.{default_session}
+use Rattle.conf_tool.specs.PlanAnswer.{ids_down, stall_note, note_line, path_between, plan_text_between, session_between}
 use Rattle.conf_tool.specs.declared.plan_options.PlanOptions.{PlanOptions}
-use Rattle.conf_tool.specs.declared.plan_options.PlanOutput.TheVariants.{Steps}
-use Rattle.conf_plan.specs.declared.strategy.Strategy.{Strategy}
+use Rattle.conf_tool.specs.declared.plan_options.PlanOutput.TheVariants.{Steps, Script as ScriptOutput}
 use Rattle.conf_plan.specs.declared.strategy.Strategy.TheVariants.{Shortest}
-use Rattle.std.specs.List.{AllZip}
-use Rattle.conf_tool.specs.Outputs.{session_after_all, checked, rewritten, undone_output, planned_output}
+use Rattle.std.specs.List.{All, AllZip}
+use Rattle.conf_tool.specs.Reports.{session_after_all}
+use Rattle.conf_tool.specs.Outputs.{checked, rewritten, undone_output, planned_output}
 use Rattle.conf_tool.specs.UndoScript.{TakesSteps}
 use Rattle.conf_tool.specs.declared.status.Status.TheVariants.{Clean}
 
@@ -75,10 +78,11 @@ named_pairs (first ∷ second ∷ lines) = pair_before (both_of (configuration_a
 abbrev pub pairs_in : List ℕ → List (Configuration × Configuration)
 pairs_in input = named_pairs (configuration_lines (numbered 1 (listing_of input).items))
 
--- the replies of `plan` to pairs, the first of which has this number
-abbrev pub texts_from : PlanOptions → ℕ → List (Configuration × Configuration) → List (List ℕ)
-texts_from options number [] = []
-texts_from options number (pair ∷ pairs) = plan_text_between options number pair.0 pair.1 ∷ texts_from options (number + 1) pairs
+-- the replies of `plan` to pairs in turn, the first of which has this number and is answered in this session
+abbrev pub texts_from : PlanOptions → SessionState → ℕ → List (Configuration × Configuration) → List (List ℕ)
+texts_from options session number [] = []
+texts_from options session number (pair ∷ pairs) =
+    plan_text_between options session number pair.0 pair.1 ∷ texts_from options (session_between options session pair.0 pair.1) (number + 1) pairs
 
 -- texts with a separator between each two
 abbrev pub separated_by : List ℕ → List (List ℕ) → List ℕ
@@ -86,32 +90,71 @@ separated_by part [] = []
 separated_by part (text ∷ []) = text
 separated_by part (text ∷ next ∷ texts) = text ++ (part ++ separated_by part (next ∷ texts))
 
+-- the text of a path by its steps; a comment before them reports that the path stalls with the ids that are down
+abbrev pub steps_text : Option Ids → Configuration → List Step → List ℕ
+steps_text down now steps = note_line (stall_note down now steps) ++ plan_text steps
+
 -- the text is that of the best plan from the first configuration of a pair to the second, if both have a voter
-abbrev pub IsBestPlan : Configuration × Configuration → List ℕ → Type 0
-IsBestPlan pair text = has_voter pair.0 ≡ true → has_voter pair.1 ≡ true → (steps : List Step) × (text ≡ plan_text steps) × IsBest pair.0 steps pair.1
+abbrev pub IsBestPlan : Option Ids → Configuration × Configuration → List ℕ → Type 0
+IsBestPlan down pair text = has_voter pair.0 ≡ true → has_voter pair.1 ≡ true → (steps : List Step) × (text ≡ steps_text down pair.0 steps) × IsBest pair.0 steps pair.1
 
 -- `plan` prints the texts of the pairs with an empty line between each two, and each is the best plan. For an input of
 -- one pair nothing else is printed, and the run ends clean if no ids are down.
 pub record PrintedPlanIsBest : Type 0 where
   pub each : (options : PlanOptions) (input : List ℕ) → options.strategy ≡ Shortest → options.output ≡ Steps →
-      (texts : List (List ℕ)) × ((planned_output options input).text ≡ separated_by newline texts) × AllZip IsBestPlan (pairs_in input) texts
+      (texts : List (List ℕ)) × ((planned_output options input).text ≡ separated_by newline texts) × AllZip (IsBestPlan options.down) (pairs_in input) texts
   pub alone : (options : PlanOptions) (input : List ℕ) (first second : NumberedLine) (now target : Configuration) → options.strategy ≡ Shortest → options.output ≡ Steps → options.down ≡ None →
       (listing_of input).fault ≡ None → configuration_lines (numbered 1 (listing_of input).items) ≡ first ∷ second ∷ [] → configuration_at first ≡ Ok now → configuration_at second ≡ Ok target →
       has_voter now ≡ true → has_voter target ≡ true → (steps : List Step) × (planned_output options input ≡ record { text = plan_text steps; outcome = Ok Clean }) × IsBest now steps target
 
 -- The text is that of a path that keeps what the strategy promises, if both configurations of the pair have a voter and
 -- the strategy has a path.
-abbrev pub IsServingPath : Strategy → Configuration × Configuration → List ℕ → Type 0
-IsServingPath strategy pair text =
-    has_voter pair.0 ≡ true → has_voter pair.1 ≡ true → has_path strategy pair.0 pair.1 ≡ true → (steps : List Step) × (text ≡ plan_text steps) × Serves strategy pair.0 steps pair.1
+abbrev pub IsServingPath : PlanOptions → Configuration × Configuration → List ℕ → Type 0
+IsServingPath options pair text =
+    has_voter pair.0 ≡ true → has_voter pair.1 ≡ true → has_path options.strategy pair.0 pair.1 ≡ true →
+    (steps : List Step) × (text ≡ steps_text options.down pair.0 steps) × Serves options.strategy (ids_down options.down) pair.0 steps pair.1
 
 -- By each strategy, `plan` prints the texts of the pairs with an empty line between each two, and each is that of a
 -- path that keeps what the strategy promises.
 abbrev pub PrintedPathServes : Type 0
 PrintedPathServes = (options : PlanOptions) (input : List ℕ) → options.output ≡ Steps →
-    (texts : List (List ℕ)) × ((planned_output options input).text ≡ separated_by newline texts) × AllZip (IsServingPath options.strategy) (pairs_in input) texts
+    (texts : List (List ℕ)) × ((planned_output options input).text ≡ separated_by newline texts) × AllZip (IsServingPath options) (pairs_in input) texts
 
--- The script of a path checks clean, in the session that `check` has without options.
-abbrev pub PlanScriptClean : Type 0
-PlanScriptClean = (now : Configuration) (steps : List Step) →
-    length (script_text now steps) ≤ longest_input → (checked (script_text now steps) 100 One).outcome ≡ Ok Clean
+-- A session that runs these directives restores a configuration by the first, takes steps by the others, one by each,
+-- and is in another configuration then.
+pub record RestoresAndTakes (session : SessionState) (first : DirectiveText) (others : List DirectiveText) (now : Configuration) (steps : List Step) (target : Configuration) : Type 0 where
+  pub command : first.command ≡ codes "restore"
+  pub restored : current (answer session first).session ≡ now
+  pub taken : TakesSteps (answer session first).session others steps
+  pub there : current (after_answers session (first ∷ others)) ≡ target
+
+-- Directives that lead a session through pairs: for each pair that has a path, some restore its first configuration and
+-- take the steps of the path to the second one. A pair without a path has no directive.
+pub data LeadsThrough (options : PlanOptions) : SessionState → List DirectiveText → List (Configuration × Configuration) → Type 0 where
+  NoPair : (session : SessionState) → LeadsThrough options session [] []
+  WithPath : (session : SessionState) (first : DirectiveText) (others more : List DirectiveText) (pair : Configuration × Configuration) (pairs : List (Configuration × Configuration)) (steps : List Step) →
+      path_between options pair.0 pair.1 ≡ Ok steps → RestoresAndTakes session first others pair.0 steps pair.1 →
+      LeadsThrough options (after_answers session (first ∷ others)) more pairs → LeadsThrough options session (first ∷ others ++ more) (pair ∷ pairs)
+  WithoutPath : (session : SessionState) (directives : List DirectiveText) (pair : Configuration × Configuration) (pairs : List (Configuration × Configuration)) (why : List ℕ) →
+      path_between options pair.0 pair.1 ≡ Err why → LeadsThrough options session directives pairs → LeadsThrough options session directives (pair ∷ pairs)
+
+-- the ids of a configuration are numbers of 64 bits
+pub record HasU64Lists (c : Configuration) : Type 0 where
+  pub incoming : All (λ id. id < 2 ^ 64) (ascending c.incoming)
+  pub outgoing : All (λ id. id < 2 ^ 64) (ascending c.outgoing)
+  pub learners : All (λ id. id < 2 ^ 64) (ascending c.learners)
+  pub learners_next : All (λ id. id < 2 ^ 64) (ascending c.learners_next)
+
+-- the ids of the first configuration of a pair are numbers of 64 bits, and so are those of its path
+pub record HasU64Pair (options : PlanOptions) (pair : Configuration × Configuration) : Type 0 where
+  pub now : HasU64Lists pair.0
+  pub steps : (steps : List Step) → path_between options pair.0 pair.1 ≡ Ok steps → All HasU64Ids steps
+
+-- The scripts that `plan` prints for the pairs of an input are one script, which checks clean without options. A
+-- session that runs it takes the steps of each path, from the first configuration of the pair to the second.
+-- (`HasU64Pair` holds of each pair that is read and of each path that is made.)
+pub record PlanScriptLeads : Type 0 where
+  pub clean : (options : PlanOptions) (input : List ℕ) → options.output ≡ ScriptOutput → length (planned_output options input).text ≤ longest_input →
+      (checked (planned_output options input).text 100 One).outcome ≡ Ok Clean
+  pub leads : (options : PlanOptions) (input : List ℕ) → options.output ≡ ScriptOutput → All (HasU64Pair options) (pairs_in input) → length (planned_output options input).text ≤ longest_input →
+      LeadsThrough options default_session (directives_of (script_of (planned_output options input).text).items) (pairs_in input)

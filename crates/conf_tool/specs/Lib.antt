@@ -12,4 +12,5 @@ pub mod Outputs
 pub mod Answered
 pub mod AnsweredLaws
 pub mod Run
+pub mod ExitStatus
 pub mod Laws

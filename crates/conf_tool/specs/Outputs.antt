@@ -11,7 +11,7 @@ use Rattle.conf_tool.specs.LineReply.{line_replies}
 use Rattle.conf_change.specs.declared.floor.Floor.{Floor}
 use Rattle.conf_change.specs.declared.step.Step.{Step}
 use Rattle.conf_session.specs.SessionState.{SessionState, new_session}
-use Rattle.conf_tool.specs.Reports.{session_after, answered_entries, differs, report, counts_text}
+use Rattle.conf_tool.specs.Reports.{session_after_all, answered_entries, differs, report, counts_text}
 use Rattle.conf_session.specs.Undo.{undo_plan_of}
 use Rattle.conf_tool.specs.UndoScript.{undo_items}
 use Rattle.conf_tool.specs.declared.mode.Mode.{Mode}
@@ -24,7 +24,8 @@ use Rattle.conf_tool.specs.declared.status.Status.{Status}
 use Rattle.conf_tool.specs.declared.status.Status.TheVariants.{Clean, Different}
 use Rattle.conf_session.specs.declared.undo_fault.UndoFault.{UndoFault}
 use Rattle.conf_tool.specs.Pairs.{NumberedLine, numbered, configuration_lines, configuration_at, both_of}
-use Rattle.conf_tool.specs.PlanAnswer.{plan_text_between, plan_status}
+use Rattle.conf_tool.specs.PlanAnswer.{plan_text_between, plan_status, session_between}
+use Rattle.conf_tool.specs.PlanScript.{default_session}
 use Rattle.conf_tool.specs.declared.plan_input_fault.PlanInputFault.{PlanInputFault}
 use Rattle.conf_tool.specs.declared.plan_input_fault.PlanInputFault.TheVariants.{NotTwoLines}
 use Rattle.conf_tool.specs.declared.tool_fault.ToolFault.{ToolFault}
@@ -77,11 +78,6 @@ rewritten_script history floor script = record {
 abbrev pub rewritten : List ℕ → ℕ → Floor → Output
 rewritten input history floor = rewritten_script history floor (script_of input)
 
--- the session after it has run these items
-abbrev pub session_after_all : SessionState → List Item → SessionState
-session_after_all session [] = session
-session_after_all session (item ∷ items) = session_after_all (session_after session item) items
-
 -- the status of `undo`: different if there is no plan
 abbrev pub undo_status : Result (List Step) UndoFault → Status
 undo_status (Ok steps) = Clean
@@ -115,9 +111,10 @@ separator ScriptOutput = newline
 separator Table = newline
 separator Json = []
 
--- the reply to the pair with this number, counted from 1, with the separator before it
-abbrev pub pair_text : PlanOptions → ℕ → Configuration → Configuration → List ℕ
-pair_text options number now target = (if nat_lt 1 number then separator options.output else []) ++ plan_text_between options number now target
+-- the reply to the pair with this number, counted from 1, in this session, with the separator before it
+abbrev pub pair_text : PlanOptions → SessionState → ℕ → Configuration → Configuration → List ℕ
+pair_text options session number now target =
+    (if nat_lt 1 number then separator options.output else []) ++ plan_text_between options session number now target
 
 -- the outcome of a run that has this status so far: an error decides, otherwise the worse status
 abbrev pub worse_of : Status → Result Status ToolFault → Result Status ToolFault
@@ -126,12 +123,17 @@ worse_of Clean (Ok later) = Ok later
 worse_of Different (Ok later) = Ok Different
 
 -- the output of `plan` for a pair and the pairs after it; a line with an error ends it
-abbrev pub pair_then : PlanOptions → ℕ → Result (Configuration × Configuration) PlanInputFault → Output → Output
-pair_then options number (Err bad) rest = ends (Err (Configurations bad))
-pair_then options number (Ok pair) rest = record {
-  text = pair_text options number pair.0 pair.1 ++ rest.text;
+abbrev pub pair_then : PlanOptions → SessionState → ℕ → Result (Configuration × Configuration) PlanInputFault → Output → Output
+pair_then options session number (Err bad) rest = ends (Err (Configurations bad))
+pair_then options session number (Ok pair) rest = record {
+  text = pair_text options session number pair.0 pair.1 ++ rest.text;
   outcome = worse_of (plan_status options pair.0 pair.1) rest.outcome;
 }
+
+-- the session after a pair
+abbrev pub session_after_pair : PlanOptions → SessionState → Result (Configuration × Configuration) PlanInputFault → SessionState
+session_after_pair options session (Err bad) = session
+session_after_pair options session (Ok pair) = session_between options session pair.0 pair.1
 
 -- the output of `plan` at the end of its input, where the pair with this number would begin; no pair at all is an error
 abbrev pub ends_before : ℕ → Option FileFault → Output
@@ -144,16 +146,17 @@ ends_within (Err bad) fault = ends (Err (Configurations bad))
 ends_within (Ok now) (Some fault) = ends (Err (ScriptFault fault))
 ends_within (Ok now) None = ends (Err (Configurations NotTwoLines))
 
--- the output of `plan` for these lines, the first pair of which has this number
-abbrev pub planned_pairs : PlanOptions → ℕ → List NumberedLine → Option FileFault → Output
-planned_pairs options number [] fault = ends_before number fault
-planned_pairs options number (line ∷ []) fault = ends_within (configuration_at line) fault
-planned_pairs options number (first ∷ second ∷ lines) fault =
-    pair_then options number (both_of (configuration_at first) (configuration_at second)) (planned_pairs options (number + 1) lines fault)
+-- the output of `plan` for these lines, the first pair of which has this number and is answered in this session
+abbrev pub planned_pairs : PlanOptions → SessionState → ℕ → List NumberedLine → Option FileFault → Output
+planned_pairs options session number [] fault = ends_before number fault
+planned_pairs options session number (line ∷ []) fault = ends_within (configuration_at line) fault
+planned_pairs options session number (first ∷ second ∷ lines) fault =
+    let pair = both_of (configuration_at first) (configuration_at second) in
+    pair_then options session number pair (planned_pairs options (session_after_pair options session pair) (number + 1) lines fault)
 
--- the output of `plan` for the lines of an input
+-- the output of `plan` for the lines of an input: one session answers all pairs
 abbrev pub planned_script : PlanOptions → Script (List ℕ) → Output
-planned_script options listing = planned_pairs options 1 (configuration_lines (numbered 1 listing.items)) listing.fault
+planned_script options listing = planned_pairs options default_session 1 (configuration_lines (numbered 1 listing.items)) listing.fault
 
 -- the output of `plan`: for each pair of lines the path from the configuration of the first to that of the second
 abbrev pub planned_output : PlanOptions → List ℕ → Output

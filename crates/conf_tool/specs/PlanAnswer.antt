@@ -1,6 +1,6 @@
 -- The output of the mode `plan` for a pair: the path between two configurations, or why there is none.
-use Rattle.std.specs.Prelude.{ℕ, List, ◌++◌, Option, Some, None, codes, if◌then◌else◌}
-use Rattle.quorum_sets.specs.Ids.{Ids}
+use Rattle.std.specs.Prelude.{ℕ, List, [], ◌++◌, Option, Some, None, Result, Ok, Err, codes, if◌then◌else◌}
+use Rattle.quorum_sets.specs.Ids.{Ids, no_ids}
 use Rattle.conf_change.specs.Configuration.{Configuration, has_voter}
 use Rattle.conf_change.specs.declared.step.Step.{Step}
 use Rattle.conf_plan.specs.PathBy.{has_path, path_by}
@@ -9,24 +9,56 @@ use Rattle.ascii_text.specs.Lines.{newline}
 use Rattle.plan_output.specs.Json.{json_text, value_line, no_plan_json}
 use Rattle.plan_output.specs.Stages.{stalls}
 use Rattle.plan_output.specs.Table.{table_text}
-use Rattle.conf_tool.specs.PlanScript.{script_text}
+use Rattle.conf_session.specs.SessionState.{SessionState}
+use Rattle.conf_tool.specs.PlanScript.{stall_text, script_items, script_text}
+use Rattle.conf_tool.specs.Reports.{session_after_all}
 use Rattle.conf_tool.specs.declared.plan_options.PlanOptions.{PlanOptions}
 use Rattle.conf_tool.specs.declared.plan_options.PlanOutput.{PlanOutput}
 use Rattle.conf_tool.specs.declared.plan_options.PlanOutput.TheVariants.{Steps, Script, Table, Json}
 use Rattle.conf_tool.specs.declared.status.Status.{Status}
 use Rattle.conf_tool.specs.declared.status.Status.TheVariants.{Clean, Different}
 
--- the text of a path in this form, for the pair with this number and with these ids down
-abbrev pub text_as : PlanOutput → ℕ → Option Ids → Configuration → List Step → List ℕ
-text_as Steps number down now steps = plan_text steps
-text_as Script number down now steps = script_text now steps
-text_as Table number down now steps = table_text now steps down
-text_as Json number down now steps = json_text number now steps down
+-- ---- a path
+-- the ids that are down: none if none are given
+abbrev pub ids_down : Option Ids → Ids
+ids_down None = no_ids
+ids_down (Some down) = down
+
+-- the note that a path stalls, if ids are down and it stalls then
+abbrev pub stall_note : Option Ids → Configuration → List Step → Option (List ℕ)
+stall_note None now steps = None
+stall_note (Some down) now steps = if stalls now steps down then Some (stall_text down) else None
+
+-- a note as a comment line; nothing if there is none
+abbrev pub note_line : Option (List ℕ) → List ℕ
+note_line None = []
+note_line (Some note) = codes "# " ++ note ++ newline
+
+-- The text of a path in this form, for the pair with this number and with these ids down. A script has the actual
+-- output of this session.
+abbrev pub text_as : PlanOutput → SessionState → ℕ → Option Ids → Configuration → List Step → List ℕ
+text_as Steps session number down now steps = note_line (stall_note down now steps) ++ plan_text steps
+text_as Script session number down now steps = script_text session (stall_note down now steps) now steps
+text_as Table session number down now steps = table_text now steps down
+text_as Json session number down now steps = json_text number now steps down
 
 -- the text of a path in the form that the options name
-abbrev pub path_text : PlanOptions → ℕ → Configuration → List Step → List ℕ
-path_text options number now steps = text_as options.output number options.down now steps
+abbrev pub path_text : PlanOptions → SessionState → ℕ → Configuration → List Step → List ℕ
+path_text options session number now steps = text_as options.output session number options.down now steps
 
+-- the session after that text: it runs the script, if the output is one
+abbrev pub session_as : PlanOutput → SessionState → Option Ids → Configuration → List Step → SessionState
+session_as Steps session down now steps = session
+session_as Script session down now steps = session_after_all session (script_items (stall_note down now steps) now steps)
+session_as Table session down now steps = session
+session_as Json session down now steps = session
+
+-- the status of a path: different if ids are down and the path stalls then
+abbrev pub path_status : Option Ids → Configuration → List Step → Status
+path_status None now steps = Clean
+path_status (Some down) now steps = if stalls now steps down then Different else Clean
+
+-- ---- no path
 -- a comment with the reason why there is no plan
 abbrev pub no_plan_comment : List ℕ → List ℕ
 no_plan_comment why = codes "# no plan: " ++ why ++ newline
@@ -38,20 +70,37 @@ no_plan_text Script number why = no_plan_comment why
 no_plan_text Table number why = no_plan_comment why
 no_plan_text Json number why = value_line (no_plan_json number why)
 
--- the status of a path: different if ids are down and the path stalls then
-abbrev pub path_status : Option Ids → Configuration → List Step → Status
-path_status None now steps = Clean
-path_status (Some down) now steps = if stalls now steps down then Different else Clean
+-- ---- a pair
+-- the path between two configurations by the strategy, made while the ids of the options are down, or why there is none
+abbrev pub path_between : PlanOptions → Configuration → Configuration → Result (List Step) (List ℕ)
+path_between options now target =
+    if has_voter now then (if has_voter target then (if has_path options.strategy now target then Ok (path_by options.strategy (ids_down options.down) now target)
+    else Err (codes "the target is joint")) else Err (codes "the target has no voter"))
+    else Err (codes "the current configuration has no voter")
 
--- the reply to a pair: the text of the path by the strategy, or why there is none
-abbrev pub plan_text_between : PlanOptions → ℕ → Configuration → Configuration → List ℕ
-plan_text_between options number now target =
-    if has_voter now then (if has_voter target then (if has_path options.strategy now target then path_text options number now (path_by options.strategy now target)
-    else no_plan_text options.output number (codes "the target is joint")) else no_plan_text options.output number (codes "the target has no voter"))
-    else no_plan_text options.output number (codes "the current configuration has no voter")
+-- the reply to a pair for this path, or for this reason why there is none
+abbrev pub reply_text : PlanOptions → SessionState → ℕ → Configuration → Result (List Step) (List ℕ) → List ℕ
+reply_text options session number now (Ok steps) = path_text options session number now steps
+reply_text options session number now (Err why) = no_plan_text options.output number why
 
--- the status of a pair: different if there is no path, or if it stalls
+-- the reply to the pair with this number, in this session: the text of the path by the strategy, or why there is none
+abbrev pub plan_text_between : PlanOptions → SessionState → ℕ → Configuration → Configuration → List ℕ
+plan_text_between options session number now target = reply_text options session number now (path_between options now target)
+
+-- the session after that reply; no path leaves it as it is
+abbrev pub session_with : PlanOptions → SessionState → Configuration → Result (List Step) (List ℕ) → SessionState
+session_with options session now (Ok steps) = session_as options.output session options.down now steps
+session_with options session now (Err why) = session
+
+-- the session after the reply to a pair
+abbrev pub session_between : PlanOptions → SessionState → Configuration → Configuration → SessionState
+session_between options session now target = session_with options session now (path_between options now target)
+
+-- the status of a pair with this path: different if there is none, or if it stalls
+abbrev pub status_with : PlanOptions → Configuration → Result (List Step) (List ℕ) → Status
+status_with options now (Ok steps) = path_status options.down now steps
+status_with options now (Err why) = Different
+
+-- the status of a pair
 abbrev pub plan_status : PlanOptions → Configuration → Configuration → Status
-plan_status options now target =
-    if has_voter now then (if has_voter target then (if has_path options.strategy now target then path_status options.down now (path_by options.strategy now target)
-    else Different) else Different) else Different
+plan_status options now target = status_with options now (path_between options now target)

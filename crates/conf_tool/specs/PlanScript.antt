@@ -1,5 +1,6 @@
--- The script that takes the steps of a path.
-use Rattle.std.specs.Prelude.{ℕ, List, [], ◌∷◌, codes}
+-- The script that takes the steps of a path, and the comment that a path stalls while ids are down.
+use Rattle.std.specs.Prelude.{ℕ, List, [], ◌∷◌, ◌++◌, Option, Some, None, codes}
+use Rattle.quorum_sets.specs.Ids.{Ids, ascending}
 use Rattle.dd_file.specs.Rewritten.{rewritten_text}
 use Rattle.dd_file.specs.Script.{directive}
 use Rattle.dd_file.specs.DirectiveLine.{CommandText}
@@ -7,11 +8,21 @@ use Rattle.dd_file.specs.declared.item.Item.{Item}
 use Rattle.conf_change.specs.Configuration.{Configuration}
 use Rattle.conf_change.specs.ConfState.{lists_of}
 use Rattle.conf_change.specs.ConfStateLine.{conf_state_text}
+use Rattle.conf_change.specs.Text.{spaced_numbers}
 use Rattle.conf_change.specs.declared.floor.Floor.TheVariants.{One}
 use Rattle.conf_change.specs.declared.step.Step.{Step}
 use Rattle.conf_session.specs.SessionState.{SessionState, new_session}
 use Rattle.conf_tool.specs.Reports.{answered_entries}
-use Rattle.conf_tool.specs.UndoScript.{step_items}
+use Rattle.conf_tool.specs.UndoScript.{comment, step_items}
+
+-- that a path stalls while these ids are down: stalls with 4 5 down
+abbrev pub stall_text : Ids → List ℕ
+stall_text down = codes "stalls with " ++ spaced_numbers (ascending down) ++ codes " down"
+
+-- a note as a comment, if there is one
+abbrev pub note_items : Option (List ℕ) → List Item
+note_items None = []
+note_items (Some note) = comment note ∷ []
 
 -- the command `restore`, which has no arguments
 abbrev pub restore_command : CommandText
@@ -21,14 +32,15 @@ restore_command = record { name = codes "restore"; arguments = [] }
 unfoldable pub restore_directive : Configuration → Item
 restore_directive c = directive 1 restore_command (codes "restore" ∷ []) (conf_state_text (lists_of c) ∷ []) []
 
--- the items of the script: it restores the configuration with which the steps begin, and then takes them
-abbrev pub script_items : Configuration → List Step → List Item
-script_items now steps = restore_directive now ∷ step_items steps
+-- The items of the script: the note, if there is one, the directive that restores the configuration with which the
+-- steps begin, and the steps.
+abbrev pub script_items : Option (List ℕ) → Configuration → List Step → List Item
+script_items note now steps = note_items note ++ restore_directive now ∷ step_items steps
 
--- the session of a script that is run without options
+-- the session with which `plan` begins: that of a script that is run without options
 unfoldable pub default_session : SessionState
 default_session = new_session 100 One
 
--- the script with its actual output
-unfoldable pub script_text : Configuration → List Step → List ℕ
-script_text now steps = rewritten_text (answered_entries default_session (script_items now steps))
+-- the script with its actual output in a session
+unfoldable pub script_text : SessionState → Option (List ℕ) → Configuration → List Step → List ℕ
+script_text session note now steps = rewritten_text (answered_entries session (script_items note now steps))

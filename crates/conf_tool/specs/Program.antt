@@ -1,56 +1,70 @@
 -- The program as `clap` knows it: each mode is a subcommand.
-use Rattle.std.specs.Prelude.{◌≡◌, ℕ, true, Some, List, [], ◌∷◌, map, codes}
+use Rattle.std.specs.Prelude.{◌≡◌, ℕ, true, false, Some, None, Option, List, [], ◌∷◌, ◌++◌, map, codes}
 use Rattle.std.specs.Borrow.{Bor}
-use Rattle.clap.specs.Words.{App, Rule, Text, new_app, new_rule, with_rule, with_subcommand}
+use Rattle.clap.specs.Words.{App, Rule, Shape, Text, new_app, new_rule}
+use Rattle.clap.specs.declared.builder.value_parser.ValueParser.{ValueParser}
 use Rattle.clap.specs.declared.builder.value_parser.ValueParser.TheVariants.{Unsigned, Names}
+use Rattle.conf_tool.specs.declared.mode.Mode.{Mode}
+use Rattle.conf_tool.specs.declared.mode.Mode.TheVariants.{Lines, Check, Rewrite, Undo, Plan}
 use Rattle.conf_tool.specs.declared.program.OptionNames.{OptionNames}
+use Rattle.conf_tool.specs.declared.program.ModeOption.{ModeOption}
 
--- a mode with the argument FILE, as all of them have
-abbrev pub mode_command : Text → App
-mode_command name = with_rule (new_app name) (new_rule (codes "FILE"))
+-- an option whose value has to pass the parser, or may be any text
+abbrev pub option_rule : Text → Option ValueParser → Rule
+option_rule name parser = record (new_rule name) { long = Some name; parser = parser; value_names = 1 }
 
 -- an option whose value is a number from the least to the most
 abbrev pub number_rule : Text → ℕ → ℕ → Rule
-number_rule id least most = record (new_rule id) { long = Some id; parser = Some (Unsigned least most); value_names = 1 }
+number_rule name least most = option_rule name (Some (Unsigned least most))
 
 -- an option whose value is one of these names
 abbrev pub names_rule : Text → Bor (List (Bor Text)) → Rule
-names_rule id names = record (new_rule id) { long = Some id; parser = Some (Names names); value_names = 1 }
+names_rule name names = option_rule name (Some (Names names))
 
 -- an option whose value is any text
 abbrev pub text_rule : Text → Rule
-text_rule id = record (new_rule id) { long = Some id; value_names = 1 }
+text_rule name = option_rule name None
 
--- a mode that runs a script: with the options --history and --next-floor
-abbrev pub script_command : Text → Bor (List (Bor Text)) → App
-script_command name floors = with_rule (with_rule (mode_command name) (number_rule (codes "history") 0 1000)) (names_rule (codes "next-floor") floors)
+-- a mode with the argument FILE, as all of them have, and these options
+abbrev pub command_with : Text → List Rule → Shape
+command_with name options = record ((new_app name).top) { rules = new_rule (codes "FILE") ∷ options }
 
--- the mode undo: a mode that runs a script, with the option --steps too
-abbrev pub undo_command : Text → Bor (List (Bor Text)) → App
-undo_command name floors = with_rule (script_command name floors) (number_rule (codes "steps") 1 1000)
+-- the options of a mode that runs a script
+abbrev pub script_options : OptionNames → List Rule
+script_options names = number_rule (codes "history") 0 1000 ∷ names_rule (codes "next-floor") names.floors ∷ []
 
--- the mode plan: with the options --strategy, --output and --down
-abbrev pub plan_command : Text → OptionNames → App
-plan_command name names =
-    with_rule (with_rule (with_rule (mode_command name) (names_rule (codes "strategy") names.strategies)) (names_rule (codes "output") names.outputs)) (text_rule (codes "down"))
+-- the options of the mode undo
+abbrev pub undo_options : OptionNames → List Rule
+undo_options names = script_options names ++ number_rule (codes "steps") 1 1000 ∷ []
 
--- the program, where a mode has to be named
-abbrev pub requires_mode : App → App
-requires_mode app = record { top = record app.top { subcommand_required = true }; subs = app.subs }
+-- the options of the mode plan
+abbrev pub plan_options : OptionNames → List Rule
+plan_options names =
+    names_rule (codes "strategy") names.strategies ∷ names_rule (codes "output") names.outputs ∷ text_rule (codes "down") ∷ []
 
--- the program, where its version can be asked for
-abbrev pub with_version : App → App
-with_version app = record { top = record app.top { has_version = true }; subs = app.subs }
+-- a mode, whose options have these names as values
+abbrev pub mode_command : OptionNames → Mode → Shape
+mode_command names Lines = command_with (codes "lines") []
+mode_command names Check = command_with (codes "check") (script_options names)
+mode_command names Rewrite = command_with (codes "rewrite") (script_options names)
+mode_command names Undo = command_with (codes "undo") (undo_options names)
+mode_command names Plan = command_with (codes "plan") (plan_options names)
 
--- the program with one more mode
-abbrev pub with_mode : App → App → App
-with_mode mode app = with_subcommand app mode.top
+-- the modes, in the order in which the help lists them
+abbrev pub modes : List Mode
+modes = Lines ∷ Check ∷ Rewrite ∷ Undo ∷ Plan ∷ []
 
--- the program with all its modes, whose options have these names as values
+-- the program without its modes, where a mode has to be named, and its version can be asked for
+abbrev pub without_modes : App
+without_modes = record { top = record ((new_app (codes "confscript")).top) { has_version = true; subcommand_required = true }; subs = [] }
+
+-- the program with its modes, whose options have these names as values
 abbrev pub program : OptionNames → App
-program names =
-    with_mode (plan_command (codes "plan") names) (with_mode (undo_command (codes "undo") names.floors) (with_mode (script_command (codes "rewrite") names.floors)
-    (with_mode (script_command (codes "check") names.floors) (with_mode (mode_command (codes "lines")) (requires_mode (with_version (new_app (codes "confscript"))))))))
+program names = record { top = record without_modes.top { is_leaf = false }; subs = map (mode_command names) modes }
+
+-- the option that is added to a mode
+abbrev pub option_of : ModeOption → Rule
+option_of option = option_rule option.help.name.now option.parser
 
 -- an option has these names, in this order
 abbrev pub AreNames : Bor (List (Bor Text)) → List Text → Type 0

@@ -22,6 +22,11 @@ session_after session (Comment lines) = session
 session_after session (Blank lines) = session
 session_after session (Directive directive) = (answer session directive).session
 
+-- the session after it has run these items
+abbrev pub session_after_all : SessionState → List Item → SessionState
+session_after_all session [] = session
+session_after_all session (item ∷ items) = session_after_all (session_after session item) items
+
 -- the items in order, each with its actual output in the session that the items before it lead to
 abbrev pub answered_entries : SessionState → List Item → List Entry
 answered_entries session [] = []

@@ -4,6 +4,7 @@ ghost use Rattle.conf_tool.specs.declared.argument_fault.ArgumentFault.TheVarian
 
 use clap::Error;
 use quorum_sets::NoMemory;
+use std::alloc::AllocError;
 
 /// Why the arguments do not start a run.
 #[derive(Debug, Drop)]
@@ -21,6 +22,14 @@ impl From<Error> for ArgumentFault {
 
     fn from(error: Error) -> ArgumentFault {
         ArgumentFault::Clap(error)
+    }
+}
+
+impl From<AllocError> for ArgumentFault {
+    ghost from_gives = { λ _ converted. converted ≡ fault.NoMemory };
+
+    fn from(_error: AllocError) -> ArgumentFault {
+        ArgumentFault::NoMemory
     }
 }
 

@@ -1,4 +1,27 @@
-//! What `--help` prints about the program and about each mode, after its usage.
+//! What `--help` prints about the program, about each mode and about each option.
+
+/// What the help says of a mode.
+#[derive(Clone, Copy)]
+pub(crate) struct ModeHelp {
+    /// What selects the mode.
+    pub(crate) name: &'static str,
+    /// What the program's help says of it.
+    pub(crate) about: &'static str,
+    /// What its own help says after its usage.
+    pub(crate) after: &'static str,
+}
+
+/// What the help of a mode says of an option.
+#[derive(Clone, Copy)]
+pub(crate) struct OptionHelp {
+    /// What follows the two hyphens.
+    pub(crate) name: &'static str,
+    /// What its value is called.
+    pub(crate) value_name: &'static str,
+    pub(crate) about: &'static str,
+    /// What `--help` says in place of that.
+    pub(crate) long: Option<&'static str>,
+}
 
 /// The help of the program.
 pub(crate) const PROGRAM: &str = "Examples:
@@ -15,9 +38,11 @@ Exit statuses:
 
 'confscript help MODE' describes what a mode reads and prints.";
 
-/// The help of `lines`.
-pub(crate) const LINES: &str =
-    "Reads one change per line and applies it to the configuration, which begins
+/// The mode `lines`.
+pub(crate) const LINES: ModeHelp = ModeHelp {
+    name: "lines",
+    about: "Applies one change per line",
+    after: "Reads one change per line and applies it to the configuration, which begins
 empty. Prints the configuration after each line, or why the change is refused.
 
 Changes:
@@ -38,11 +63,14 @@ it prints
   voters=(1 2)
   voters=(1 2) learners=(3)
   voters=(2) learners=(3)
-  removed all voters";
+  removed all voters",
+};
 
-/// The help of `check`.
-pub(crate) const CHECK: &str =
-    "Runs a script, and reports each directive whose actual output differs from the
+/// The mode `check`.
+pub(crate) const CHECK: ModeHelp = ModeHelp {
+    name: "check",
+    about: "Runs a script and reports what differs",
+    after: "Runs a script, and reports each directive whose actual output differs from the
 expected one, with both. The counts come last. The status is 1 if a directive
 differs.
 
@@ -89,11 +117,14 @@ it prints
   - voters=(2)
   + voters=(1)
   + 1: StateProbe match=0 next=1
-  1 directives, 1 mismatches";
+  1 directives, 1 mismatches",
+};
 
-/// The help of `rewrite`.
-pub(crate) const REWRITE: &str =
-    "Runs a script (see confscript help check), and prints it again with the actual
+/// The mode `rewrite`.
+pub(crate) const REWRITE: ModeHelp = ModeHelp {
+    name: "rewrite",
+    about: "Runs a script and prints it with its actual output",
+    after: "Runs a script (see confscript help check), and prints it again with the actual
 output of each directive in place of the expected one. The result checks clean.
 
 For the script
@@ -107,11 +138,14 @@ it prints
   v1
   ----
   voters=(1)
-  1: StateProbe match=0 next=1";
+  1: StateProbe match=0 next=1",
+};
 
-/// The help of `undo`.
-pub(crate) const UNDO: &str =
-    "Runs a script (see confscript help check), ignoring the output that it expects,
+/// The mode `undo`.
+pub(crate) const UNDO: ModeHelp = ModeHelp {
+    name: "undo",
+    about: "Runs a script and prints the script that undoes its last changes",
+    after: "Runs a script (see confscript help check), ignoring the output that it expects,
 and prints a second script, which undoes the last changes of the first. If the
 first checks clean, so do the two joined by an empty line.
 
@@ -132,11 +166,14 @@ it prints
   r2
   ----
   voters=(1)
-  1: StateProbe match=0 next=1";
+  1: StateProbe match=0 next=1",
+};
 
-/// The help of `plan`.
-pub(crate) const PLAN: &str =
-    "Reads pairs of lines, the current configuration and the target, each as the
+/// The mode `plan`.
+pub(crate) const PLAN: ModeHelp = ModeHelp {
+    name: "plan",
+    about: "Plans the changes from one configuration to another",
+    after: "Reads pairs of lines, the current configuration and the target, each as the
 command conf-state prints it, or as the JSON of a raftpb.ConfState. Prints for
 each pair the steps that lead from the one to the other; except in json, an
 empty line separates two pairs. Blank lines and lines that begin with # are
@@ -151,7 +188,8 @@ Strategies:
 
 Outputs:
   steps   one step a line
-  script  a script that restores the current configuration and takes the steps
+  script  a script that restores the current configuration and takes the steps;
+          those of all pairs are one script
   table   who votes and learns at each step, and how many failures it tolerates
   json    an object for each step, with what is proposed to etcd for it
 
@@ -159,8 +197,9 @@ A plan does not see logs: a new member begins with an empty one. From [1 2 3] to
 [3 4 5] the shortest plan commits nothing until 4 or 5 has caught up.
 
 If there is no plan, it prints the reason in a comment (or in json), and the
-status is 1. The status is also 1 if a configuration on the way cannot commit
-with the ids of --down down.
+status is 1. The status is also 1 if the plan stalls: some configuration of it,
+the first one among them, cannot commit with the ids of --down down. In steps
+and script a comment says so.
 
 For the lines
   Voters:[1 2 3] VotersOutgoing:[] Learners:[] LearnersNext:[] AutoLeave:false
@@ -173,4 +212,53 @@ it prints
 and with --strategy one-at-a-time
   simple l5
   simple v5
-  simple r1";
+  simple r1",
+};
+
+/// The option `--history`.
+pub(crate) const HISTORY: OptionHelp = OptionHelp {
+    name: "history",
+    value_name: "N",
+    about: "Earlier configurations to keep (100 if left out)",
+    long: None,
+};
+
+/// The option `--next-floor`.
+pub(crate) const NEXT_FLOOR: OptionHelp = OptionHelp {
+    name: "next-floor",
+    value_name: "N",
+    about: "Initial next index of a member",
+    long: Some("The next index of a new member in an empty log (1 if left out)"),
+};
+
+/// The option `--steps`.
+pub(crate) const STEPS: OptionHelp = OptionHelp {
+    name: "steps",
+    value_name: "N",
+    about: "Changes to undo (1 if left out)",
+    long: None,
+};
+
+/// The option `--strategy`.
+pub(crate) const STRATEGY: OptionHelp = OptionHelp {
+    name: "strategy",
+    value_name: "NAME",
+    about: "How the plan is made (shortest if left out)",
+    long: None,
+};
+
+/// The option `--output`.
+pub(crate) const OUTPUT: OptionHelp = OptionHelp {
+    name: "output",
+    value_name: "FORM",
+    about: "How the plan is printed (steps if left out)",
+    long: None,
+};
+
+/// The option `--down`.
+pub(crate) const DOWN: OptionHelp = OptionHelp {
+    name: "down",
+    value_name: "IDS",
+    about: "Ids that are down, separated by commas",
+    long: None,
+};

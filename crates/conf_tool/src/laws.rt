@@ -1,7 +1,7 @@
 //! Laws of this crate's definitions, each the contract of a function that does nothing.
-ghost use Rattle.conf_tool.specs.Laws.{RewrittenClean, JoinedClean, UndoScriptLeadsBack, PrintedPlanIsBest, PrintedPathServes, PlanScriptClean};
+ghost use Rattle.conf_tool.specs.Laws.{RewrittenClean, JoinedClean, UndoScriptLeadsBack, PrintedPlanIsBest, PrintedPathServes, PlanScriptLeads};
 
-use conf_change::laws::one_list_per_text;
+use conf_change::laws::{conf_state_describes, one_list_per_text, restored_is_described};
 use conf_plan::laws::{one_plan_per_text, paths_serve, planned_is_best};
 use conf_session::laws::{actual_output_is_valid, answers_keep_session, undo_plan_leads_back};
 use dd_file::laws::{
@@ -60,11 +60,18 @@ pub fn printed_path_serves()
     paths_serve();
 }
 
-/// The script that the mode `plan` prints of a path checks clean, if it is within the input limit (own).
-pub fn plan_script_clean()
-    ensures { PlanScriptClean }
+/// The scripts that the mode `plan` prints for any number of pairs are one script, which checks clean if it is within
+/// the input limit. For each pair that has a path, a session that runs it restores the first configuration, takes the
+/// steps of the path, one for each directive, and is in the second configuration then (own).
+pub fn plan_script_leads()
+    ensures { PlanScriptLeads }
 {
     actual_output_is_valid();
     written_script();
     directive_is_well_formed();
+    restored_is_described();
+    conf_state_describes();
+    one_plan_per_text();
+    one_list_per_text();
+    paths_serve();
 }

@@ -15,6 +15,7 @@
 
 pub mod argument_fault;
 pub mod command_line;
+pub mod exit_status;
 mod help;
 mod id_list;
 pub mod invocation;

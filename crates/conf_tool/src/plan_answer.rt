@@ -1,7 +1,9 @@
 //! What the mode `plan` answers: the plan between two configurations, or why there is none.
-ghost use Rattle.std.specs.Prelude.{◌≡◌, true, IfOk, IsOkUnless};
-ghost use Rattle.conf_change.specs.Configuration.{is_valid, is_restorable};
-ghost use Rattle.conf_tool.specs.PlanAnswer.{no_plan_comment, no_plan_text, path_status, path_text, plan_text_between, plan_status};
+ghost use Rattle.std.specs.Prelude.{◌≡◌, ◌↔◌, ◌++◌, true, false, Err, option_map, IfOk, OnOk, IsOkUnless};
+ghost use Rattle.conf_change.specs.Configuration.{has_voter, is_valid, is_restorable};
+ghost use Rattle.conf_plan.specs.PathBy.{has_path, path_by};
+ghost use Rattle.conf_tool.specs.PlanAnswer.{ids_down, no_plan_comment, no_plan_text, note_line, path_status, path_text, plan_text_between, plan_status, session_as, session_between, stall_note};
+ghost use Rattle.conf_tool.specs.PlanScript as script;
 ghost use Rattle.conf_tool.specs.declared.tool_fault.ToolFault.TheVariants.{NoMemory as OutOfMemory};
 
 use crate::plan_options::{PlanOptions, PlanOutput};
@@ -10,28 +12,30 @@ use crate::status::Status;
 use crate::tool_fault::ToolFault;
 use conf_change::Config;
 use conf_plan::{NoPath, Path, plan_by, print_path};
-use conf_session::SessionIds;
-use plan_output::{add_json_lines, add_no_plan_line, add_table, stalls};
-use quorum_sets::NoMemory;
+use conf_session::{Session, SessionIds};
+use plan_output::{add_json_lines, add_no_plan_line, add_table, ids_text, stalls};
+use quorum_sets::{MemberSet, NoMemory};
 use std::alloc::Global;
 
 /// The text of the plan between two configurations, or why there is none, and the status with it. The number is that of
-/// the pair, counted from 1.
+/// the pair, counted from 1. If the text is a script, the session has run it.
 pub(crate) fn plan_answer(
     alloc: Global,
     options: &PlanOptions,
+    session: &mut Session,
     number: u64,
     now: &Config<SessionIds>,
     target: &Config<SessionIds>,
 ) -> Result<(Vec<u8>, Status), ToolFault>
     requires valid_now { is_valid now.now ≡ true }
     requires valid_target { is_valid target.now ≡ true }
-    ensures text { IfOk result (λ answer. answer.0.items ≡ plan_text_between options.now number now.now target.now) }
+    ensures text { IfOk result (λ answer. answer.0.items ≡ plan_text_between options.now session.old number now.now target.now) }
+    ensures session { OnOk result (session.new ≡ session_between options.now session.old now.now target.now) }
     ensures status { IfOk result (λ answer. answer.1 ≡ plan_status options.now now.now target.now) }
     ensures memory { IsOkUnless result OutOfMemory }
 {
-    match plan_by(alloc, options.strategy, now, target) {
-        Ok(path) => path_answer(alloc, options, number, now, &path),
+    match path_between(alloc, options, now, target) {
+        Ok(path) => path_answer(alloc, options, session, number, now, &path),
         Err(NoPath::NoVoterNow) => no_plan(
             alloc,
             options.output,
@@ -46,60 +50,122 @@ pub(crate) fn plan_answer(
     }
 }
 
+// The path between two configurations by the strategy, made while the ids of the options are down.
+fn path_between(
+    alloc: Global,
+    options: &PlanOptions,
+    now: &Config<SessionIds>,
+    target: &Config<SessionIds>,
+) -> Result<Path, NoPath>
+    requires valid_now { is_valid now.now ≡ true }
+    requires valid_target { is_valid target.now ≡ true }
+    ensures path { IfOk result (λ path. path ≡ path_by options.now.strategy (ids_down options.now.down) now.now target.now) }
+    ensures no_voter_now { (result ≡ Err NoPath.NoVoterNow) ↔ (has_voter now.now ≡ false) }
+    ensures no_voter_target { (result ≡ Err NoPath.NoVoterTarget) ↔ ((has_voter now.now ≡ true) × (has_voter target.now ≡ false)) }
+    ensures joint_target { (result ≡ Err NoPath.JointTarget) ↔ ((has_voter now.now ≡ true) × (has_voter target.now ≡ true) × (has_path options.now.strategy now.now target.now ≡ false)) }
+{
+    match &options.down {
+        Some(down) => plan_by(alloc, options.strategy, now, target, down),
+        None => plan_by(
+            alloc,
+            options.strategy,
+            now,
+            target,
+            &SessionIds::empty(alloc),
+        ),
+    }
+}
+
 // The text of a path from a configuration, and the status with it.
 fn path_answer(
     alloc: Global,
     options: &PlanOptions,
+    session: &mut Session,
     number: u64,
     now: &Config<SessionIds>,
     path: &Path,
 ) -> Result<(Vec<u8>, Status), ToolFault>
     requires { is_restorable now.now ≡ true }
-    ensures text { IfOk result (λ answer. answer.0.items ≡ path_text options.now number now.now path.now) }
+    ensures text { IfOk result (λ answer. answer.0.items ≡ path_text options.now session.old number now.now path.now) }
+    ensures session { OnOk result (session.new ≡ session_as options.now.output session.old options.now.down now.now path.now) }
     ensures status { IfOk result (λ answer. answer.1 ≡ path_status options.now.down now.now path.now) }
     ensures memory { IsOkUnless result OutOfMemory }
 {
-    let text = path_text(alloc, options, number, now, path)?;
-    let status = path_status(alloc, options, now, path)?;
+    let note = stall_note(alloc, options, now, path)?;
+    let text = path_text(alloc, options, session, number, now, path, note.as_ref())?;
+    let status = if note.is_some() {
+        Status::Different
+    } else {
+        Status::Clean
+    };
     Ok((text, status))
 }
 
-// The text of a path from a configuration.
+// The note that a path stalls with the ids that are down, if it does.
+fn stall_note(
+    alloc: Global,
+    options: &PlanOptions,
+    now: &Config<SessionIds>,
+    path: &Path,
+) -> Result<Option<Vec<u8>>, NoMemory>
+    requires { is_restorable now.now ≡ true }
+    ensures { IfOk result (λ note. option_map (λ note. note.items) note ≡ stall_note options.now.down now.now path.now) }
+{
+    match &options.down {
+        Some(down) if stalls(alloc, now, path, down)? => Ok(Some(stall_text(alloc, down)?)),
+        _ => Ok(None),
+    }
+}
+
+// The text of that note.
+fn stall_text(alloc: Global, down: &SessionIds) -> Result<Vec<u8>, NoMemory>
+    ensures { IfOk result (λ text. text.items ≡ script.stall_text down.now) }
+{
+    let mut text = Vec::from_slice(alloc, b"stalls with ")?;
+    text.extend_from_slice(ids_text(alloc, down)?.as_slice())?;
+    text.extend_from_slice(b" down")?;
+    Ok(text)
+}
+
+// The text of a path from a configuration, with the note that it stalls.
 fn path_text(
     alloc: Global,
     options: &PlanOptions,
+    session: &mut Session,
     number: u64,
     now: &Config<SessionIds>,
     path: &Path,
+    note: Option<&Vec<u8>>,
 ) -> Result<Vec<u8>, NoMemory>
-    requires { is_restorable now.now ≡ true }
-    ensures { IfOk result (λ text. text.items ≡ path_text options.now number now.now path.now) }
+    requires restorable { is_restorable now.now ≡ true }
+    requires note { option_map (λ note. note.now.items) note ≡ stall_note options.now.down now.now path.now }
+    ensures text { IfOk result (λ text. text.items ≡ path_text options.now session.old number now.now path.now) }
+    ensures session { OnOk result (session.new ≡ session_as options.now.output session.old options.now.down now.now path.now) }
 {
     let mut text = Vec::new(alloc);
     let down = options.down.as_ref();
     match options.output {
-        PlanOutput::Steps => print_path(&mut text, path)?,
-        PlanOutput::Script => return script_text(alloc, now, path),
+        PlanOutput::Steps => {
+            write_note(&mut text, note)?;
+            print_path(&mut text, path)?;
+        }
+        PlanOutput::Script => return script_text(alloc, session, note, now, path),
         PlanOutput::Table => add_table(alloc, &mut text, now, path, down)?,
         PlanOutput::Json => add_json_lines(alloc, &mut text, number, now, path, down)?,
     }
     Ok(text)
 }
 
-// The status of a path: `Different` if ids are down and the path stalls then.
-fn path_status(
-    alloc: Global,
-    options: &PlanOptions,
-    now: &Config<SessionIds>,
-    path: &Path,
-) -> Result<Status, NoMemory>
-    requires { is_restorable now.now ≡ true }
-    ensures { IfOk result (λ status. status ≡ path_status options.now.down now.now path.now) }
+// Appends a note as a comment line, if there is one.
+fn write_note(text: &mut Vec<u8>, note: Option<&Vec<u8>>) -> Result<(), NoMemory>
+    ensures { OnOk result (text.new.items ≡ text.old.items ++ note_line (option_map (λ note. note.now.items) note.entry)) }
 {
-    match &options.down {
-        Some(down) if stalls(alloc, now, path, down)? => Ok(Status::Different),
-        _ => Ok(Status::Clean),
+    if let Some(note) = note {
+        text.extend_from_slice(b"# ")?;
+        text.extend_from_slice(note.as_slice())?;
+        text.push(b'\n')?;
     }
+    Ok(())
 }
 
 // The answer to the pair with this number if it has no plan.

@@ -1,13 +1,16 @@
 //! The program as `clap` knows it: each mode is a subcommand.
-ghost use Rattle.std.specs.Prelude.{◌≡◌, false, codes, IfOk, IfErr};
-ghost use Rattle.clap.specs.Words.{app_of, kind_of, rule_of};
-ghost use Rattle.conf_tool.specs.Program.{program, mode_command, script_command, undo_command, plan_command, number_rule, names_rule};
+ghost use Rattle.std.specs.Prelude.{◌≡◌, [], false, map, IfOk};
+ghost use Rattle.clap.specs.Words.{app_of, rule_of};
+ghost use Rattle.conf_tool.specs.Program.{program, without_modes, mode_command, command_with, option_of, script_options, undo_options, plan_options};
 
-use crate::help::{CHECK, LINES, PLAN, PROGRAM, REWRITE, UNDO};
+use crate::help::{
+    CHECK, DOWN, HISTORY, LINES, ModeHelp, NEXT_FLOOR, OUTPUT, OptionHelp, PLAN, PROGRAM, REWRITE,
+    STEPS, STRATEGY, UNDO,
+};
+use crate::mode::Mode;
 use clap::builder::ValueParser;
-use clap::error::ErrorKind;
-use clap::{Arg, Command, Error};
-use std::alloc::Global;
+use clap::{Arg, Command};
+use std::alloc::{AllocError, Global};
 
 /// The version that `--version` prints after the program's name.
 const VERSION: &str = "0.1.0";
@@ -20,171 +23,145 @@ pub(crate) struct OptionNames<'a> {
     pub(crate) outputs: &'a [&'a str],
 }
 
+/// An option of a mode. Its value is any text if it has no parser.
+#[derive(Clone, Copy)]
+struct ModeOption<'a> {
+    help: OptionHelp,
+    parser: Option<ValueParser<'a>>,
+}
+
 /// The program with its modes, whose options have these names as values.
-pub(crate) fn program<'a>(alloc: Global, names: OptionNames<'a>) -> Result<Command<'a>, Error>
-    ensures app { IfOk result (λ command. app_of command ≡ program names.entry) }
-    ensures memory { IfErr result (λ error. kind_of error ≡ ErrorKind.OutOfMemory) }
+pub(crate) fn program<'a>(alloc: Global, names: OptionNames<'a>) -> Result<Command<'a>, AllocError>
+    ensures { IfOk result (λ command. app_of command ≡ program names.entry) }
 {
-    let lines = mode_command(alloc, "lines", "Applies one change per line", LINES)?;
-    let check = script_command(
-        alloc,
-        "check",
-        "Runs a script and reports what differs",
-        CHECK,
-        names.floors,
-    )?;
-    let rewrite = script_command(
-        alloc,
-        "rewrite",
-        "Runs a script and prints it with its actual output",
-        REWRITE,
-        names.floors,
-    )?;
-    let undo = undo_command(alloc, names.floors)?;
-    let plan = plan_command(alloc, names)?;
-    let program = Command::new(alloc, "confscript")
+    let mut program = without_modes(alloc);
+    for mode in [
+        Mode::Lines,
+        Mode::Check,
+        Mode::Rewrite,
+        Mode::Undo,
+        Mode::Plan,
+    ] {
+        program = program.subcommand(mode_command(alloc, mode, names)?)?;
+    }
+    Ok(program)
+}
+
+// The program before its modes are added.
+fn without_modes<'a>(alloc: Global) -> Command<'a>
+    ensures { app_of result ≡ without_modes }
+{
+    Command::new(alloc, "confscript")
         .about("Simulates membership changes of etcd's raft library")
         .after_long_help(PROGRAM)
         .version(VERSION)
         .subcommand_required(true)
-        .subcommand(lines)?
-        .subcommand(check)?
-        .subcommand(rewrite)?
-        .subcommand(undo)?
-        .subcommand(plan)?;
-    Ok(program)
 }
 
-// A mode, with the file to read.
+// A mode as a subcommand.
 fn mode_command<'a>(
     alloc: Global,
-    name: &'a str,
-    about: &'a str,
-    help: &'a str,
-) -> Result<Command<'a>, Error>
-    ensures app { IfOk result (λ mode. app_of mode ≡ mode_command name.now) }
-    ensures memory { IfErr result (λ error. kind_of error ≡ ErrorKind.OutOfMemory) }
+    mode: Mode,
+    names: OptionNames<'a>,
+) -> Result<Command<'a>, AllocError>
+    ensures { IfOk result (λ command. app_of command ≡ record { top = mode_command names.entry mode; subs = [] }) }
+{
+    match mode {
+        Mode::Lines => command_with(alloc, LINES, &[]),
+        Mode::Check => command_with(alloc, CHECK, &script_options(names)),
+        Mode::Rewrite => command_with(alloc, REWRITE, &script_options(names)),
+        Mode::Undo => command_with(alloc, UNDO, &undo_options(names)),
+        Mode::Plan => command_with(alloc, PLAN, &plan_options(names)),
+    }
+}
+
+// The options of a mode that runs a script.
+fn script_options<'a>(names: OptionNames<'a>) -> [ModeOption<'a>; 2]
+    ensures { map option_of result ≡ script_options names.entry }
+{
+    [
+        ModeOption {
+            help: HISTORY,
+            parser: Some(ValueParser::Unsigned(0, 1000)),
+        },
+        ModeOption {
+            help: NEXT_FLOOR,
+            parser: Some(ValueParser::Names(names.floors)),
+        },
+    ]
+}
+
+// The options of `undo`.
+fn undo_options<'a>(names: OptionNames<'a>) -> [ModeOption<'a>; 3]
+    ensures { map option_of result ≡ undo_options names.entry }
+{
+    let [history, floor] = script_options(names);
+    [
+        history,
+        floor,
+        ModeOption {
+            help: STEPS,
+            parser: Some(ValueParser::Unsigned(1, 1000)),
+        },
+    ]
+}
+
+// The options of `plan`.
+fn plan_options<'a>(names: OptionNames<'a>) -> [ModeOption<'a>; 3]
+    ensures { map option_of result ≡ plan_options names.entry }
+{
+    [
+        ModeOption {
+            help: STRATEGY,
+            parser: Some(ValueParser::Names(names.strategies)),
+        },
+        ModeOption {
+            help: OUTPUT,
+            parser: Some(ValueParser::Names(names.outputs)),
+        },
+        ModeOption {
+            help: DOWN,
+            parser: None,
+        },
+    ]
+}
+
+// A mode, with the file to read and these options.
+fn command_with<'a>(
+    alloc: Global,
+    mode: ModeHelp,
+    options: &[ModeOption<'a>],
+) -> Result<Command<'a>, AllocError>
+    ensures { IfOk result (λ command. app_of command ≡ record { top = command_with mode.name.now (map option_of options.now); subs = [] }) }
 {
     let file = Arg::new(alloc, "FILE").help(
         "The file to read; standard input if it is left out or -",
     );
-    let mode = Command::new(alloc, name)
-        .about(about)
-        .after_long_help(help)
+    let mut command = Command::new(alloc, mode.name)
+        .about(mode.about)
+        .after_long_help(mode.after)
         .arg(file)?;
-    Ok(mode)
+    for option in options {
+        command = command.arg(option_argument(alloc, *option))?;
+    }
+    Ok(command)
 }
 
-// A mode for scripts, with the options of its session.
-fn script_command<'a>(
-    alloc: Global,
-    name: &'a str,
-    about: &'a str,
-    help: &'a str,
-    floors: &'a [&'a str],
-) -> Result<Command<'a>, Error>
-    ensures app { IfOk result (λ mode. app_of mode ≡ script_command name.now floors.entry) }
-    ensures memory { IfErr result (λ error. kind_of error ≡ ErrorKind.OutOfMemory) }
-{
-    let history = number_option(
-        alloc,
-        "history",
-        0,
-        1000,
-        "Earlier configurations to keep (100 if left out)",
-    );
-    let floor = names_option(
-        alloc,
-        "next-floor",
-        floors,
-        "N",
-        "Initial next index of a member",
-    )
-    .long_help("The next index of a new member in an empty log (1 if left out)");
-    let mode = mode_command(alloc, name, about, help)?
-        .arg(history)?
-        .arg(floor)?;
-    Ok(mode)
-}
-
-// The mode that undoes changes of a script.
-fn undo_command<'a>(alloc: Global, floors: &'a [&'a str]) -> Result<Command<'a>, Error>
-    ensures app { IfOk result (λ mode. app_of mode ≡ undo_command (codes "undo") floors.entry) }
-    ensures memory { IfErr result (λ error. kind_of error ≡ ErrorKind.OutOfMemory) }
-{
-    let steps = number_option(alloc, "steps", 1, 1000, "Changes to undo (1 if left out)");
-    let mode = script_command(
-        alloc,
-        "undo",
-        "Runs a script and prints the script that undoes its last changes",
-        UNDO,
-        floors,
-    )?
-    .arg(steps)?;
-    Ok(mode)
-}
-
-// The mode that plans.
-fn plan_command<'a>(alloc: Global, names: OptionNames<'a>) -> Result<Command<'a>, Error>
-    ensures app { IfOk result (λ mode. app_of mode ≡ plan_command (codes "plan") names.entry) }
-    ensures memory { IfErr result (λ error. kind_of error ≡ ErrorKind.OutOfMemory) }
-{
-    let strategy = names_option(
-        alloc,
-        "strategy",
-        names.strategies,
-        "NAME",
-        "How the plan is made (shortest if left out)",
-    );
-    let output = names_option(
-        alloc,
-        "output",
-        names.outputs,
-        "FORM",
-        "How the plan is printed (steps if left out)",
-    );
-    let down = Arg::new(alloc, "down")
-        .long("down")
-        .value_name("IDS")
-        .help("Ids that are down, separated by commas");
-    let mode = mode_command(
-        alloc,
-        "plan",
-        "Plans the changes from one configuration to another",
-        PLAN,
-    )?
-    .arg(strategy)?
-    .arg(output)?
-    .arg(down)?;
-    Ok(mode)
-}
-
-// An option whose value is a number from `least` to `most`.
-fn number_option<'a>(alloc: Global, id: &'a str, least: u64, most: u64, help: &'a str) -> Arg<'a>
-    ensures rule { rule_of result ≡ number_rule id.now least most }
+// An option as an argument of its mode.
+fn option_argument<'a>(alloc: Global, option: ModeOption<'a>) -> Arg<'a>
+    ensures rule { rule_of result ≡ option_of option.entry }
     ensures local { result.global ≡ false }
 {
-    Arg::new(alloc, id)
-        .value_parser(ValueParser::unsigned(least, most))
-        .long(id)
-        .value_name("N")
-        .help(help)
-}
-
-// An option whose value is one of these names. The help shows the value as `value_name`.
-fn names_option<'a>(
-    alloc: Global,
-    id: &'a str,
-    names: &'a [&'a str],
-    value_name: &'a str,
-    help: &'a str,
-) -> Arg<'a>
-    ensures rule { rule_of result ≡ names_rule id.now names.entry }
-    ensures local { result.global ≡ false }
-{
-    Arg::new(alloc, id)
-        .value_parser(ValueParser::Names(names))
-        .long(id)
-        .value_name(value_name)
-        .help(help)
+    let argument = Arg::new(alloc, option.help.name)
+        .long(option.help.name)
+        .value_name(option.help.value_name)
+        .help(option.help.about);
+    let argument = match option.parser {
+        Some(parser) => argument.value_parser(parser),
+        None => argument,
+    };
+    match option.help.long {
+        Some(text) => argument.long_help(text),
+        None => argument,
+    }
 }

@@ -77,7 +77,7 @@ pub fn run<R: Source, W: Sink>(
         ),
         Mode::Plan => run_by_part(
             Lines::new(alloc)?,
-            Planning::new(alloc, options.plan),
+            Planning::new(alloc, options.plan)?,
             reader,
             writer,
         ),

@@ -12,17 +12,27 @@
 //! was printed before the error is a prefix of the output.
 #![tactic(auto)]
 
+ghost use Rattle.std.specs.Prelude.{◌≡◌, ◌≢◌, ◌⊎◌};
+ghost use Rattle.std.specs.Process.{exit_status as status_of};
+ghost use Rattle.clap.specs.Words.{kind_of};
+ghost use Rattle.dd_file.specs.Gathered.{NothingBuffered};
+ghost use Rattle.conf_tool.specs.ExitStatus.{exit_status_of, ExitsWith};
+ghost use Rattle.conf_tool.specs.Outputs.{output_of};
 ghost use Rattle.conf_tool.specs.Ranges.{IsInRange};
 
 use clap::error::ErrorKind;
 use conf_tool::command_line::command_line;
+use conf_tool::exit_status::exit_status;
 use conf_tool::run::run_and_flush;
 use conf_tool::{ArgumentFault, Invocation, Status, ToolFault};
 use dd_file::blocks::Blocks;
-use dd_file::device::{FromRead, Source, ToWrite};
+use dd_file::device::{FromRead, Sink, Source, ToWrite};
 use std::fs::File;
 use std::process::ExitCode;
 use std::{env, io};
+
+/// The exit status if all is done.
+const DONE: u8 = 0;
 
 /// The exit status if the arguments or the input are wrong.
 const BAD_INPUT: u8 = 2;
@@ -46,7 +56,7 @@ fn arguments(rt: &HostRuntime) -> io::Result<Vec<String>> {
 // Reports why the arguments could not be read: one of them is not UTF-8, or memory ran out.
 fn report_arguments(rt: &HostRuntime, error: &io::Error) -> ExitCode {
     if error.kind() != io::ErrorKind::InvalidData {
-        return fail(rt, ToolFault::NoMemory);
+        return end(rt, Err(ToolFault::NoMemory));
     }
     let _ = eprintln!(rt; "confscript: an argument is not UTF-8");
     ExitCode::from(BAD_INPUT)
@@ -63,22 +73,28 @@ fn run_arguments(rt: &HostRuntime, arguments: &[String]) -> ExitCode {
             );
             ExitCode::from(BAD_INPUT)
         }
-        Err(ArgumentFault::NoMemory) => fail(rt, ToolFault::NoMemory),
+        Err(ArgumentFault::NoMemory) => end(rt, Err(ToolFault::NoMemory)),
     }
 }
 
 // Prints the help or the version that was asked for, or what is wrong with the arguments.
-fn explain(rt: &HostRuntime, error: &clap::Error) -> ExitCode {
-    if error.kind() == ErrorKind::OutOfMemory {
-        return fail(rt, ToolFault::NoMemory);
+fn explain(rt: &HostRuntime, error: &clap::Error) -> ExitCode
+    ensures memory { kind_of error.now ≡ ErrorKind.OutOfMemory → status_of result ≡ 3 }
+    ensures shown { (kind_of error.now ≡ ErrorKind.DisplayHelp) ⊎ (kind_of error.now ≡ ErrorKind.DisplayVersion) → (status_of result ≡ 0) ⊎ (status_of result ≡ 3) }
+
+    // Any other error is one in the arguments.
+    ensures refused { kind_of error.now ≢ ErrorKind.OutOfMemory → kind_of error.now ≢ ErrorKind.DisplayHelp → kind_of error.now ≢ ErrorKind.DisplayVersion → status_of result ≡ 2 }
+{
+    if let ErrorKind::OutOfMemory = error.kind() {
+        return end(rt, Err(ToolFault::NoMemory));
     }
     let printed = error.print(rt);
     if error.use_stderr() {
         return ExitCode::from(BAD_INPUT);
     }
     match printed {
-        Ok(()) => ExitCode::SUCCESS,
-        Err(_) => fail(rt, ToolFault::Write),
+        Ok(()) => ExitCode::from(DONE),
+        Err(_) => end(rt, Err(ToolFault::Write)),
     }
 }
 
@@ -104,30 +120,42 @@ fn open(rt: &HostRuntime, invocation: Invocation<'_>) -> ExitCode
 fn run_over<R: Source>(rt: &HostRuntime, invocation: Invocation<'_>, reader: &mut R) -> ExitCode
     requires { IsInRange invocation.options }
 {
-    let outcome = match Blocks::new(rt.alloc(), ToWrite::new(rt.stdout())) {
-        Ok(mut writer) => {
-            run_and_flush(
-                rt.alloc(),
-                invocation.mode,
-                invocation.options,
-                reader,
-                &mut writer,
-            )
-        }
-        Err(_) => Err(ToolFault::NoMemory),
-    };
-    match outcome {
-        Ok(Status::Clean) => ExitCode::SUCCESS,
-        Ok(Status::Different) => ExitCode::FAILURE,
-        Err(fault) => fail(rt, fault),
+    match Blocks::new(rt.alloc(), ToWrite::new(rt.stdout())) {
+        Ok(mut writer) => run_to(rt, invocation, reader, &mut writer),
+        Err(_) => end(rt, Err(ToolFault::NoMemory)),
     }
 }
 
-// Reports an error in one line on standard error, and returns its exit status.
-fn fail(rt: &HostRuntime, fault: ToolFault) -> ExitCode {
-    let _ = eprintln!(rt; "confscript: {fault}");
-    match fault {
-        ToolFault::Script(_) | ToolFault::Configurations(_) => ExitCode::from(BAD_INPUT),
-        _ => ExitCode::from(IO_FAILED),
+// Runs the mode over this reader and this writer.
+fn run_to<R: Source, W: Sink>(
+    rt: &HostRuntime,
+    invocation: Invocation<'_>,
+    reader: &mut R,
+    writer: &mut Blocks<W>,
+) -> ExitCode
+    requires range { IsInRange invocation.options }
+    requires empty { NothingBuffered writer.old }
+
+    // It is the mode with the options that the arguments ask for, and the exit status is that of its result.
+    ensures { ExitsWith (output_of invocation.entry.mode invocation.entry.options) (R.remaining reader.old) (R.remaining reader.new)
+        (⟦<Blocks<W> as Sink>⟧.contents writer.old) (⟦<Blocks<W> as Sink>⟧.contents writer.new) result }
+{
+    let outcome = run_and_flush(
+        rt.alloc(),
+        invocation.mode,
+        invocation.options,
+        reader,
+        writer,
+    );
+    end(rt, outcome)
+}
+
+// Reports an error, if there is one, in one line on standard error, and returns the exit status.
+fn end(rt: &HostRuntime, outcome: Result<Status, ToolFault>) -> ExitCode
+    ensures { status_of result ≡ exit_status_of outcome }
+{
+    if let Err(fault) = &outcome {
+        let _ = eprintln!(rt; "confscript: {fault}");
     }
+    ExitCode::from(exit_status(outcome))
 }

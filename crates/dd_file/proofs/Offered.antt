@@ -4,4 +4,5 @@ pub use Rattle.dd_file.proofs.ItemReading.BytesTaken.{next_item-takes, next_line
 pub use Rattle.dd_file.proofs.LineReading.PartsOfFullLine.{consumes-append}
 pub use Rattle.dd_file.proofs.Rewriting.KnownBytes.{append-part, appends-append, part-append, part-part}
 pub use Rattle.dd_file.proofs.Rewriting.PartByPart.{begun-more, breaks-first, breaks-second, continues-append}
+pub use Rattle.dd_file.proofs.TextLines.LastNewlines.{double_end-after, double_end-pushed, ends_with-append}
 pub use Rattle.dd_file.proofs.ScriptGrammar.CallAfterCall.{agrees-in_turn, script_from-followed}

@@ -6,12 +6,14 @@ use Rattle.dd_file.specs.Device.{AppendsPart}
 use Rattle.dd_file.specs.Grammar.{Script}
 use Rattle.dd_file.specs.declared.fault.FileFault.{FileFault}
 use Rattle.conf_change.specs.Configuration.{Configuration, is_valid}
+use Rattle.conf_session.specs.SessionState.{SessionState}
 use Rattle.conf_tool.specs.Answered.{script, prepended, with_prefix, HasPlanned, pairs_within, pairs_left, with_status, plan_left}
-use Rattle.conf_tool.specs.Outputs.{Output, ends, pair_text, worse_of, pair_then, ends_within, planned_pairs, planned_script}
+use Rattle.conf_tool.specs.Outputs.{Output, ends, pair_text, worse_of, pair_then, session_after_pair, ends_within, planned_pairs, planned_script}
 use Rattle.conf_tool.specs.Pairs.{NumberedLine, numbered, is_skipped, configuration_lines, configuration_at, both_of, IsFaultOf}
 use Rattle.conf_tool.specs.Run.{Wrote, IsStop}
 use Rattle.conf_tool.specs.declared.mode.Mode.TheVariants.{Plan as OfPlan}
-use Rattle.conf_tool.specs.PlanAnswer.{plan_status}
+use Rattle.conf_tool.specs.PlanAnswer.{plan_status, session_between}
+use Rattle.conf_tool.specs.PlanScript.{default_session}
 use Rattle.conf_tool.specs.declared.plan_input_fault.PlanInputFault.{PlanInputFault}
 use Rattle.conf_tool.specs.declared.plan_input_fault.PlanInputFault.TheVariants.{NotTwoLines}
 use Rattle.conf_tool.specs.declared.plan_options.PlanOptions.{PlanOptions}
@@ -22,9 +24,9 @@ use Rattle.conf_tool.specs.declared.tool_fault.ToolFault.TheVariants.{Script as 
 use Rattle.conf_tool.proofs.ModeOutput.FirstParts.{appends-nothing, wrote-part, wrote-broken, wrote-all}
 
 -- ---- what holds after a call
-pub on-ok : {X : Type 0} (result : Result X ToolFault) (A B C P : Type 0) → OnOk result A → OnOk result B → OnOk result C → (A → B → C → P) → OnOk result P
-on-ok (Ok x) A B C P a b c gives = gives a b c
-on-ok (Err fault) A B C P a b c gives = tt
+pub on-ok : {X : Type 0} (result : Result X ToolFault) (A B C D P : Type 0) → OnOk result A → OnOk result B → OnOk result C → OnOk result D → (A → B → C → D → P) → OnOk result P
+on-ok (Ok x) A B C D P a b c d gives = gives a b c d
+on-ok (Err fault) A B C D P a b c d gives = tt
 
 pub on-err : {X : Type 0} (result : Result X ToolFault) (A P : Type 0) → OnErr result A → (A → P) → OnErr result P
 on-err (Ok x) A P a gives = tt
@@ -66,82 +68,85 @@ configuration_lines-kept : (line : NumberedLine) (lines : List NumberedLine) →
 configuration_lines-kept line lines kept = simp kept refl
 
 -- ---- what a line leaves
-pub plan_left-passed : (options : PlanOptions) (count number : ℕ) (now : Option Configuration) (status : Status) (line : List ℕ) → is_skipped line ≡ true → (rest : Script (List ℕ)) →
-    plan_left options count number now status (prepended (line ∷ []) rest) ≡ with_prefix [] (plan_left options (count + 1) number now status rest)
-plan_left-passed options count number now status line passed rest =
-    ap (λ lines. with_status status (pairs_left options number now lines rest.fault)) (configuration_lines-passed (record { number = count + 1; text = line }) (numbered (count + 1 + 1) rest.items) passed)
+pub plan_left-passed : (options : PlanOptions) (session : SessionState) (count number : ℕ) (now : Option Configuration) (status : Status) (line : List ℕ) → is_skipped line ≡ true → (rest : Script (List ℕ)) →
+    plan_left options session count number now status (prepended (line ∷ []) rest) ≡ with_prefix [] (plan_left options session (count + 1) number now status rest)
+plan_left-passed options session count number now status line passed rest =
+    ap (λ lines. with_status status (pairs_left options session number now lines rest.fault)) (configuration_lines-passed (record { number = count + 1; text = line }) (numbered (count + 1 + 1) rest.items) passed)
 
-pairs-first : (options : PlanOptions) (number : ℕ) (line : NumberedLine) (first : Result Configuration PlanInputFault) (lines : List NumberedLine) (fault : Option FileFault) → configuration_at line ≡ first →
-    planned_pairs options number (line ∷ lines) fault ≡ pairs_within options number first lines fault
-pairs-first options number line first [] fault is = ap (λ actual. ends_within actual fault) is
-pairs-first options number line first (second ∷ lines) fault is = ap (λ actual. pair_then options number (both_of actual (configuration_at second)) (planned_pairs options (number + 1) lines fault)) is
+-- what is left with a pair that these two lines gave
+abbrev pair_with : PlanOptions → SessionState → ℕ → Result (Configuration × Configuration) PlanInputFault → List NumberedLine → Option FileFault → Output
+pair_with options session number pair lines fault = pair_then options session number pair (planned_pairs options (session_after_pair options session pair) (number + 1) lines fault)
 
-pairs_within-bad : (options : PlanOptions) (number : ℕ) (bad : PlanInputFault) (lines : List NumberedLine) (fault : Option FileFault) → pairs_within options number (Err bad) lines fault ≡ ends (Err (Configurations bad))
-pairs_within-bad options number bad [] fault = refl
-pairs_within-bad options number bad (second ∷ lines) fault = refl
+pairs-first : (options : PlanOptions) (session : SessionState) (number : ℕ) (line : NumberedLine) (first : Result Configuration PlanInputFault) (lines : List NumberedLine) (fault : Option FileFault) → configuration_at line ≡ first →
+    planned_pairs options session number (line ∷ lines) fault ≡ pairs_within options session number first lines fault
+pairs-first options session number line first [] fault is = ap (λ actual. ends_within actual fault) is
+pairs-first options session number line first (second ∷ lines) fault is = ap (λ actual. pairs_within options session number actual (second ∷ lines) fault) is
+
+pairs_within-bad : (options : PlanOptions) (session : SessionState) (number : ℕ) (bad : PlanInputFault) (lines : List NumberedLine) (fault : Option FileFault) → pairs_within options session number (Err bad) lines fault ≡ ends (Err (Configurations bad))
+pairs_within-bad options session number bad [] fault = refl
+pairs_within-bad options session number bad (second ∷ lines) fault = refl
 
 -- the first line of a pair
-pub plan_left-first : (options : PlanOptions) (count number : ℕ) (status : Status) (line : List ℕ) (first : Configuration) →
+pub plan_left-first : (options : PlanOptions) (session : SessionState) (count number : ℕ) (status : Status) (line : List ℕ) (first : Configuration) →
     is_skipped line ≡ false → configuration_at (record { number = count + 1; text = line }) ≡ Ok first → (rest : Script (List ℕ)) →
-    plan_left options count number None status (prepended (line ∷ []) rest) ≡ with_prefix [] (plan_left options (count + 1) number (Some first) status rest)
-plan_left-first options count number status line first kept is rest =
+    plan_left options session count number None status (prepended (line ∷ []) rest) ≡ with_prefix [] (plan_left options session (count + 1) number (Some first) status rest)
+plan_left-first options session count number status line first kept is rest =
     let at : NumberedLine = record { number = count + 1; text = line } in
     let lines = numbered (count + 1 + 1) rest.items in
-    ap (λ ls. with_status status (planned_pairs options number ls rest.fault)) (configuration_lines-kept at lines kept)
-    ∙ ap (with_status status) (pairs-first options number at (Ok first) (configuration_lines lines) rest.fault is)
+    ap (λ ls. with_status status (planned_pairs options session number ls rest.fault)) (configuration_lines-kept at lines kept)
+    ∙ ap (with_status status) (pairs-first options session number at (Ok first) (configuration_lines lines) rest.fault is)
 
 -- .. and the second
-pub plan_left-second : (options : PlanOptions) (count number : ℕ) (now target : Configuration) (status after : Status) (line : List ℕ) →
+pub plan_left-second : (options : PlanOptions) (session : SessionState) (count number : ℕ) (now target : Configuration) (status after : Status) (line : List ℕ) →
     is_skipped line ≡ false → configuration_at (record { number = count + 1; text = line }) ≡ Ok target → ◌≡◌ {A = Result Status ToolFault} (Ok after) (worse_of status (Ok (plan_status options now target))) → (rest : Script (List ℕ)) →
-    plan_left options count number (Some now) status (prepended (line ∷ []) rest) ≡ with_prefix (pair_text options number now target) (plan_left options (count + 1) (number + 1) None after rest)
-plan_left-second options count number now target status after line kept is worse rest =
+    plan_left options session count number (Some now) status (prepended (line ∷ []) rest) ≡ with_prefix (pair_text options session number now target) (plan_left options (session_between options session now target) (count + 1) (number + 1) None after rest)
+plan_left-second options session count number now target status after line kept is worse rest =
     let at : NumberedLine = record { number = count + 1; text = line } in
     let lines = numbered (count + 1 + 1) rest.items in
-    let left = planned_pairs options (number + 1) (configuration_lines lines) rest.fault in
-    ap (λ ls. with_status status (pairs_within options number (Ok now) ls rest.fault)) (configuration_lines-kept at lines kept)
-    ∙ ap (λ actual. with_status status (pair_then options number (both_of (Ok now) actual) left)) is
-    ∙ ap (λ outcome. record { text = pair_text options number now target ++ left.text; outcome = outcome }) (worse_of-twice status (plan_status options now target) after left.outcome worse)
+    let left = planned_pairs options (session_between options session now target) (number + 1) (configuration_lines lines) rest.fault in
+    ap (λ ls. with_status status (pairs_within options session number (Ok now) ls rest.fault)) (configuration_lines-kept at lines kept)
+    ∙ ap (λ actual. with_status status (pair_with options session number (both_of (Ok now) actual) (configuration_lines lines) rest.fault)) is
+    ∙ ap (λ outcome. record { text = pair_text options session number now target ++ left.text; outcome = outcome }) (worse_of-twice status (plan_status options now target) after left.outcome worse)
 
 -- a line that names no configuration ends the output
-pub plan_left-bad : (options : PlanOptions) (count number : ℕ) (now : Option Configuration) (status : Status) (line : List ℕ) (bad : PlanInputFault) →
+pub plan_left-bad : (options : PlanOptions) (session : SessionState) (count number : ℕ) (now : Option Configuration) (status : Status) (line : List ℕ) (bad : PlanInputFault) →
     is_skipped line ≡ false → configuration_at (record { number = count + 1; text = line }) ≡ Err bad → (rest : Script (List ℕ)) →
-    plan_left options count number now status (prepended (line ∷ []) rest) ≡ ends (Err (Configurations bad))
-plan_left-bad options count number None status line bad kept is rest =
+    plan_left options session count number now status (prepended (line ∷ []) rest) ≡ ends (Err (Configurations bad))
+plan_left-bad options session count number None status line bad kept is rest =
     let at : NumberedLine = record { number = count + 1; text = line } in
     let lines = numbered (count + 1 + 1) rest.items in
-    ap (λ ls. with_status status (planned_pairs options number ls rest.fault)) (configuration_lines-kept at lines kept)
-    ∙ ap (with_status status) (pairs-first options number at (Err bad) (configuration_lines lines) rest.fault is ∙ pairs_within-bad options number bad (configuration_lines lines) rest.fault)
-plan_left-bad options count number (Some now) status line bad kept is rest =
+    ap (λ ls. with_status status (planned_pairs options session number ls rest.fault)) (configuration_lines-kept at lines kept)
+    ∙ ap (with_status status) (pairs-first options session number at (Err bad) (configuration_lines lines) rest.fault is ∙ pairs_within-bad options session number bad (configuration_lines lines) rest.fault)
+plan_left-bad options session count number (Some now) status line bad kept is rest =
     let at : NumberedLine = record { number = count + 1; text = line } in
     let lines = numbered (count + 1 + 1) rest.items in
-    let left = planned_pairs options (number + 1) (configuration_lines lines) rest.fault in
-    ap (λ ls. with_status status (pairs_within options number (Ok now) ls rest.fault)) (configuration_lines-kept at lines kept)
-    ∙ ap (λ actual. with_status status (pair_then options number (both_of (Ok now) actual) left)) is
+    ap (λ ls. with_status status (pairs_within options session number (Ok now) ls rest.fault)) (configuration_lines-kept at lines kept)
+    ∙ ap (λ actual. with_status status (pair_with options session number (both_of (Ok now) actual) (configuration_lines lines) rest.fault)) is
 
 -- the end of the input
-pub plan_left-fault : (options : PlanOptions) (count number : ℕ) (now : Option Configuration) (status : Status) (fault : FileFault) →
-    plan_left options count number now status (script [] (Some fault)) ≡ ends (Err (ScriptFault fault))
-plan_left-fault options count number None status fault = refl
-plan_left-fault options count number (Some now) status fault = refl
+pub plan_left-fault : (options : PlanOptions) (session : SessionState) (count number : ℕ) (now : Option Configuration) (status : Status) (fault : FileFault) →
+    plan_left options session count number now status (script [] (Some fault)) ≡ ends (Err (ScriptFault fault))
+plan_left-fault options session count number None status fault = refl
+plan_left-fault options session count number (Some now) status fault = refl
 
-pub plan_left-within : (options : PlanOptions) (count number : ℕ) (now : Option Configuration) (status : Status) → is_some now ≡ true →
-    plan_left options count number now status (script [] None) ≡ ends (Err (Configurations NotTwoLines))
-plan_left-within options count number None status there = cc
-plan_left-within options count number (Some now) status there = refl
+pub plan_left-within : (options : PlanOptions) (session : SessionState) (count number : ℕ) (now : Option Configuration) (status : Status) → is_some now ≡ true →
+    plan_left options session count number now status (script [] None) ≡ ends (Err (Configurations NotTwoLines))
+plan_left-within options session count number None status there = cc
+plan_left-within options session count number (Some now) status there = refl
 
-pub plan_left-no_pair : (options : PlanOptions) (count number : ℕ) (now : Option Configuration) (status : Status) → is_some now ≡ false → number ≤ 1 →
-    plan_left options count number now status (script [] None) ≡ ends (Err (Configurations NotTwoLines))
-plan_left-no_pair options count number None status none few = let none_yet : nat_lt 1 number ≡ false = le-ltb 1 number few in simp none_yet refl
-plan_left-no_pair options count number (Some now) status none few = cc
+pub plan_left-no_pair : (options : PlanOptions) (session : SessionState) (count number : ℕ) (now : Option Configuration) (status : Status) → is_some now ≡ false → number ≤ 1 →
+    plan_left options session count number now status (script [] None) ≡ ends (Err (Configurations NotTwoLines))
+plan_left-no_pair options session count number None status none few = let none_yet : nat_lt 1 number ≡ false = le-ltb 1 number few in simp none_yet refl
+plan_left-no_pair options session count number (Some now) status none few = cc
 
-pub plan_left-ended : (options : PlanOptions) (count number : ℕ) (now : Option Configuration) (status : Status) → is_some now ≡ false → 1 < number →
-    plan_left options count number now status (script [] None) ≡ ends (Ok status)
-plan_left-ended options count number None status none some = let one : nat_lt 1 number ≡ true = lt-ltb 1 number some in simp one (ap ends (worse_of-clean status))
-plan_left-ended options count number (Some now) status none some = cc
+pub plan_left-ended : (options : PlanOptions) (session : SessionState) (count number : ℕ) (now : Option Configuration) (status : Status) → is_some now ≡ false → 1 < number →
+    plan_left options session count number now status (script [] None) ≡ ends (Ok status)
+plan_left-ended options session count number None status none some = let one : nat_lt 1 number ≡ true = lt-ltb 1 number some in simp one (ap ends (worse_of-clean status))
+plan_left-ended options session count number (Some now) status none some = cc
 
 -- ---- what was answered after a line
-pub planned-begin : (options : PlanOptions) (buffered : Option (List ℕ)) → HasPlanned options 0 1 None Clean (planned_script options) [] buffered buffered
-planned-begin options buffered = record {
+pub planned-begin : (options : PlanOptions) (session : SessionState) (buffered : Option (List ℕ)) → session ≡ default_session → HasPlanned options session 0 1 None Clean (planned_script options) [] buffered buffered
+planned-begin options session buffered begins = subst (λ s. HasPlanned options s 0 1 None Clean (planned_script options) [] buffered buffered) (sym begins) (record {
   prefix = record {
     text = [];
     wrote = appends-nothing buffered;
@@ -150,76 +155,76 @@ planned-begin options buffered = record {
   counted = refl;
   few = omega arith;
   valid = tt;
-}
+})
 
-planned-part : (options : PlanOptions) (count count_after number number_after : ℕ) (now now_after : Option Configuration) (status status_after : Status) (line text bytes : List ℕ)
+planned-part : (options : PlanOptions) (session session_after : SessionState) (count count_after number number_after : ℕ) (now now_after : Option Configuration) (status status_after : Status) (line text bytes : List ℕ)
     (total : Script (List ℕ) → Output) (parts : List (List ℕ)) (before mid new : Option (List ℕ)) →
-    HasPlanned options count number now status total parts before mid →
-    ((rest : Script (List ℕ)) → plan_left options count number now status (prepended (line ∷ []) rest) ≡ with_prefix text (plan_left options count_after number_after now_after status_after rest)) →
+    HasPlanned options session count number now status total parts before mid →
+    ((rest : Script (List ℕ)) → plan_left options session count number now status (prepended (line ∷ []) rest) ≡ with_prefix text (plan_left options session_after count_after number_after now_after status_after rest)) →
     count_after ≡ count + 1 → number_after ≤ number + 1 → IfSome now_after (λ c. is_valid c ≡ true) → bytes ≡ text → Appends mid new bytes →
-    HasPlanned options count_after number_after now_after status_after total (parts ++ line ∷ []) before new
-planned-part options count count_after number number_after now now_after status status_after line text bytes total parts before mid new planned gives next few valid same appends = record {
-  prefix = wrote-part total (plan_left options count number now status) (plan_left options count_after number_after now_after status_after) parts line text bytes before mid new planned.prefix gives same appends;
+    HasPlanned options session_after count_after number_after now_after status_after total (parts ++ line ∷ []) before new
+planned-part options session session_after count count_after number number_after now now_after status status_after line text bytes total parts before mid new planned gives next few valid same appends = record {
+  prefix = wrote-part total (plan_left options session count number now status) (plan_left options session_after count_after number_after now_after status_after) parts line text bytes before mid new planned.prefix gives same appends;
   counted = omega (arith, length-append parts (line ∷ []), planned.counted, next);
   few = omega (arith, length-append parts (line ∷ []), planned.few, few);
   valid = valid;
 }
 
 -- a line that is passed over
-pub planned-passed : (options : PlanOptions) (count number : ℕ) (now : Option Configuration) (status : Status) (line : List ℕ) (total : Script (List ℕ) → Output) (parts : List (List ℕ)) (before mid : Option (List ℕ)) →
-    is_skipped line ≡ true → HasPlanned options count number now status total parts before mid → HasPlanned options (count + 1) number now status total (parts ++ line ∷ []) before mid
-planned-passed options count number now status line total parts before mid passed planned =
-    planned-part options count (count + 1) number number now now status status line [] [] total parts before mid mid planned
-    (plan_left-passed options count number now status line passed) refl (omega arith) planned.valid refl (appends-nothing mid)
+pub planned-passed : (options : PlanOptions) (session : SessionState) (count number : ℕ) (now : Option Configuration) (status : Status) (line : List ℕ) (total : Script (List ℕ) → Output) (parts : List (List ℕ)) (before mid : Option (List ℕ)) →
+    is_skipped line ≡ true → HasPlanned options session count number now status total parts before mid → HasPlanned options session (count + 1) number now status total (parts ++ line ∷ []) before mid
+planned-passed options session count number now status line total parts before mid passed planned =
+    planned-part options session session count (count + 1) number number now now status status line [] [] total parts before mid mid planned
+    (plan_left-passed options session count number now status line passed) refl (omega arith) planned.valid refl (appends-nothing mid)
 
 -- the first line of a pair
-pub planned-first : (options : PlanOptions) (count number : ℕ) (now : Option Configuration) (status : Status) (line : List ℕ) (first : Configuration) (total : Script (List ℕ) → Output) (parts : List (List ℕ)) (before mid : Option (List ℕ)) →
+pub planned-first : (options : PlanOptions) (session : SessionState) (count number : ℕ) (now : Option Configuration) (status : Status) (line : List ℕ) (first : Configuration) (total : Script (List ℕ) → Output) (parts : List (List ℕ)) (before mid : Option (List ℕ)) →
     now ≡ None → is_skipped line ≡ false → configuration_at (record { number = count + 1; text = line }) ≡ Ok first → is_valid first ≡ true →
-    HasPlanned options count number now status total parts before mid → HasPlanned options (count + 1) number (Some first) status total (parts ++ line ∷ []) before mid
-planned-first options count number now status line first total parts before mid none kept is valid planned =
-    planned-part options count (count + 1) number number None (Some first) status status line [] [] total parts before mid mid (subst (λ n. HasPlanned options count number n status total parts before mid) none planned)
-    (plan_left-first options count number status line first kept is) refl (omega arith) valid refl (appends-nothing mid)
+    HasPlanned options session count number now status total parts before mid → HasPlanned options session (count + 1) number (Some first) status total (parts ++ line ∷ []) before mid
+planned-first options session count number now status line first total parts before mid none kept is valid planned =
+    planned-part options session session count (count + 1) number number None (Some first) status status line [] [] total parts before mid mid (subst (λ n. HasPlanned options session count number n status total parts before mid) none planned)
+    (plan_left-first options session count number status line first kept is) refl (omega arith) valid refl (appends-nothing mid)
 
 -- the second line
-pub planned-second : (options options_after : PlanOptions) (count count_after number number_after : ℕ) (now now_after : Option Configuration) (status status_after : Status) (line : List ℕ) (first second : Configuration)
+pub planned-second : (options options_after : PlanOptions) (session session_after : SessionState) (count count_after number number_after : ℕ) (now now_after : Option Configuration) (status status_after : Status) (line : List ℕ) (first second : Configuration)
     (total : Script (List ℕ) → Output) (parts : List (List ℕ)) (before mid new : Option (List ℕ)) →
     now ≡ Some first → is_skipped line ≡ false → configuration_at (record { number = count + 1; text = line }) ≡ Ok second →
-    options_after ≡ options → count_after ≡ count + 1 → number_after ≡ number + 1 → now_after ≡ None →
-    ◌≡◌ {A = Result Status ToolFault} (Ok status_after) (worse_of status (Ok (plan_status options first second))) → Appends mid new (pair_text options number first second) →
-    HasPlanned options count number now status total parts before mid → HasPlanned options_after count_after number_after now_after status_after total (parts ++ line ∷ []) before new
-planned-second options options_after count count_after number number_after now now_after status status_after line first second total parts before mid new there kept is same next following none worse appends planned =
-    let after = planned-part options count (count + 1) number (number + 1) (Some first) None status status_after line (pair_text options number first second) (pair_text options number first second) total parts before mid new
-    (subst (λ n. HasPlanned options count number n status total parts before mid) there planned)
-    (plan_left-second options count number first second status status_after line kept is worse) refl (omega arith) tt refl appends in
-    rw (same, next, following, none) after
+    options_after ≡ options → session_after ≡ session_between options session first second → count_after ≡ count + 1 → number_after ≡ number + 1 → now_after ≡ None →
+    ◌≡◌ {A = Result Status ToolFault} (Ok status_after) (worse_of status (Ok (plan_status options first second))) → Appends mid new (pair_text options session number first second) →
+    HasPlanned options session count number now status total parts before mid → HasPlanned options_after session_after count_after number_after now_after status_after total (parts ++ line ∷ []) before new
+planned-second options options_after session session_after count count_after number number_after now now_after status status_after line first second total parts before mid new there kept is same moved next following none worse appends planned =
+    let after = planned-part options session (session_between options session first second) count (count + 1) number (number + 1) (Some first) None status status_after line (pair_text options session number first second) (pair_text options session number first second) total parts before mid new
+    (subst (λ n. HasPlanned options session count number n status total parts before mid) there planned)
+    (plan_left-second options session count number first second status status_after line kept is worse) refl (omega arith) tt refl appends in
+    rw (same, moved, next, following, none) after
 
 -- .. whose output is broken off
-pub planned-broken : (options : PlanOptions) (count number : ℕ) (now : Option Configuration) (status : Status) (line : List ℕ) (first second : Configuration)
+pub planned-broken : (options : PlanOptions) (session : SessionState) (count number : ℕ) (now : Option Configuration) (status : Status) (line : List ℕ) (first second : Configuration)
     (total : Script (List ℕ) → Output) (parts more : List (List ℕ)) (fault : Option FileFault) (before mid new : Option (List ℕ)) →
-    now ≡ Some first → is_skipped line ≡ false → configuration_at (record { number = count + 1; text = line }) ≡ Ok second → AppendsPart mid new (pair_text options number first second) →
-    HasPlanned options count number now status total parts before mid → AppendsPart before new (total (script (parts ++ line ∷ more) fault)).text
-planned-broken options count number now status line first second total parts more fault before mid new there kept is cut planned =
-    wrote-broken total (plan_left options count number (Some first) status) (plan_left options (count + 1) (number + 1) None (worse status (plan_status options first second))) parts line
-    (pair_text options number first second) (pair_text options number first second) before mid new (subst (λ n. HasPlanned options count number n status total parts before mid) there planned).prefix
-    (plan_left-second options count number first second status (worse status (plan_status options first second)) line kept is (worse-is status (plan_status options first second))) refl cut more fault
+    now ≡ Some first → is_skipped line ≡ false → configuration_at (record { number = count + 1; text = line }) ≡ Ok second → AppendsPart mid new (pair_text options session number first second) →
+    HasPlanned options session count number now status total parts before mid → AppendsPart before new (total (script (parts ++ line ∷ more) fault)).text
+planned-broken options session count number now status line first second total parts more fault before mid new there kept is cut planned =
+    wrote-broken total (plan_left options session count number (Some first) status) (plan_left options (session_between options session first second) (count + 1) (number + 1) None (worse status (plan_status options first second))) parts line
+    (pair_text options session number first second) (pair_text options session number first second) before mid new (subst (λ n. HasPlanned options session count number n status total parts before mid) there planned).prefix
+    (plan_left-second options session count number first second status (worse status (plan_status options first second)) line kept is (worse-is status (plan_status options first second))) refl cut more fault
 
 -- a line that names no configuration stops the run
-pub planned-stop : (options : PlanOptions) (count number : ℕ) (now : Option Configuration) (status : Status) (line : List ℕ) (stop : ToolFault) (mid : Option (List ℕ)) →
+pub planned-stop : (options : PlanOptions) (session : SessionState) (count number : ℕ) (now : Option Configuration) (status : Status) (line : List ℕ) (stop : ToolFault) (mid : Option (List ℕ)) →
     is_skipped line ≡ false → IsFaultOf (configuration_at (record { number = count + 1; text = line })) stop →
     IsStop OfPlan stop ((total : Script (List ℕ) → Output) (parts more : List (List ℕ)) (fault : Option FileFault) (before : Option (List ℕ)) →
-    HasPlanned options count number now status total parts before mid → Wrote (total (script (parts ++ line ∷ more) fault)) (Err stop) before mid)
-planned-stop options count number now status line stop mid kept (inl memory) = subst (λ s. IsStop OfPlan s (Whole s)) (sym memory) tt
+    HasPlanned options session count number now status total parts before mid → Wrote (total (script (parts ++ line ∷ more) fault)) (Err stop) before mid)
+planned-stop options session count number now status line stop mid kept (inl memory) = subst (λ s. IsStop OfPlan s (Whole s)) (sym memory) tt
   where
     Whole : ToolFault → Type 0
     Whole s = (total : Script (List ℕ) → Output) (parts more : List (List ℕ)) (fault : Option FileFault) (before : Option (List ℕ)) →
-        HasPlanned options count number now status total parts before mid → Wrote (total (script (parts ++ line ∷ more) fault)) (Err s) before mid
-planned-stop options count number now status line stop mid kept (inr bad) =
+        HasPlanned options session count number now status total parts before mid → Wrote (total (script (parts ++ line ∷ more) fault)) (Err s) before mid
+planned-stop options session count number now status line stop mid kept (inr bad) =
     subst (λ s. IsStop OfPlan s (Whole s)) (sym bad.1) (
       tt,
       λ total parts more fault before planned.
-          wrote-all total (plan_left options count number now status) parts line (Err (Configurations bad.0)) before mid planned.prefix (plan_left-bad options count number now status line bad.0 kept bad.2) more fault,
+          wrote-all total (plan_left options session count number now status) parts line (Err (Configurations bad.0)) before mid planned.prefix (plan_left-bad options session count number now status line bad.0 kept bad.2) more fault,
     )
   where
     Whole : ToolFault → Type 0
     Whole s = (total : Script (List ℕ) → Output) (parts more : List (List ℕ)) (fault : Option FileFault) (before : Option (List ℕ)) →
-        HasPlanned options count number now status total parts before mid → Wrote (total (script (parts ++ line ∷ more) fault)) (Err s) before mid
+        HasPlanned options session count number now status total parts before mid → Wrote (total (script (parts ++ line ∷ more) fault)) (Err s) before mid

@@ -1,6 +1,7 @@
 -- The script of a path, while it is written.
-use Rattle.std.proofs.Common.{◌≡◌, ℕ, List, [], ◌∷◌, ◌++◌, subst}
-use Rattle.std.specs.Prelude.{Option}
+use Rattle.std.proofs.Common.{◌≡◌, ℕ, List, [], ◌∷◌, ◌++◌, refl, sym, ◌∙◌, ap, subst}
+use Rattle.std.specs.Prelude.{Option, Some, None}
+use Rattle.std.proofs.lemmas.List.{append_assoc}
 use Rattle.std.specs.Io.KnownBytes.{Appends}
 use Rattle.dd_file.specs.Rewritten.{entry_text, rewritten_text, without_double_end}
 use Rattle.dd_file.specs.RewriterState.{HasWritten, Continues, Finishes}
@@ -8,24 +9,42 @@ use Rattle.dd_file.specs.declared.item.Item.{Item}
 use Rattle.conf_change.specs.Configuration.{Configuration}
 use Rattle.conf_change.specs.declared.step.Step.{Step}
 use Rattle.conf_session.specs.SessionState.{SessionState}
-use Rattle.conf_tool.specs.PlanScript.{restore_directive, default_session, script_text}
-use Rattle.conf_tool.specs.Reports.{actual_for, session_after, answered_entries, answered_text}
+use Rattle.conf_tool.specs.PlanScript.{note_items, restore_directive, script_text}
+use Rattle.conf_tool.specs.Reports.{actual_for, session_after, session_after_all, answered_entries, answered_text}
 use Rattle.conf_tool.specs.UndoScript.{step_items}
+use Rattle.conf_tool.proofs.Modes.Undo.{session-append, text-append}
 
--- an item was written, and then the others, and then the end
-pub items-written : (n a b : ℕ) (old first mid new : Option (List ℕ)) (s after : SessionState) (item : Item) (items : List Item) → ((start : Option (List ℕ)) → HasWritten n start start []) →
-    Continues n a old first (entry_text item (actual_for s item)) → after ≡ session_after s item → Continues a b first mid (answered_text after items) → Finishes b mid new →
-    Appends old new (rewritten_text (answered_entries s (item ∷ items)))
-items-written n a b old first mid new s after item items nothing begins is goes_on ends =
-    let prefix = entry_text item (actual_for s item) in
-    subst (λ t. Appends old new (without_double_end (prefix ++ answered_text t items))) is
-    (ends old (prefix ++ answered_text after items) (goes_on old prefix (begins old [] (nothing old))))
+-- a note changes no session
+pub after-note : (s : SessionState) (note : Option (List ℕ)) → session_after_all s (note_items note) ≡ s
+after-note s None = refl
+after-note s (Some note) = refl
 
--- in the session of a script, after the directive that restores the configuration
-pub script-written : (old new : Option (List ℕ)) (now : Configuration) (steps taken : List Step) (s : SessionState) (item : Item) → s ≡ default_session → item ≡ restore_directive now → taken ≡ steps →
-    Appends old new (rewritten_text (answered_entries s (item ∷ step_items taken))) → Appends old new (script_text now steps)
+-- a note was written, and then an item, and then the others, and then the end
+pub items-written : (n a b d : ℕ) (old noted first mid new : Option (List ℕ)) (s t u : SessionState) (note : Option (List ℕ)) (item : Item) (items : List Item) → ((start : Option (List ℕ)) → HasWritten n start start []) →
+    Continues n a old noted (answered_text s (note_items note)) → t ≡ s → Continues a b noted first (entry_text item (actual_for t item)) → u ≡ session_after t item →
+    Continues b d first mid (answered_text u items) → Finishes d mid new → Appends old new (rewritten_text (answered_entries s (note_items note ++ item ∷ items)))
+items-written n a b d old noted first mid new s t u note item items nothing notes same begins is goes_on ends =
+    let front = answered_text s (note_items note) in
+    let prefix = entry_text item (actual_for t item) in
+    let whole : (front ++ prefix) ++ answered_text u items ≡ answered_text s (note_items note ++ item ∷ items) =
+    append_assoc front prefix (answered_text u items)
+    ∙ ap (λ v. front ++ (prefix ++ answered_text v items)) is
+    ∙ ap (λ v. front ++ answered_text v (item ∷ items)) (same ∙ sym (after-note s note))
+    ∙ sym (text-append s (note_items note) (item ∷ items)) in
+    subst (λ text. Appends old new (without_double_end text)) whole
+    (ends old ((front ++ prefix) ++ answered_text u items) (goes_on old (front ++ prefix) (begins old front (notes old [] (nothing old)))))
+
+-- .. and a session ran them one after the other
+pub items-run : (s t u v : SessionState) (note : Option (List ℕ)) (item : Item) (items : List Item) → t ≡ s → u ≡ session_after t item → v ≡ session_after_all u items →
+    v ≡ session_after_all s (note_items note ++ item ∷ items)
+items-run s t u v note item items same is rest =
+    rest ∙ ap (λ x. session_after_all x items) is ∙ ap (λ x. session_after_all x (item ∷ items)) (same ∙ sym (after-note s note))
+    ∙ sym (session-append s (note_items note) (item ∷ items))
+
+-- the first item restores the configuration
+pub script-written : (old new : Option (List ℕ)) (s : SessionState) (note : Option (List ℕ)) (now : Configuration) (steps taken : List Step) (item : Item) → item ≡ restore_directive now → taken ≡ steps →
+    Appends old new (rewritten_text (answered_entries s (note_items note ++ item ∷ step_items taken))) → Appends old new (script_text s note now steps)
 unfolding script_text
-script-written old new now steps taken s item session_is item_is steps_is wrote =
-    subst (λ u. Appends old new (rewritten_text (answered_entries u (restore_directive now ∷ step_items steps)))) session_is
-    (subst (λ i. Appends old new (rewritten_text (answered_entries s (i ∷ step_items steps)))) item_is
-    (subst (λ xs. Appends old new (rewritten_text (answered_entries s (item ∷ step_items xs)))) steps_is wrote))
+script-written old new s note now steps taken item item_is steps_is wrote =
+    subst (λ i. Appends old new (rewritten_text (answered_entries s (note_items note ++ i ∷ step_items steps)))) item_is
+    (subst (λ xs. Appends old new (rewritten_text (answered_entries s (note_items note ++ item ∷ step_items xs)))) steps_is wrote)

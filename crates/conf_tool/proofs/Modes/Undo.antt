@@ -15,10 +15,10 @@ use Rattle.conf_change.specs.declared.step.Step.{Step}
 use Rattle.quorum_sets.proofs.Offered.{take-one_more}
 use Rattle.conf_change.specs.declared.floor.Floor.{Floor}
 use Rattle.conf_session.specs.SessionState.{SessionState, new_session}
-use Rattle.conf_tool.specs.Reports.{actual_for, session_after, answered_text}
+use Rattle.conf_tool.specs.Reports.{session_after_all, actual_for, session_after, answered_text}
 use Rattle.conf_session.specs.Undo.{undo_plan_of}
 use Rattle.conf_tool.specs.UndoScript.{step_directive, comment, step_items, undo_items}
-use Rattle.conf_tool.specs.Outputs.{Output, session_after_all, undo_status, undone_with, undone_script}
+use Rattle.conf_tool.specs.Outputs.{Output, undo_status, undone_with, undone_script}
 use Rattle.conf_tool.specs.Answered.{script, prepended, undo_left, HasRun}
 use Rattle.conf_tool.specs.Run.{Wrote}
 use Rattle.conf_tool.specs.declared.status.Status.{Status}
@@ -47,11 +47,11 @@ ran-part s t rewriter count item total parts before buffered ran after = record 
 }
 
 -- ---- the items that are written at the end
-session-append : (s : SessionState) (xs ys : List Item) → session_after_all s (xs ++ ys) ≡ session_after_all (session_after_all s xs) ys
+pub session-append : (s : SessionState) (xs ys : List Item) → session_after_all s (xs ++ ys) ≡ session_after_all (session_after_all s xs) ys
 session-append s [] ys = refl
 session-append s (x ∷ xs) ys = session-append (session_after s x) xs ys
 
-text-append : (s : SessionState) (xs ys : List Item) → answered_text s (xs ++ ys) ≡ answered_text s xs ++ answered_text (session_after_all s xs) ys
+pub text-append : (s : SessionState) (xs ys : List Item) → answered_text s (xs ++ ys) ≡ answered_text s xs ++ answered_text (session_after_all s xs) ys
 text-append s [] ys = refl
 text-append s (x ∷ xs) ys =
     ap (λ t. entry_text x (actual_for s x) ++ t) (text-append (session_after s x) xs ys)
@@ -137,11 +137,20 @@ steps-broken s now a b old mid new plan index step item here is so_far broken =
     (breaks-first a old new (prefix ++ last) rest.rest
     (breaks-second a b old mid new prefix last so_far.written (subst (λ i. BreaksOff b mid new (answered_text now (i ∷ []))) is broken)))
 
+-- the directives of all steps
+all-steps : (plan : List Step) (index n : ℕ) → n ≡ length plan → (n ≡ 0 → ⊥) → n ≤ index → step_items plan ≡ directives plan index
+all-steps plan index n is some past = some-steps plan (λ none. some (is ∙ none)) ∙ ap (map step_directive) (sym (take_all index plan (subst (λ k. k ≤ index) is past)))
+
 pub steps-over : (s now : SessionState) (a b : ℕ) (old new : Option (List ℕ)) (plan : List Step) (index n : ℕ) → n ≡ length plan → (n ≡ 0 → ⊥) → n ≤ index →
     ItemsWritten s now a b old new (directives plan index) → Continues a b old new (answered_text s (step_items plan))
 steps-over s now a b old new plan index n is some past so_far =
-    let whole = some-steps plan (λ none. some (is ∙ none)) ∙ ap (map step_directive) (sym (take_all index plan (subst (λ k. k ≤ index) is past))) in
-    subst (Continues a b old new) (sym (ap (answered_text s) whole)) so_far.written
+    subst (Continues a b old new) (sym (ap (answered_text s) (all-steps plan index n is some past))) so_far.written
+
+-- the session that ran all steps
+pub steps-ran : (s now : SessionState) (a b : ℕ) (old new : Option (List ℕ)) (plan : List Step) (index n : ℕ) → n ≡ length plan → (n ≡ 0 → ⊥) → n ≤ index →
+    ItemsWritten s now a b old new (directives plan index) → now ≡ session_after_all s (step_items plan)
+steps-ran s now a b old new plan index n is some past so_far =
+    so_far.session ∙ sym (ap (session_after_all s) (all-steps plan index n is some past))
 
 -- ---- the end of the input, or a fault of it
 pub ran-fault : (s : SessionState) (rewriter : RewriterState) (count : ℕ) (total : Script Item → Output) (parts : List Item) (before buffered : Option (List ℕ)) (fault : FileFault) →

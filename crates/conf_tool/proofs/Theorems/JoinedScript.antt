@@ -23,10 +23,10 @@ use Rattle.conf_plan.specs.PlanText.{change_text}
 use Rattle.conf_change.specs.declared.floor.Floor.{Floor}
 use Rattle.conf_session.specs.SessionState.{SessionState, new_session}
 use Rattle.conf_session.specs.Commands.{answer, after_answers}
-use Rattle.conf_tool.specs.Reports.{answered_entries, differs}
+use Rattle.conf_tool.specs.Reports.{session_after_all, answered_entries, differs}
 use Rattle.conf_session.specs.Undo.{undo_plan_of, undo_fault_text}
 use Rattle.conf_tool.specs.UndoScript.{step_command, change_lines, step_directive, comment, undo_items}
-use Rattle.conf_tool.specs.Outputs.{checked, checked_entries, check_status, session_after_all, undone_unless}
+use Rattle.conf_tool.specs.Outputs.{checked, checked_entries, check_status, undone_unless}
 use Rattle.conf_session.specs.ReplyLines.{is_line_byte}
 use Rattle.conf_tool.specs.Laws.{JoinedClean}
 use Rattle.conf_tool.specs.declared.status.Status.{Status}
@@ -92,7 +92,7 @@ pub bytes-line : (text : List ℕ) → list_all is_line_byte text ≡ true → i
 bytes-line [] h = refl
 bytes-line (b ∷ text) h = and-both _ _ (and-first _ _ (and-first _ _ h)) (bytes-line text (and-second _ _ h))
 
-comment-given : (text : List ℕ) → list_all is_line_byte text ≡ true → IsWellFormed (comment text)
+pub comment-given : (text : List ℕ) → list_all is_line_byte text ≡ true → IsWellFormed (comment text)
 comment-given text h = record {
   number = 1;
   lines = (codes "# " ++ text) ∷ [];
@@ -136,7 +136,7 @@ undo-given given (Ok (step ∷ steps)) = steps-given given (step ∷ steps)
 undo-given given (Err fault) = (comment-given (undo_fault_text fault) (reply_line-bytes (undo_fault_text fault) (undo_fault-in_lines fault)), tt)
 
 -- their arguments have keys, and the last is no long blank
-step-keys : (step : Step) → item_has_keys (step_directive step) ≡ true
+pub step-keys : (step : Step) → item_has_keys (step_directive step) ≡ true
 step-keys (Simple changes) = refl
 step-keys (EnterJoint auto_leave changes) = refl
 step-keys LeaveJoint = refl

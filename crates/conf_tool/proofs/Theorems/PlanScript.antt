@@ -1,18 +1,121 @@
--- That the script of a path checks clean.
-use Rattle.std.proofs.Common.{◌≡◌, true, false, List, [], ◌∷◌, refl}
-use Rattle.std.specs.Prelude.{Ok, codes}
-use Rattle.std.specs.List.{list_all}
-use Rattle.dd_file.specs.Laws.{is_line, IsWellFormed, AreWellFormed, DirectiveIsWellFormed, WrittenScript, ends_in_long_blank, item_has_keys}
-use Rattle.conf_change.specs.Configuration.{Configuration}
+-- That the scripts of the pairs of an input are one script, which checks clean.
+use Rattle.std.proofs.Common.{◌≡◌, ◌≤◌, ◌⊎◌, ℕ, ◌+◌, Bool, true, false, not, cond, ◌&&◌, List, [], ◌∷◌, ◌++◌, map, length, refl, sym, ◌∙◌, ap, subst, arith, inl, inr, rules}
+use Rattle.std.specs.Prelude.{⊤, Option, Some, None, Result, Ok, Err, codes, nat_lt, nat_eq, if◌then◌else◌}
+use Rattle.std.specs.List.{list_all, ends_with}
+use Rattle.std.proofs.lemmas.List.{append_assoc, append-nil}
+use Rattle.quorum_sets.specs.Ids.{Ids, ascending}
+use Rattle.ascii_text.specs.Lines.{newline}
+use Rattle.ascii_text.proofs.Offered.{list-by_last}
+use Rattle.dd_file.specs.DirectiveText.{DirectiveText}
+use Rattle.dd_file.specs.Position.{longest_input}
+use Rattle.dd_file.specs.Grammar.{script_of}
+use Rattle.dd_file.specs.Rewritten.{entry_text, kept_text, output_text, has_blank_line, opening, closing, rewritten_text, without_double_end}
+use Rattle.dd_file.specs.Laws.{is_line, IsWellFormed, AreWellFormed, DirectiveIsWellFormed, WrittenScript, AreReadAgain, ends_in_long_blank, item_has_keys}
+use Rattle.dd_file.specs.declared.item.Item.{Item}
+use Rattle.dd_file.specs.declared.item.Item.TheVariants.{Comment, Blank, Directive}
+use Rattle.dd_file.proofs.Offered.{double_end-after, double_end-pushed, ends_with-append}
+use Rattle.conf_change.specs.Configuration.{Configuration, has_voter}
 use Rattle.conf_change.specs.ConfState.{lists_of}
 use Rattle.conf_change.specs.ConfStateLine.{conf_state_text}
+use Rattle.conf_change.specs.Text.{spaced_numbers}
 use Rattle.conf_change.specs.declared.floor.Floor.TheVariants.{One}
 use Rattle.conf_change.specs.declared.step.Step.{Step}
-use Rattle.conf_session.proofs.Offered.{and-both, conf_state-in_lines, reply_line-bytes}
-use Rattle.conf_tool.specs.Laws.{PlanScriptClean}
-use Rattle.conf_tool.specs.PlanScript.{restore_command, restore_directive, script_items, default_session, script_text}
-use Rattle.conf_tool.proofs.Theorems.JoinedScript.{bytes-line, undo-given, undo-keys, undo-short}
-use Rattle.conf_tool.proofs.Theorems.RewrittenScript.{ActualIsValid, written-clean}
+use Rattle.conf_plan.specs.PathBy.{has_path, path_by}
+use Rattle.conf_session.specs.SessionState.{SessionState}
+use Rattle.conf_session.specs.Commands.{answer}
+use Rattle.conf_session.specs.ReplyLines.{is_line_byte}
+use Rattle.conf_session.proofs.Offered.{all-append, and-both, and-first, and-second, conf_state-in_lines, reply_line-bytes, spaced-bytes}
+use Rattle.plan_output.specs.Stages.{stalls}
+use Rattle.conf_tool.specs.Laws.{pairs_in, texts_from, separated_by}
+use Rattle.conf_tool.specs.Outputs.{separator, checked, planned_output}
+use Rattle.conf_tool.specs.PlanAnswer.{ids_down, stall_note, text_as, no_plan_comment, no_plan_text, path_between, reply_text, session_as, session_with, session_between}
+use Rattle.conf_tool.specs.PlanScript.{stall_text, note_items, restore_command, restore_directive, script_items, default_session, script_text}
+use Rattle.conf_tool.specs.Reports.{actual_for, session_after_all, answered_entries, answered_text}
+use Rattle.conf_tool.specs.UndoScript.{comment, step_directive, step_items}
+use Rattle.conf_tool.specs.declared.plan_options.PlanOptions.{PlanOptions}
+use Rattle.conf_tool.specs.declared.plan_options.PlanOutput.TheVariants.{Script}
+use Rattle.conf_tool.specs.declared.status.Status.TheVariants.{Clean}
+use Rattle.conf_tool.proofs.Modes.Undo.{session-append, text-append}
+use Rattle.conf_tool.proofs.Theorems.JoinedScript.{bytes-line, comment-given, step-keys, undo-given, undo-keys}
+use Rattle.conf_tool.proofs.Theorems.PairByPair.{Pair, planned-text}
+use Rattle.conf_tool.proofs.Theorems.RewrittenScript.{ActualIsValid, actual-outputs, items-of, written-clean}
+
+abbrev pub Answered : Type 0
+Answered = Result (List Step) (List ℕ)
+
+-- ---- the items of the scripts
+-- the items of a pair: its script, or a comment that there is no path
+abbrev pub items_with : Option Ids → Configuration → Answered → List Item
+items_with down now (Ok steps) = script_items (stall_note down now steps) now steps
+items_with down now (Err why) = comment (codes "no plan: " ++ why) ∷ []
+
+abbrev pub pair_items : PlanOptions → Pair → List Item
+pair_items options pair = items_with options.down pair.0 (path_between options pair.0 pair.1)
+
+-- The empty line before the next pair is an item where the items end in a comment. Where they end in a directive, it
+-- is the end of that.
+abbrev pub gap_with : Answered → List Item
+gap_with (Err why) = Blank ([] ∷ []) ∷ []
+gap_with (Ok []) = Blank ([] ∷ []) ∷ []
+gap_with (Ok (step ∷ steps)) = []
+
+abbrev pub gap : PlanOptions → Pair → List Item
+gap options pair = gap_with (path_between options pair.0 pair.1)
+
+-- the items of all pairs
+abbrev pub all_items : PlanOptions → List Pair → List Item
+all_items options [] = []
+all_items options (pair ∷ []) = pair_items options pair
+all_items options (pair ∷ next ∷ pairs) = (pair_items options pair ++ gap options pair) ++ all_items options (next ∷ pairs)
+
+-- a pair has a path, or one of three reasons why it has none
+pub path_between-cases : (options : PlanOptions) (now target : Configuration) (P : Answered → Type 0) → ((steps : List Step) → P (Ok steps)) →
+    P (Err (codes "the current configuration has no voter")) → P (Err (codes "the target has no voter")) → P (Err (codes "the target is joint")) → P (path_between options now target)
+path_between-cases options now target P path no_now no_target joint = by (has_voter now) (has_voter target) (has_path options.strategy now target)
+  where
+    steps : List Step
+    steps = path_by options.strategy (ids_down options.down) now target
+
+    by : (a b c : Bool) → P (if a then (if b then (if c then Ok steps else Err (codes "the target is joint")) else Err (codes "the target has no voter")) else Err (codes "the current configuration has no voter"))
+    by false b c = no_now
+    by true false c = no_target
+    by true true false = joint
+    by true true true = path steps
+
+-- ---- they can be written and read again
+abbrev is_short : Item → Bool
+is_short (Comment lines) = true
+is_short (Blank lines) = not (nat_lt 1 (length lines))
+is_short (Directive directive) = true
+
+record CanBeRead (items : List Item) : Type 0 where
+  given : AreWellFormed items
+  keys : list_all item_has_keys items ≡ true
+  short : list_all is_short items ≡ true
+
+given-append : (xs ys : List Item) → AreWellFormed xs → AreWellFormed ys → AreWellFormed (xs ++ ys)
+given-append [] ys a b = b
+given-append (x ∷ xs) ys a b = (a.0, given-append xs ys a.1 b)
+
+read-append : (xs ys : List Item) → CanBeRead xs → CanBeRead ys → CanBeRead (xs ++ ys)
+read-append xs ys a b = record {
+  given = given-append xs ys a.given b.given;
+  keys = all-append item_has_keys xs ys a.keys b.keys;
+  short = all-append is_short xs ys a.short b.short;
+}
+
+short-ends : (items : List Item) → list_all is_short items ≡ true → ends_in_long_blank items ≡ false
+short-ends [] h = refl
+short-ends (Comment lines ∷ []) h = refl
+short-ends (Blank lines ∷ []) h = by (nat_lt 1 (length lines)) (and-first _ _ h)
+  where
+    by : (b : Bool) → not b ≡ true → b ≡ false
+    by true e = cc
+    by false e = refl
+short-ends (Directive directive ∷ []) h = refl
+short-ends (Comment lines ∷ next ∷ items) h = short-ends (next ∷ items) h
+short-ends (Blank lines ∷ next ∷ items) h = short-ends (next ∷ items) (and-second _ _ h)
+short-ends (Directive directive ∷ next ∷ items) h = short-ends (next ∷ items) h
 
 restore-line : (c : Configuration) → is_line (conf_state_text (lists_of c)) ≡ true
 restore-line c = bytes-line (conf_state_text (lists_of c)) (reply_line-bytes (conf_state_text (lists_of c)) (conf_state-in_lines (lists_of c)))
@@ -23,20 +126,257 @@ restore-given given c =
     let whole : list_all is_line (conf_state_text (lists_of c) ∷ []) ≡ true = and-both _ _ (restore-line c) refl in
     given 1 (codes "restore") (conf_state_text (lists_of c) ∷ []) restore_command refl refl refl refl refl whole
 
-script-given : DirectiveIsWellFormed → (now : Configuration) (steps : List Step) → AreWellFormed (script_items now steps)
-script-given given now steps = (restore-given given now, undo-given given (Ok steps))
-
-script-keys : (now : Configuration) (steps : List Step) → list_all item_has_keys (script_items now steps) ≡ true
+restore-read : DirectiveIsWellFormed → (c : Configuration) → CanBeRead (restore_directive c ∷ [])
 unfolding restore_directive
-script-keys now steps = undo-keys (Ok steps)
+restore-read given c = record { given = (restore-given given c, tt); keys = refl; short = refl }
 
--- the last item is no long blank
-script-short : (now : Configuration) (steps : List Step) → ends_in_long_blank (script_items now steps) ≡ false
+stall_text-bytes : (down : Ids) → list_all is_line_byte (stall_text down) ≡ true
+stall_text-bytes down =
+    all-append is_line_byte (codes "stalls with ") (spaced_numbers (ascending down) ++ codes " down") refl
+    (all-append is_line_byte (spaced_numbers (ascending down)) (codes " down") (spaced-bytes (ascending down)) refl)
+
+comment-read : (text : List ℕ) → list_all is_line_byte text ≡ true → CanBeRead (comment text ∷ [])
+comment-read text h = record { given = (comment-given text h, tt); keys = refl; short = refl }
+
+note-read : (down : Option Ids) (now : Configuration) (steps : List Step) → CanBeRead (note_items (stall_note down now steps))
+note-read None now steps = record { given = tt; keys = refl; short = refl }
+note-read (Some down) now steps = by (stalls now steps down)
+  where
+    by : (b : Bool) → CanBeRead (note_items (if b then Some (stall_text down) else None))
+    by true = comment-read (stall_text down) (stall_text-bytes down)
+    by false = record { given = tt; keys = refl; short = refl }
+
+steps-short : (steps : List Step) → list_all is_short (map step_directive steps) ≡ true
+steps-short [] = refl
+steps-short (step ∷ steps) = steps-short steps
+
+items-short : (steps : List Step) → list_all is_short (step_items steps) ≡ true
+items-short [] = refl
+items-short (step ∷ steps) = steps-short (step ∷ steps)
+
+steps-read : DirectiveIsWellFormed → (steps : List Step) → CanBeRead (step_items steps)
+steps-read given steps = record { given = undo-given given (Ok steps); keys = undo-keys (Ok steps); short = items-short steps }
+
+script-read : DirectiveIsWellFormed → (down : Option Ids) (now : Configuration) (steps : List Step) → CanBeRead (script_items (stall_note down now steps) now steps)
+script-read given down now steps =
+    read-append (note_items (stall_note down now steps)) (restore_directive now ∷ step_items steps) (note-read down now steps)
+    (read-append (restore_directive now ∷ []) (step_items steps) (restore-read given now) (steps-read given steps))
+
+pair-read : DirectiveIsWellFormed → (options : PlanOptions) (pair : Pair) → CanBeRead (pair_items options pair)
+pair-read given options pair =
+    path_between-cases options pair.0 pair.1 (λ path. CanBeRead (items_with options.down pair.0 path)) (script-read given options.down pair.0) (comment-read _ refl) (comment-read _ refl) (comment-read _ refl)
+
+blank-read : CanBeRead (Blank ([] ∷ []) ∷ [])
+blank-read = record { given = (record { number = 1; lines = [] ∷ []; are_lines = refl; count = 1; is_ended = true; first = refl }, tt); keys = refl; short = refl }
+
+gap-read : (path : Answered) → CanBeRead (gap_with path)
+gap-read (Err why) = blank-read
+gap-read (Ok []) = blank-read
+gap-read (Ok (step ∷ steps)) = record { given = tt; keys = refl; short = refl }
+
+all-read : DirectiveIsWellFormed → (options : PlanOptions) (pairs : List Pair) → CanBeRead (all_items options pairs)
+all-read given options [] = record { given = tt; keys = refl; short = refl }
+all-read given options (pair ∷ []) = pair-read given options pair
+all-read given options (pair ∷ next ∷ pairs) =
+    read-append (pair_items options pair ++ gap options pair) (all_items options (next ∷ pairs))
+    (read-append (pair_items options pair) (gap options pair) (pair-read given options pair) (gap-read (path_between options pair.0 pair.1))) (all-read given options (next ∷ pairs))
+
+-- ---- what is written of a pair
+-- the text of the items of a pair, as a script of its own
+abbrev own_text : SessionState → List Item → List ℕ
+own_text session items = rewritten_text (answered_entries session items)
+
+reply-script : (options : PlanOptions) (session : SessionState) (number : ℕ) (now target : Configuration) → options.output ≡ Script →
+    reply_text options session number now (path_between options now target) ≡ own_text session (items_with options.down now (path_between options now target))
+unfolding script_text
+reply-script options session number now target script =
+    path_between-cases options now target (λ path. reply_text options session number now path ≡ own_text session (items_with options.down now path))
+    (λ steps. ap (λ output. text_as output session number options.down now steps) script)
+    (none (codes "the current configuration has no voter")) (none (codes "the target has no voter")) (none (codes "the target is joint"))
+  where
+    none : (why : List ℕ) → no_plan_text options.output number why ≡ no_plan_comment why
+    none why = ap (λ output. no_plan_text output number why) script
+
+pub session-script : (options : PlanOptions) (session : SessionState) (pair : Pair) → options.output ≡ Script → session_between options session pair.0 pair.1 ≡ session_after_all session (pair_items options pair)
+session-script options session pair script = by (path_between options pair.0 pair.1)
+  where
+    by : (path : Answered) → session_with options session pair.0 path ≡ session_after_all session (items_with options.down pair.0 path)
+    by (Ok steps) = ap (λ output. session_as output session options.down pair.0 steps) script
+    by (Err why) = refl
+
+-- the text of an item with this output
+abbrev answered_line : Item → List ℕ → List ℕ
+answered_line item actual = entry_text item actual
+
+-- a text that ends in a newline and another one, without the latter
+dropped : (front : List ℕ) → without_double_end ((front ++ newline) ++ newline) ++ newline ≡ (front ++ newline) ++ newline
+dropped front = ap (λ t. t ++ newline) (double_end-pushed front 10)
+
+comment-line : (text : List ℕ) → answered_line (comment text) [] ≡ (codes "# " ++ text) ++ newline
+comment-line text = append-nil (((codes "# " ++ text) ++ newline) ++ []) ∙ append-nil ((codes "# " ++ text) ++ newline)
+
+-- a comment after other items
+after-comment : (session : SessionState) (items : List Item) (text : List ℕ) (last : ℕ) → nat_eq 10 last ≡ false →
+    own_text session (items ++ comment (text ++ last ∷ []) ∷ []) ++ newline ≡ answered_text session ((items ++ comment (text ++ last ∷ []) ∷ []) ++ Blank ([] ∷ []) ∷ [])
+after-comment session items text last other =
+    let front = answered_text session items ++ (codes "# " ++ text) in
+    let whole : answered_text session (items ++ comment (text ++ last ∷ []) ∷ []) ≡ (front ++ last ∷ []) ++ newline =
+    text-append session items (comment (text ++ last ∷ []) ∷ [])
+    ∙ ap (λ t. answered_text session items ++ t) (append-nil (answered_line (comment (text ++ last ∷ [])) []) ∙ comment-line (text ++ last ∷ []))
+    ∙ sym (append_assoc (answered_text session items) ((codes "# " ++ text) ++ last ∷ []) newline)
+    ∙ ap (λ t. t ++ newline) (sym (append_assoc (answered_text session items) (codes "# " ++ text) (last ∷ []))) in
+    ap (λ t. without_double_end t ++ newline) whole
+    ∙ ap (λ t. t ++ newline) (double_end-pushed front last ∙ ap (λ b. cond b (front ++ last ∷ []) ((front ++ last ∷ []) ++ newline)) other)
+    ∙ ap (λ t. t ++ newline) (sym whole)
+    ∙ sym (text-append session (items ++ comment (text ++ last ∷ []) ∷ []) (Blank ([] ∷ []) ∷ []))
+
+-- what is written of an output ends in an empty line
+record IsEnded (text : List ℕ) : Type 0 where
+  front : List ℕ
+  is : text ≡ (front ++ newline) ++ newline
+
+output-ended : (text : List ℕ) → ends_with nat_eq text newline ≡ true → IsEnded (output_text text)
+output-ended text ends = by_last (list-by_last text)
+  where
+    from : (front : List ℕ) (double : Bool) → text ≡ front ++ newline → IsEnded ((opening double ++ text) ++ closing double)
+    from front true is = record {
+      front = (opening true ++ text) ++ codes "----\n----";
+      is = sym (append_assoc (opening true ++ text) (codes "----\n----" ++ newline) newline)
+          ∙ ap (λ t. t ++ newline) (sym (append_assoc (opening true ++ text) (codes "----\n----") newline));
+    }
+    from front false is = record { front = opening false ++ front; is = ap (λ t. (opening false ++ t) ++ newline) is ∙ ap (λ t. t ++ newline) (sym (append_assoc (opening false) front newline)) }
+
+    last-newline : (prefix : List ℕ) (last : ℕ) → text ≡ prefix ++ last ∷ [] → last ≡ 10
+    last-newline prefix last is =
+        let tested : (nat_eq 10 last && true) ≡ true = sym (ends_with-append prefix (last ∷ []) newline refl) ∙ sym (ap (λ t. ends_with nat_eq t newline) is) ∙ ends in
+        search rules
+
+    by_last : (text ≡ []) ⊎ ((prefix : List ℕ) × (last : ℕ) × (text ≡ prefix ++ last ∷ [])) → IsEnded (output_text text)
+    by_last (inl none) = let wrong : false ≡ true = sym (ap (λ t. ends_with nat_eq t newline) none) ∙ ends in cc
+    by_last (inr p) = from p.0 (has_blank_line text) (p.2 ∙ ap (λ last. p.0 ++ last ∷ []) (last-newline p.0 p.1 p.2))
+
+-- a directive after other items
+after-directive : ActualIsValid → (session : SessionState) (items : List Item) (directive : DirectiveText) → item_has_keys (Directive directive) ≡ true →
+    own_text session (items ++ Directive directive ∷ []) ++ newline ≡ answered_text session (items ++ Directive directive ∷ [])
+after-directive holds session items directive keys =
+    let at = session_after_all session items in
+    let actual = (answer at directive).actual in
+    let ended = output-ended actual (holds at directive keys).ended in
+    let text = answered_text session items in
+    let kept = kept_text (Directive directive) in
+    let whole : answered_text session (items ++ Directive directive ∷ []) ≡ ((text ++ (kept ++ ended.front)) ++ newline) ++ newline =
+    text-append session items (Directive directive ∷ [])
+    ∙ ap (λ t. text ++ t) (append-nil (kept ++ output_text actual) ∙ ap (λ t. kept ++ t) ended.is
+    ∙ sym (append_assoc kept (ended.front ++ newline) newline) ∙ ap (λ t. t ++ newline) (sym (append_assoc kept ended.front newline)))
+    ∙ sym (append_assoc text ((kept ++ ended.front) ++ newline) newline)
+    ∙ ap (λ t. t ++ newline) (sym (append_assoc text (kept ++ ended.front) newline)) in
+    ap (λ t. without_double_end t ++ newline) whole ∙ dropped (text ++ (kept ++ ended.front)) ∙ sym whole
+
+last-step : ActualIsValid → (session : SessionState) (items : List Item) (step : Step) → own_text session (items ++ step_directive step ∷ []) ++ newline ≡ answered_text session (items ++ step_directive step ∷ [])
+last-step holds session items step = after-directive holds session items _ (step-keys step)
+
+-- the last of some steps is a directive
+steps-then : ActualIsValid → (session : SessionState) (items : List Item) (step : Step) (steps : List Step) →
+    own_text session (items ++ map step_directive (step ∷ steps)) ++ newline ≡ answered_text session (items ++ map step_directive (step ∷ steps))
+steps-then holds session items step [] = last-step holds session items step
+steps-then holds session items step (next ∷ steps) =
+    subst (λ all. own_text session all ++ newline ≡ answered_text session all) (append_assoc items (step_directive step ∷ []) (map step_directive (next ∷ steps)))
+    (steps-then holds session (items ++ step_directive step ∷ []) next steps)
+
+-- so the empty line after the script of a pair is that after its items
+pair-then : ActualIsValid → (options : PlanOptions) (session : SessionState) (pair : Pair) → own_text session (pair_items options pair) ++ newline ≡ answered_text session (pair_items options pair ++ gap options pair)
+pair-then holds options session pair =
+    path_between-cases options pair.0 pair.1 (λ path. own_text session (items_with options.down pair.0 path) ++ newline ≡ answered_text session (items_with options.down pair.0 path ++ gap_with path))
+    by_path refl refl refl
+  where
+    front : List Step → List Item
+    front steps = note_items (stall_note options.down pair.0 steps) ++ restore_directive pair.0 ∷ []
+
+    by_path : (steps : List Step) → own_text session (items_with options.down pair.0 (Ok steps)) ++ newline ≡ answered_text session (items_with options.down pair.0 (Ok steps) ++ gap_with (Ok steps))
+    by_path [] =
+        subst (λ all. own_text session all ++ newline ≡ answered_text session (all ++ Blank ([] ∷ []) ∷ []))
+        (append_assoc (note_items (stall_note options.down pair.0 [])) (restore_directive pair.0 ∷ []) (step_items []))
+        (after-comment session (front []) (codes "nothing to d") 111 refl)
+    by_path (step ∷ steps) =
+        subst (λ all. own_text session all ++ newline ≡ answered_text session (all ++ []))
+        (append_assoc (note_items (stall_note options.down pair.0 (step ∷ steps))) (restore_directive pair.0 ∷ []) (step_items (step ∷ steps)))
+        (steps-then holds session (front (step ∷ steps)) step steps ∙ ap (answered_text session) (sym (append-nil (front (step ∷ steps) ++ step_items (step ∷ steps)))))
+
+-- ---- the text of all pairs
+-- a text of two bytes at least
+abbrev IsLong : List ℕ → Type 0
+IsLong [] = ⊥
+IsLong (a ∷ []) = ⊥
+IsLong (a ∷ b ∷ text) = ⊤
+
+length-long : (text : List ℕ) → IsLong text → 2 ≤ length text
+length-long [] long = absurd long
+length-long (a ∷ []) long = absurd long
+length-long (a ∷ b ∷ text) long = omega arith
+
+script-long : (session : SessionState) (note : Option (List ℕ)) (now : Configuration) (steps : List Step) (more : List Item) → IsLong (answered_text session (script_items note now steps ++ more))
 unfolding restore_directive
-script-short now [] = refl
-script-short now (step ∷ steps) = undo-short (Ok (step ∷ steps))
+script-long session None now steps more = tt
+script-long session (Some note) now steps more = tt
 
-pub script-clean : WrittenScript → DirectiveIsWellFormed → ActualIsValid → PlanScriptClean
-unfolding script_text default_session
-script-clean written given holds now steps fits =
-    written-clean written holds 100 One (script_items now steps) (script-given given now steps) (script-keys now steps) (script-short now steps) fits
+pair-long : (options : PlanOptions) (session : SessionState) (pair : Pair) (more : List Item) → IsLong (answered_text session (pair_items options pair ++ more))
+pair-long options session pair more =
+    path_between-cases options pair.0 pair.1 (λ path. IsLong (answered_text session (items_with options.down pair.0 path ++ more)))
+    (λ steps. script-long session (stall_note options.down pair.0 steps) pair.0 steps more) tt tt tt
+
+all-long : (options : PlanOptions) (session : SessionState) (pair : Pair) (pairs : List Pair) → IsLong (answered_text session (all_items options (pair ∷ pairs)))
+all-long options session pair [] = subst (λ items. IsLong (answered_text session items)) (append-nil (pair_items options pair)) (pair-long options session pair [])
+all-long options session pair (next ∷ pairs) =
+    subst (λ items. IsLong (answered_text session items)) (sym (append_assoc (pair_items options pair) (gap options pair) (all_items options (next ∷ pairs))))
+    (pair-long options session pair (gap options pair ++ all_items options (next ∷ pairs)))
+
+gap-after : (session : SessionState) (path : Answered) → session_after_all session (gap_with path) ≡ session
+gap-after session (Err why) = refl
+gap-after session (Ok []) = refl
+gap-after session (Ok (step ∷ steps)) = refl
+
+texts-script : ActualIsValid → (options : PlanOptions) → options.output ≡ Script → (session : SessionState) (number : ℕ) (pairs : List Pair) →
+    separated_by newline (texts_from options session number pairs) ≡ own_text session (all_items options pairs)
+texts-script holds options script session number [] = refl
+texts-script holds options script session number (pair ∷ []) = reply-script options session number pair.0 pair.1 script
+texts-script holds options script session number (pair ∷ next ∷ pairs) =
+    let items = pair_items options pair in
+    let between = gap options pair in
+    let after = session_after_all session items in
+    let more = all_items options (next ∷ pairs) in
+    let moved = session-script options session pair script in
+    let rest = texts-script holds options script (session_between options session pair.0 pair.1) (number + 1) (next ∷ pairs) ∙ ap (λ s. own_text s more) moved in
+    let same = session-append session items between ∙ gap-after after (path_between options pair.0 pair.1) in
+    (λ i. reply-script options session number pair.0 pair.1 script i ++ (newline ++ rest i))
+    ∙ sym (append_assoc (own_text session items) newline (own_text after more))
+    ∙ ap (λ t. t ++ own_text after more) (pair-then holds options session pair)
+    ∙ sym (double_end-after (answered_text session (items ++ between)) (answered_text after more) (length-long (answered_text after more) (all-long options after next pairs)))
+    ∙ ap (λ s. without_double_end (answered_text session (items ++ between) ++ answered_text s more)) (sym same)
+    ∙ ap without_double_end (sym (text-append session (items ++ between) more))
+
+pub planned-script : ActualIsValid → (options : PlanOptions) (input : List ℕ) → options.output ≡ Script →
+    (planned_output options input).text ≡ rewritten_text (answered_entries default_session (all_items options (pairs_in input)))
+planned-script holds options input script =
+    planned-text options input ∙ ap (λ output. separated_by (separator output) (texts_from options default_session 1 (pairs_in input))) script
+    ∙ texts-script holds options script default_session 1 (pairs_in input)
+
+-- ---- it is read again, and is clean
+pub again-read : WrittenScript → DirectiveIsWellFormed → ActualIsValid → (options : PlanOptions) (pairs : List Pair) →
+    let entries = answered_entries default_session (all_items options pairs) in
+    length (rewritten_text entries) ≤ longest_input → let again = script_of (rewritten_text entries) in (again.fault ≡ None) × AreReadAgain entries again.items
+again-read written given holds options pairs fits =
+    let items = all_items options pairs in
+    let entries = answered_entries default_session items in
+    let same = items-of default_session items in
+    let read = all-read given options pairs in
+    written entries (subst AreWellFormed (sym same) read.given) (actual-outputs holds default_session items read.keys) (ap ends_in_long_blank same ∙ short-ends items read.short) fits
+
+pub script-clean : WrittenScript → DirectiveIsWellFormed → ActualIsValid → (options : PlanOptions) (input : List ℕ) → options.output ≡ Script →
+    length (planned_output options input).text ≤ longest_input → (checked (planned_output options input).text 100 One).outcome ≡ Ok Clean
+unfolding default_session
+script-clean written given holds options input script fits =
+    let items = all_items options (pairs_in input) in
+    let text = planned-script holds options input script in
+    let read = all-read given options (pairs_in input) in
+    subst (λ t. length t ≤ longest_input → (checked t 100 One).outcome ≡ Ok Clean) (sym text)
+    (written-clean written holds 100 One items read.given read.keys (short-ends items read.short)) fits

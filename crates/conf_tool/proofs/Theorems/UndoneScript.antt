@@ -40,15 +40,15 @@ use Rattle.conf_session.specs.Values.{read_arguments}
 use Rattle.conf_session.specs.declared.undo_fault.UndoFault.{UndoFault}
 use Rattle.conf_session.proofs.Offered.{same-answer}
 use Rattle.conf_tool.specs.Laws.{LeadsBackBy, UndoScriptLeadsBack}
-use Rattle.conf_tool.specs.Outputs.{session_after_all, undone_unless}
-use Rattle.conf_tool.specs.Reports.{answered_entries, actual_for}
+use Rattle.conf_tool.specs.Outputs.{undone_unless}
+use Rattle.conf_tool.specs.Reports.{session_after_all, answered_entries, actual_for}
 use Rattle.conf_tool.specs.UndoScript.{step_command, step_line, change_lines, comment, step_directive, undo_items, TakesSteps}
 use Rattle.conf_tool.proofs.Theorems.JoinedScript.{left-by, undo-read}
 use Rattle.conf_tool.proofs.Theorems.RewrittenScript.{ActualIsValid}
 
 -- ---- the input of a step's directive is read as the step's changes
 -- the printed changes of a step are read as they are
-abbrev ChangesAreRead : Type 0
+abbrev pub ChangesAreRead : Type 0
 ChangesAreRead = (step : Step) → HasU64Ids step → changes_in (join_with_byte 32 (map change_text (changes_of step))) ≡ Ok (changes_of step)
 
 abbrev input_of : List Change → List ℕ
@@ -90,7 +90,7 @@ changes-of_input [] read = read
 changes-of_input (change ∷ changes) read = ap changes_in_tokens (tokens_in-of_input change changes) ∙ read
 
 -- ---- a session that is given a step's directive takes the step
-abbrev directive_for : Step → DirectiveText
+abbrev pub directive_for : Step → DirectiveText
 directive_for step = record {
   line = 1;
   command = (step_command step).name;
@@ -124,11 +124,11 @@ step-answer session (EnterJoint false changes) next read made =
 step-answer session LeaveJoint next read made = ap (λ (r : Made). answered session (step_reply r)) made
 
 -- ---- so it takes the steps of a run in turn
-record Comes (session : SessionState) (directives : List DirectiveText) (steps : List Step) (target : Configuration) : Type 0 where
-  taken : TakesSteps session directives steps
-  there : current (after_answers session directives) ≡ target
+pub record Comes (session : SessionState) (directives : List DirectiveText) (steps : List Step) (target : Configuration) : Type 0 where
+  pub taken : TakesSteps session directives steps
+  pub there : current (after_answers session directives) ≡ target
 
-run-comes : ChangesAreRead → (session : SessionState) (steps : List Step) (target : Configuration) → All HasU64Ids steps → IsRun (current session) steps target
+pub run-comes : ChangesAreRead → (session : SessionState) (steps : List Step) (target : Configuration) → All HasU64Ids steps → IsRun (current session) steps target
     → Comes session (map directive_for steps) steps target
 run-comes read session [] target small run = record { taken = tt; there = run }
 run-comes read session (step ∷ steps) target small run =

@@ -9,18 +9,19 @@
 //! ```
 //!
 //! Blank lines and comments are skipped, and still counted in the line numbers of errors. Between the replies to two
-//! pairs comes an empty line, but none in JSON. The first line with an error ends the run. The form of the input is
-//! own.
+//! pairs comes an empty line, but none in JSON. If the replies are scripts, one session runs all of them, so that
+//! together they are one script. The first line with an error ends the run. The form of the input is own.
 ghost use Rattle.std.specs.Prelude.{◌≡◌, ℕ, ◌+◌, ◌<◌, ◌^◌, ◌||◌, List, [], Option, Some, Ok, true, nat_lt, IfOk, IfErr, OnOk, OnErr, IsOkUnless, if◌then◌else◌};
 ghost use Rattle.std.specs.Io.KnownBytes.{Appends};
 ghost use Rattle.dd_file.specs.Device.{AppendsPart};
 ghost use Rattle.conf_change.specs.Configuration.{is_valid};
 ghost use Rattle.conf_tool.specs.Outputs.{planned_script, pair_text, separator, worse_of};
-ghost use Rattle.conf_tool.specs.PlanAnswer.{plan_status};
+ghost use Rattle.conf_tool.specs.PlanAnswer.{plan_status, session_between};
 ghost use Rattle.conf_tool.specs.Run.{IsAnswerFault, is_write_failure};
 ghost use Rattle.conf_tool.specs.declared.tool_fault.ToolFault.TheVariants.{NoMemory as OutOfMemory};
 
 use super::part_by_part::PartByPart;
+use super::plan_script::default_session;
 use crate::plan_answer::plan_answer;
 use crate::plan_input_fault::PlanInputFault;
 use crate::plan_line::{configuration_at, is_skipped};
@@ -29,7 +30,7 @@ use crate::status::Status;
 use crate::tool_fault::ToolFault;
 use ascii_text::append::append;
 use conf_change::Config;
-use conf_session::SessionIds;
+use conf_session::{Session, SessionIds};
 use dd_file::device::Sink;
 use dd_file::fault::FileFault;
 use dd_file::line::Line;
@@ -41,6 +42,8 @@ use std::alloc::Global;
 pub(super) struct Planning {
     alloc: Global,
     options: PlanOptions,
+    /// The session that runs the scripts of all pairs, if the output is a script.
+    session: Session,
     /// How many lines were read, including those that were skipped.
     lines: usize,
     /// The number of the current pair, counted from 1.
@@ -52,18 +55,20 @@ pub(super) struct Planning {
 }
 
 impl Planning {
-    /// The mode before its first line.
-    pub(super) fn new(alloc: Global, options: PlanOptions) -> Planning
-        ensures { (buffered : Option (List ℕ)) → ⟦<Planning as PartByPart<Line>>⟧.HasAnswered result (planned_script options) [] buffered buffered }
+    /// The mode before its first line, with a new session. It fails only if memory runs out.
+    pub(super) fn new(alloc: Global, options: PlanOptions) -> Result<Planning, ToolFault>
+        ensures unwritten { IfOk result (λ mode. (buffered : Option (List ℕ)) → ⟦<Planning as PartByPart<Line>>⟧.HasAnswered mode (planned_script options) [] buffered buffered) }
+        ensures memory { IsOkUnless result OutOfMemory }
     {
-        Planning {
+        Ok(Planning {
             alloc,
+            session: default_session(alloc)?,
             options,
             lines: 0,
             pair: 1,
             now: None,
             status: Status::Clean,
-        }
+        })
     }
 
     /// Writes the reply to a pair, and begins the next one.
@@ -77,13 +82,21 @@ impl Planning {
         requires valid_now { is_valid now.now ≡ true }
         requires valid_target { is_valid target.now ≡ true }
         ensures next { OnOk result ((self.new.options ≡ self.old.options) × (self.new.lines ≡ self.old.lines) × (self.new.pair ≡ self.old.pair + 1) × (self.new.now ≡ self.old.now)) }
+        ensures session { OnOk result (self.new.session ≡ session_between self.old.options self.old.session now.now target.now) }
         ensures status { OnOk result (Ok self.new.status ≡ worse_of self.old.status (Ok (plan_status self.old.options now.now target.now))) }
-        ensures written { OnOk result (Appends (W.contents writer.old) (W.contents writer.new) (pair_text self.old.options self.old.pair now.now target.now)) }
-        ensures part { OnErr result (AppendsPart (W.contents writer.old) (W.contents writer.new) (pair_text self.old.options self.old.pair now.now target.now)) }
+        ensures written { OnOk result (Appends (W.contents writer.old) (W.contents writer.new) (pair_text self.old.options self.old.session self.old.pair now.now target.now)) }
+        ensures part { OnErr result (AppendsPart (W.contents writer.old) (W.contents writer.new) (pair_text self.old.options self.old.session self.old.pair now.now target.now)) }
         ensures write { W.has_failed writer.new ≡ (W.has_failed writer.old || is_write_failure result) }
         ensures kinds { IfErr result IsAnswerFault }
     {
-        let (text, status) = pair_answer(self.alloc, &self.options, self.pair, now, target)?;
+        let (text, status) = pair_answer(
+            self.alloc,
+            &self.options,
+            &mut self.session,
+            self.pair,
+            now,
+            target,
+        )?;
         write_all(writer, text.as_slice())?;
         self.pair += 1;
         self.status = worse(self.status, status);
@@ -105,17 +118,19 @@ fn worse(former: Status, latter: Status) -> Status
 fn pair_answer(
     alloc: Global,
     options: &PlanOptions,
+    session: &mut Session,
     number: u64,
     now: &Config<SessionIds>,
     target: &Config<SessionIds>,
 ) -> Result<(Vec<u8>, Status), ToolFault>
     requires valid_now { is_valid now.now ≡ true }
     requires valid_target { is_valid target.now ≡ true }
-    ensures text { IfOk result (λ answer. answer.0.items ≡ pair_text options.now number now.now target.now) }
+    ensures text { IfOk result (λ answer. answer.0.items ≡ pair_text options.now session.old number now.now target.now) }
+    ensures session { OnOk result (session.new ≡ session_between options.now session.old now.now target.now) }
     ensures status { IfOk result (λ answer. answer.1 ≡ plan_status options.now now.now target.now) }
     ensures memory { IsOkUnless result OutOfMemory }
 {
-    let (plan, status) = plan_answer(alloc, options, number, now, target)?;
+    let (plan, status) = plan_answer(alloc, options, session, number, now, target)?;
     let mut text = separator_before(number, options.output).to_vec(alloc)?;
     append(&mut text, plan.as_slice())?;
     Ok((text, status))
@@ -145,7 +160,7 @@ impl PartByPart<Line> for Planning {
 
     ghost mode = { OfPlan };
 
-    ghost HasAnswered = { λ s. HasPlanned s.options s.lines s.pair s.now s.status };
+    ghost HasAnswered = { λ s. HasPlanned s.options s.session s.lines s.pair s.now s.status };
 
     // Keeps the first line of a pair, and replies to the second. Blank lines and comments are skipped. A line that is
     // not a valid configuration ends the run.
@@ -180,7 +195,7 @@ impl PartByPart<Line> for Planning {
         Ok(self.status)
     }
 
-    ghost stays = { λ s. kept-planned s.options s.lines s.pair s.now s.status };
+    ghost stays = { λ s. kept-planned s.options s.session s.lines s.pair s.now s.status };
 
-    ghost prefix = { λ s total parts more fault before after planned. wrote-prefix total (plan_left s.options s.lines s.pair s.now s.status) parts more fault before after planned.prefix };
+    ghost prefix = { λ s total parts more fault before after planned. wrote-prefix total (plan_left s.options s.session s.lines s.pair s.now s.status) parts more fault before after planned.prefix };
 }

@@ -1,7 +1,7 @@
 //! Steps written as directives, each with its actual output.
 ghost use Rattle.std.specs.Prelude.{◌≡◌, ◌||◌, [], ◌∷◌, OnOk, OnErr, IfErr};
 ghost use Rattle.dd_file.specs.RewriterState.{Continues, BreaksOff};
-ghost use Rattle.conf_tool.specs.Reports.{answered_text, session_after};
+ghost use Rattle.conf_tool.specs.Reports.{answered_text, session_after, session_after_all};
 ghost use Rattle.conf_tool.specs.Run.{IsAnswerFault, is_write_failure};
 ghost use Rattle.conf_tool.specs.UndoScript as spec;
 ghost use Rattle.conf_tool.specs.UndoScript.{step_items};
@@ -17,7 +17,7 @@ use dd_file::rewriter::Rewriter;
 use dd_file::stage::Stage;
 use std::alloc::Global;
 
-/// Runs steps and writes their directives, or writes that there is nothing to do.
+/// Runs the directives of steps and writes them, or writes that there is nothing to do.
 pub(super) fn write_steps<W: Sink>(
     alloc: Global,
     session: &mut Session,
@@ -26,6 +26,7 @@ pub(super) fn write_steps<W: Sink>(
     writer: &mut W,
 ) -> Result<(), ToolFault>
     requires { rewriter.old.stage ≡ Stage.Ready }
+    ensures session { OnOk result (session.new ≡ session_after_all session.old (step_items steps.now)) }
     ensures written { OnOk result (Continues rewriter.old.newlines rewriter.new.newlines (W.contents writer.old) (W.contents writer.new) (answered_text session.old (step_items steps.now))) }
     ensures part { OnErr result (BreaksOff rewriter.old.newlines (W.contents writer.old) (W.contents writer.new) (answered_text session.old (step_items steps.now))) }
     ensures stage { OnOk result (rewriter.new.stage ≡ Stage.Ready) }
@@ -51,6 +52,7 @@ pub(super) fn write_comment<W: Sink>(
     writer: &mut W,
 ) -> Result<(), ToolFault>
     requires { rewriter.old.stage ≡ Stage.Ready }
+    ensures session { OnOk result (session.new ≡ session.old) }
     ensures written { OnOk result (Continues rewriter.old.newlines rewriter.new.newlines (W.contents writer.old) (W.contents writer.new) (answered_text session.old (spec.comment text.now ∷ []))) }
     ensures part { OnErr result (BreaksOff rewriter.old.newlines (W.contents writer.old) (W.contents writer.new) (answered_text session.old (spec.comment text.now ∷ []))) }
     ensures stage { OnOk result (rewriter.new.stage ≡ Stage.Ready) }

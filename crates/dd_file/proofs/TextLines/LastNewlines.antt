@@ -1,5 +1,5 @@
 -- The newlines at the end of a text, and what is left without the last.
-use Rattle.std.proofs.Common.{◌≡◌, ℕ, ◌-◌, Bool, true, false, not, cond, ◌&&◌, inl, inr, List, [], ◌∷◌, ◌++◌, length, drop, refl, sym, ◌∙◌, ap, length-append, arith, rules}
+use Rattle.std.proofs.Common.{◌≡◌, ◌⊎◌, ℕ, ◌-◌, ◌≤◌, Bool, true, false, not, cond, ◌&&◌, inl, inr, List, [], ◌∷◌, ◌++◌, length, drop, refl, sym, ◌∙◌, ap, subst, length-append, arith, rules}
 use Rattle.std.specs.Prelude.{◌==◌, nat_eq, if◌then◌else◌}
 use Rattle.std.specs.List.{ends_with}
 use Rattle.std.proofs.Math.Seq.{drop-append_seam}
@@ -106,6 +106,40 @@ without_last-prefix xs (y ∷ ys) = let buffered = if newlines_at_end xs == 0 th
   buffered ++ without_last 10 (y ∷ ys),
   without_last-append 10 xs y ys ∙ ap (λ t. t ++ without_last 10 (y ∷ ys)) (sym (text-buffered xs)) ∙ append_assoc (without_last 10 xs) buffered (without_last 10 (y ∷ ys)),
 )
+
+-- a text without a second newline at its end, by its last two bytes
+double_end-two : (xs : List ℕ) (a b : ℕ) →
+    without_double_end ((xs ++ a ∷ []) ++ b ∷ []) ≡ (if nat_eq 10 a && (nat_eq 10 b && true) then cond (b == 10) (xs ++ a ∷ []) ((xs ++ a ∷ []) ++ b ∷ []) else (xs ++ a ∷ []) ++ b ∷ [])
+double_end-two xs a b =
+    let text = (xs ++ a ∷ []) ++ b ∷ [] in
+    ap (λ p. if p then without_last 10 text else text) (ends_with-two xs a b) ∙ ap (λ t. if nat_eq 10 a && (nat_eq 10 b && true) then t else text) (without_last-push 10 b (xs ++ a ∷ []))
+
+double_end-after_two : (front xs : List ℕ) (a b : ℕ) → without_double_end (front ++ ((xs ++ a ∷ []) ++ b ∷ [])) ≡ front ++ without_double_end ((xs ++ a ∷ []) ++ b ∷ [])
+double_end-after_two front xs a b =
+    ap without_double_end (sym whole) ∙ double_end-two (front ++ xs) a b ∙ at (nat_eq 10 a && (nat_eq 10 b && true)) (b == 10) ∙ ap (λ t. front ++ t) (sym (double_end-two xs a b)) where
+      part : (front ++ xs) ++ a ∷ [] ≡ front ++ (xs ++ a ∷ [])
+      part = append_assoc front xs (a ∷ [])
+
+      whole : ((front ++ xs) ++ a ∷ []) ++ b ∷ [] ≡ front ++ ((xs ++ a ∷ []) ++ b ∷ [])
+      whole = ap (λ t. t ++ b ∷ []) part ∙ append_assoc front (xs ++ a ∷ []) (b ∷ [])
+
+      at : (p q : Bool) →
+          (if p then cond q ((front ++ xs) ++ a ∷ []) (((front ++ xs) ++ a ∷ []) ++ b ∷ []) else ((front ++ xs) ++ a ∷ []) ++ b ∷ [])
+          ≡ front ++ (if p then cond q (xs ++ a ∷ []) ((xs ++ a ∷ []) ++ b ∷ []) else (xs ++ a ∷ []) ++ b ∷ [])
+      at true true = part
+      at true false = whole
+      at false q = whole
+
+-- .. so what comes before two bytes or more stays as it is
+pub double_end-after : (front text : List ℕ) → 2 ≤ length text → without_double_end (front ++ text) ≡ front ++ without_double_end text
+double_end-after front text long = by_last (list-by_last text) where
+  by_two : (before : List ℕ) (b : ℕ) → text ≡ before ++ b ∷ [] → ((before ≡ []) ⊎ ((prefix : List ℕ) × (a : ℕ) × (before ≡ prefix ++ a ∷ []))) → without_double_end (front ++ text) ≡ front ++ without_double_end text
+  by_two before b is (inl none) = absurd (omega (arith, long, ap length is, length-append before (b ∷ []), ap length none))
+  by_two before b is (inr q) = subst (λ t. without_double_end (front ++ t) ≡ front ++ without_double_end t) (sym (is ∙ ap (λ t. t ++ b ∷ []) q.2)) (double_end-after_two front q.0 q.1 b)
+
+  by_last : ((text ≡ []) ⊎ ((prefix : List ℕ) × (b : ℕ) × (text ≡ prefix ++ b ∷ []))) → without_double_end (front ++ text) ≡ front ++ without_double_end text
+  by_last (inl none) = absurd (omega (arith, long, ap length none))
+  by_last (inr p) = by_two p.0 p.1 p.2 (list-by_last p.0)
 
 -- a text after whose last byte a newline is put
 pub double_end-pushed : (xs : List ℕ) (a : ℕ) → without_double_end ((xs ++ a ∷ []) ++ newline) ≡ cond (nat_eq 10 a) (xs ++ a ∷ []) ((xs ++ a ∷ []) ++ newline)

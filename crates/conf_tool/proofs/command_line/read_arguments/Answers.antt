@@ -31,7 +31,7 @@ pub returns-in_err-matches-clause-refused : goal.returns-in_err-matches-clause-r
 returns-in_err-matches-clause-refused g c =
     let p = err_from_is_err_and c.from_residual-in_err-matches.result c.from_residual-in_err-matches.ensures.1 in
     let texts = map g.S.AsStr.text c.args.arguments.now in
-    let e = c.in_ok-program.ensures.app in
+    let e = c.in_ok-program.ensures in
     let converted = c.in_err-matches.ensures.kinds (ap is_simple_and_free e ∙ is_free c.args.names) in
     rw (p.1, p.2) (
       subst (λ (a : App). HasKind (fault_of a texts) c.in_err-matches.field-0.0) e converted,
@@ -41,7 +41,7 @@ returns-in_err-matches-clause-refused g c =
 pub returns-clause-refused : goal.returns-clause-refused
 returns-clause-refused g c =
     let texts = map g.S.AsStr.text c.args.arguments.now in
-    let e = c.in_ok-program.ensures.app in
+    let e = c.in_ok-program.ensures in
     let none = ap (λ (a : App). fault_of a texts) (sym e) ∙ c.in_ok-matches.ensures.kinds (ap is_simple_and_free e ∙ is_free c.args.names) in
     let matches_is = (c.in_ok-matches.ensures.matches (ap is_simple e ∙ simple c.args.names)).1 ∙ ap (λ (a : App). subcommand_of a texts) e in
     refused-by_ids c.invocation_of.result (program c.args.names) texts none (subst (λ matches. IfErr c.invocation_of.result (IsIdsFault (option_text (codes "down") matches))) matches_is c.invocation_of.ensures.fault)
@@ -49,6 +49,6 @@ returns-clause-refused g c =
 pub returns-clause-asked : goal.returns-clause-asked
 returns-clause-asked g c =
     let texts = map g.S.AsStr.text c.args.arguments.now in
-    let e = c.in_ok-program.ensures.app in
+    let e = c.in_ok-program.ensures in
     let matches_is = (c.in_ok-matches.ensures.matches (ap is_simple e ∙ simple c.args.names)).1 ∙ ap (λ (a : App). subcommand_of a texts) e in
     IfOk-weaker c.invocation_of.result _ _ (λ invocation asked. subst (λ matches. IsInvocation matches invocation) matches_is asked) c.invocation_of.ensures.asked

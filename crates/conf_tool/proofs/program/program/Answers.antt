@@ -1,24 +1,40 @@
-use Rattle.std.proofs.Common.{Bool, true, false, not, ◌&&◌, ◌≡◌, refl, ap, ap₂, ◌∙◌, rules, arith}
-use Rattle.std.specs.Prelude.{codes}
+use Rattle.std.proofs.Common.{Bool, ℕ, ◌+◌, ◌<◌, length, get_or, true, false, not, ◌&&◌, ◌≡◌, refl, sym, map, take, ap, ap₂, ◌∙◌, arith}
+use Rattle.std.specs.Prelude.{◌==◌}
 use Rattle.std.proofs.lemmas.Bool.{and_parts}
-use Rattle.clap.specs.Words.{App, AddsSubcommand, app_of, new_app, with_subcommand}
-use Rattle.clap.specs.declared.builder.command.Command.{Command}
-use Rattle.conf_tool.specs.Program.{with_mode, requires_mode, with_version}
+use Rattle.std.proofs.lemmas.List.{map_more}
+use Rattle.clap.specs.Words.{App, with_subcommand}
+use Rattle.conf_tool.specs.Program.{mode_command, modes, program}
+use Rattle.conf_tool.specs.declared.mode.Mode.{Mode}
+use Rattle.conf_tool.specs.declared.mode.Mode.TheVariants.{Lines, Check, Rewrite, Undo, Plan}
+use Rattle.conf_tool.specs.declared.program.OptionNames.{OptionNames}
 use Rattle.conf_tool.proofs.program.program.Goals as goal
 
 third : (a b c d : Bool) → (a && (b && (not c && d))) ≡ true → c ≡ false
 third a b c d all = grind (arith, and_parts)
 
--- The program with a mode that is plain. Such a mode has no global argument, which is the third part of being plain.
-adds_mode : (old mode new : Command) (before added : App) → AddsSubcommand old mode new → app_of old ≡ before → app_of mode ≡ added → added.top.is_plain ≡ true → app_of new ≡ with_mode added before
-adds_mode old mode new before added adds old_is mode_is plain =
-    adds.shape (third _ _ _ _ (ap (λ (a : App). a.top.is_plain) mode_is ∙ plain)) ∙ ap₂ (λ (a b : App). with_subcommand a b.top) old_is mode_is
+-- the program with its first modes
+abbrev with_modes : OptionNames → ℕ → App
+with_modes names i = record { top = record ((program names).top) { is_leaf = i == 0 }; subs = map (mode_command names) (take i modes) }
 
-pub returns-clause-app : goal.returns-clause-app
-returns-clause-app c =
-    let begun : app_of c.subcommand_required.result ≡ requires_mode (with_version (new_app (codes "confscript"))) = search rules in
-    let lines_is = adds_mode _ _ _ _ _ c.in_ok-subcommand.ensures begun c.in_ok-lines.ensures.app refl in
-    let check_is = adds_mode _ _ _ _ _ c.in_ok-subcommand-2.ensures lines_is c.in_ok-check.ensures.app refl in
-    let rewrite_is = adds_mode _ _ _ _ _ c.in_ok-subcommand-3.ensures check_is c.in_ok-rewrite.ensures.app refl in
-    let undo_is = adds_mode _ _ _ _ _ c.in_ok-subcommand-4.ensures rewrite_is c.in_ok-undo.ensures.app refl in
-    adds_mode _ _ _ _ _ c.in_ok-program.ensures undo_is c.in_ok-plan.ensures.app refl
+one_more : (i : ℕ) → (i + 1 == 0) ≡ false
+one_more i = grind arith
+
+with_one_more : (names : OptionNames) (i : ℕ) (d : Mode) → i < length modes → with_subcommand (with_modes names i) (mode_command names (get_or modes i d)) ≡ with_modes names (i + 1)
+with_one_more names i d lt =
+    ap₂ (λ leaf subs. record { top = record ((program names).top) { is_leaf = leaf }; subs = subs }) (sym (one_more i)) (sym (map_more (mode_command names) modes i d lt))
+
+is_plain : (names : OptionNames) (mode : Mode) → (mode_command names mode).is_plain ≡ true
+is_plain names Lines = refl
+is_plain names Check = refl
+is_plain names Rewrite = refl
+is_plain names Undo = refl
+is_plain names Plan = refl
+
+-- A mode that is plain has no global argument, which is the third part of being plain.
+pub loop-mode-preserved : goal.loop-mode-preserved
+loop-mode-preserved c =
+    let one_of_them : c.loop-mode.mode-index < length modes = omega arith in
+    let mode_is = c.in_ok-mode_command.ensures in
+    let local = third _ _ _ _ (ap (λ (a : App). a.top.is_plain) mode_is ∙ is_plain c.args.names _) in
+    c.in_ok-program.ensures.shape local ∙ ap₂ (λ (a b : App). with_subcommand a b.top) c.loop-mode.invariant mode_is
+    ∙ with_one_more c.args.names c.loop-mode.mode-index _ one_of_them

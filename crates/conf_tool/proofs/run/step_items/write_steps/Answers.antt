@@ -4,10 +4,10 @@ use Rattle.std.proofs.lemmas.Result.{err_from_is_err_and}
 use Rattle.std.proofs.lemmas.Option.{slice_get-get_or}
 use Rattle.dd_file.specs.RewriterState.{Continues, BreaksOff}
 use Rattle.conf_change.specs.declared.step.Step.TheVariants.{LeaveJoint}
-use Rattle.conf_tool.specs.Reports.{answered_text}
+use Rattle.conf_tool.specs.Reports.{answered_text, session_after_all}
 use Rattle.conf_tool.proofs.ModeInput.Faults.{or-false}
 use Rattle.conf_tool.proofs.Modes.Rewrite.{ok-by, err-by}
-use Rattle.conf_tool.proofs.Modes.Undo.{no-steps, steps-more, steps-stopped, steps-broken, steps-over}
+use Rattle.conf_tool.proofs.Modes.Undo.{no-steps, steps-more, steps-stopped, steps-broken, steps-over, steps-ran}
 use Rattle.conf_tool.proofs.run.step_items.write_steps.Goals as goal
 
 pub loop-step-preserved : goal.loop-step-preserved
@@ -48,3 +48,13 @@ pub returns-clause-written : goal.returns-clause-written
 returns-clause-written g c =
     let some : length c.args.steps.now ≡ 0 → ⊥ = search (rules, arith) in
     steps-over _ _ _ _ _ _ c.args.steps.now c.loop-step.step-index (length c.args.steps.now) refl some c.loop-step-test.false c.loop-step.invariant.so_far
+
+pub returns-then-is_empty-clause-session : goal.returns-then-is_empty-clause-session
+returns-then-is_empty-clause-session g c =
+    let none : length c.args.steps.now ≡ 0 = search rules in
+    ok-by c.write_comment.result (λ same. same ∙ sym (ap (session_after_all c.args.session.now) (no-steps c.args.steps.now none))) c.write_comment.ensures.session
+
+pub returns-clause-session : goal.returns-clause-session
+returns-clause-session g c =
+    let some : length c.args.steps.now ≡ 0 → ⊥ = search (rules, arith) in
+    steps-ran _ _ _ _ _ _ c.args.steps.now c.loop-step.step-index (length c.args.steps.now) refl some c.loop-step-test.false c.loop-step.invariant.so_far

@@ -1,0 +1,326 @@
+-- That a session which runs the script of the pairs takes the steps of each path.
+use Rattle.std.proofs.Common.{◌≡◌, ◌≤◌, ◌<◌, ◌^◌, ℕ, Bool, true, false, List, [], ◌∷◌, ◌++◌, map, length, refl, sym, ◌∙◌, ap, subst}
+use Rattle.std.specs.Prelude.{Option, Some, None, Result, Ok, Err, codes, if◌then◌else◌, ◌↔◌}
+use Rattle.std.specs.List.{All, AllZip}
+use Rattle.std.proofs.lemmas.List.{append-nil}
+use Rattle.std.proofs.lemmas.List.Elements.{All-nil, All-cons, All-head, All-tail}
+use Rattle.quorum_sets.specs.Ids.{Ids, ascending}
+use Rattle.ascii_text.specs.Lines.{newline, text_of}
+use Rattle.ascii_text.specs.WhiteSpace.{trimmed, without_leading_space}
+use Rattle.ascii_text.proofs.Offered.{ends-before_blank}
+use Rattle.dd_file.specs.DirectiveText.{DirectiveText}
+use Rattle.dd_file.specs.Position.{longest_input}
+use Rattle.dd_file.specs.Grammar.{script_of}
+use Rattle.dd_file.specs.Rewritten.{Entry, rewritten_text}
+use Rattle.dd_file.specs.Laws.{DirectiveIsWellFormed, WrittenScript, IsSameItem, AreReadAgain, AreOver, LastIsRemoved, ReadAgain, directive_in, directives_of}
+use Rattle.dd_file.specs.declared.item.Item.{Item}
+use Rattle.dd_file.specs.declared.item.Item.TheVariants.{Comment, Blank, Directive}
+use Rattle.conf_change.specs.Changer.{begun_with}
+use Rattle.conf_change.specs.Configuration.{Configuration, is_valid, has_voter, is_restorable}
+use Rattle.conf_change.specs.ConfState.{ConfStateLists, Describes, lists_of, restored}
+use Rattle.conf_change.specs.ConfStateLine.{conf_state_text, conf_state_in, line_in}
+use Rattle.conf_change.proofs.Offered.{DenotesConfState-printed, ParsesToNumbers-spaced, conf_state_in-ok, trimmed-bracketed_line}
+use Rattle.conf_change.specs.Text.{spaced_numbers}
+use Rattle.conf_change.specs.declared.step.Step.{Step}
+use Rattle.conf_plan.specs.PathBy.{Serves, has_path, path_by}
+use Rattle.conf_plan.specs.Alive.{ChangesOneLearnerFirst}
+use Rattle.conf_plan.specs.PlanSteps.{HasU64Ids}
+use Rattle.conf_plan.specs.Run.{IsRun, IsRunWith, IsValidWithVoter}
+use Rattle.conf_plan.specs.declared.strategy.Strategy.{Strategy}
+use Rattle.conf_plan.specs.declared.strategy.Strategy.TheVariants.{Shortest, LearnersFirst, OneAtATime}
+use Rattle.conf_session.specs.SessionState.{SessionState, current}
+use Rattle.conf_session.specs.Commands.{Answer, Row, answer, answered, after_answers, if_read, reply_of, restore_reply, row_of}
+use Rattle.conf_session.specs.Input.{conf_state_read}
+use Rattle.conf_session.specs.Reply.{restored_with}
+use Rattle.conf_session.specs.Values.{read_arguments}
+use Rattle.conf_session.proofs.Offered.{same-answer}
+use Rattle.plan_output.specs.Stages.{stalls}
+use Rattle.conf_tool.specs.Laws.{HasU64Lists, HasU64Pair, LeadsThrough, NoPair, WithPath, WithoutPath, PlanScriptLeads, RestoresAndTakes, pairs_in}
+use Rattle.conf_tool.specs.Outputs.{planned_output}
+use Rattle.conf_tool.specs.Pairs.{NumberedLine}
+use Rattle.conf_tool.specs.PlanAnswer.{ids_down, stall_note, path_between}
+use Rattle.conf_tool.specs.PlanScript.{stall_text, note_items, restore_command, restore_directive, script_items, default_session}
+use Rattle.conf_tool.specs.Reports.{actual_for, session_after, answered_entries}
+use Rattle.conf_tool.specs.UndoScript.{step_directive, step_items, TakesSteps}
+use Rattle.conf_tool.specs.declared.plan_options.PlanOptions.{PlanOptions}
+use Rattle.conf_tool.specs.declared.plan_options.PlanOutput.TheVariants.{Script}
+use Rattle.conf_tool.proofs.Theorems.PairByPair.{Pair, AreValid, all-valid}
+use Rattle.conf_tool.proofs.Theorems.PlanScript.{Answered, items_with, gap_with, all_items, planned-script, again-read, script-clean}
+use Rattle.conf_tool.proofs.Theorems.RewrittenScript.{ActualIsValid}
+use Rattle.conf_tool.proofs.Theorems.ServingPaths.{AllServe}
+use Rattle.conf_tool.proofs.Theorems.UndoneScript.{ChangesAreRead, directive_for, run-comes}
+
+-- ---- the directive that restores a configuration
+abbrev restore_for : Configuration → DirectiveText
+restore_for c = record {
+  line = 1;
+  command = codes "restore";
+  arguments = [];
+  input = trimmed (text_of (conf_state_text (lists_of c) ∷ []));
+  expected = [];
+  raw_lines = codes "restore" ∷ conf_state_text (lists_of c) ∷ [];
+}
+
+restore-is : (c : Configuration) → restore_directive c ≡ Directive (restore_for c)
+unfolding restore_directive
+restore-is c = refl
+
+-- its input is the line of the configuration
+trimmed-line : (saved : ConfStateLists) → trimmed (conf_state_text saved) ≡ conf_state_text saved
+trimmed-line saved = trimmed-bracketed_line (spaced_numbers saved.voters) (spaced_numbers saved.voters_outgoing) (spaced_numbers saved.learners) (spaced_numbers saved.learners_next) saved.auto_leave
+
+input-line : (saved : ConfStateLists) → trimmed (text_of (conf_state_text saved ∷ [])) ≡ conf_state_text saved
+input-line saved =
+    ap trimmed (append-nil (conf_state_text saved ++ newline)) ∙ ap without_leading_space (ends-before_blank (conf_state_text saved) newline refl) ∙ trimmed-line saved
+
+line-read : (c : Configuration) → HasU64Lists c → conf_state_in (trimmed (text_of (conf_state_text (lists_of c) ∷ []))) ≡ Some (lists_of c)
+line-read c small =
+    ap conf_state_in (input-line (lists_of c))
+    ∙ conf_state_in-ok (conf_state_text (lists_of c)) (lists_of c)
+    (DenotesConfState-printed (lists_of c) (ParsesToNumbers-spaced _ small.incoming) (ParsesToNumbers-spaced _ small.outgoing) (ParsesToNumbers-spaced _ small.learners) (ParsesToNumbers-spaced _ small.learners_next))
+
+abbrev IsRestored : Type 0
+IsRestored = (saved : ConfStateLists) (c : Configuration) → ((restored saved ≡ Some c) ↔ (Describes saved c × (is_restorable c ≡ true)))
+
+abbrev DescribesOwn : Type 0
+DescribesOwn = (c : Configuration) → Describes (lists_of c) c
+
+-- the answer to a row whose input is a saved configuration that is read so
+abbrev answer_read : SessionState → Option ConfStateLists → Answer
+answer_read session read =
+    let row = row_of (codes "restore") in
+    answered session (if_read (λ input. if_read (λ values. reply_of row.command session input values) (read_arguments row.parameters [])) (conf_state_read read))
+
+restore-answer : IsRestored → DescribesOwn → (session : SessionState) (c : Configuration) → HasU64Lists c → is_restorable c ≡ true →
+    answer session (restore_for c) ≡ answered session (restored_with (begun_with session.changer.tracker.floor session.changer.last_index c))
+restore-answer restored_is own session c small restorable =
+    let made : restored (lists_of c) ≡ Some c = (restored_is (lists_of c) c).1 (own c, restorable) in
+    ap (answer_read session) (line-read c small) ∙ ap (λ r. answered session (restore_reply session.changer r)) made
+
+restored-current : IsRestored → DescribesOwn → (session : SessionState) (c : Configuration) → HasU64Lists c → is_restorable c ≡ true → current (answer session (restore_for c)).session ≡ c
+restored-current restored_is own session c small restorable = ap (λ (a : Answer). current a.session) (restore-answer restored_is own session c small restorable)
+
+-- ---- the directives of all pairs
+abbrev directives_with : Configuration → Answered → List DirectiveText
+directives_with now (Err why) = []
+directives_with now (Ok steps) = restore_for now ∷ map directive_for steps
+
+abbrev own_directives : PlanOptions → List Pair → List DirectiveText
+own_directives options [] = []
+own_directives options (pair ∷ pairs) = directives_with pair.0 (path_between options pair.0 pair.1) ++ own_directives options pairs
+
+directives-append : (xs ys : List Item) → directives_of (xs ++ ys) ≡ directives_of xs ++ directives_of ys
+directives-append [] ys = refl
+directives-append (Comment lines ∷ xs) ys = directives-append xs ys
+directives-append (Blank lines ∷ xs) ys = directives-append xs ys
+directives-append (Directive directive ∷ xs) ys = ap (λ ds. directive ∷ ds) (directives-append xs ys)
+
+directives-steps : (steps : List Step) → directives_of (map step_directive steps) ≡ map directive_for steps
+directives-steps [] = refl
+directives-steps (step ∷ steps) = ap (λ ds. directive_for step ∷ ds) (directives-steps steps)
+
+directives-items : (steps : List Step) → directives_of (step_items steps) ≡ map directive_for steps
+directives-items [] = refl
+directives-items (step ∷ steps) = directives-steps (step ∷ steps)
+
+directives-note : (note : Option (List ℕ)) → directives_of (note_items note) ≡ []
+directives-note None = refl
+directives-note (Some note) = refl
+
+directives-script : (note : Option (List ℕ)) (now : Configuration) (steps : List Step) → directives_of (script_items note now steps) ≡ restore_for now ∷ map directive_for steps
+directives-script note now steps =
+    directives-append (note_items note) (restore_directive now ∷ step_items steps)
+    ∙ ap (λ ds. ds ++ directives_of (restore_directive now ∷ step_items steps)) (directives-note note)
+    ∙ ap (λ item. directives_of (item ∷ step_items steps)) (restore-is now)
+    ∙ ap (λ ds. restore_for now ∷ ds) (directives-items steps)
+
+directives-pair : (down : Option Ids) (now : Configuration) (path : Answered) → directives_of (items_with down now path) ≡ directives_with now path
+directives-pair down now (Err why) = refl
+directives-pair down now (Ok steps) = directives-script (stall_note down now steps) now steps
+
+directives-gap : (path : Answered) → directives_of (gap_with path) ≡ []
+directives-gap (Err why) = refl
+directives-gap (Ok []) = refl
+directives-gap (Ok (step ∷ steps)) = refl
+
+directives-all : (options : PlanOptions) (pairs : List Pair) → directives_of (all_items options pairs) ≡ own_directives options pairs
+directives-all options [] = refl
+directives-all options (pair ∷ []) = directives-pair options.down pair.0 (path_between options pair.0 pair.1) ∙ sym (append-nil (directives_with pair.0 (path_between options pair.0 pair.1)))
+directives-all options (pair ∷ next ∷ pairs) =
+    let path = path_between options pair.0 pair.1 in
+    let items = items_with options.down pair.0 path in
+    directives-append (items ++ gap_with path) (all_items options (next ∷ pairs))
+    ∙ ap (λ ds. ds ++ directives_of (all_items options (next ∷ pairs)))
+    (directives-append items (gap_with path) ∙ ap (λ ds. directives_of items ++ ds) (directives-gap path) ∙ append-nil (directives_of items) ∙ directives-pair options.down pair.0 path)
+    ∙ ap (λ ds. directives_with pair.0 path ++ ds) (directives-all options (next ∷ pairs))
+
+-- ---- they lead through the pairs
+-- what is known of a pair
+record IsKnown (options : PlanOptions) (pair : Pair) : Type 0 where
+  valid : AreValid pair
+  u64_ids : HasU64Pair options pair
+
+abbrev AreRuns : Type 0
+AreRuns = (options : PlanOptions) (pair : Pair) (steps : List Step) → AreValid pair → path_between options pair.0 pair.1 ≡ Ok steps → (is_restorable pair.0 ≡ true) × IsRun pair.0 steps pair.1
+
+own-leads : IsRestored → DescribesOwn → ChangesAreRead → AreRuns → (options : PlanOptions) (session : SessionState) (pairs : List Pair) → All (IsKnown options) pairs →
+    LeadsThrough options session (own_directives options pairs) pairs
+own-leads restored_is own read runs options session [] known = NoPair session
+own-leads restored_is own read runs options session (pair ∷ pairs) known =
+    by_path (path_between options pair.0 pair.1) refl (λ after. own-leads restored_is own read runs options after pairs (All-tail (IsKnown options) pair pairs known))
+  where
+    this : IsKnown options pair
+    this = All-head (IsKnown options) pair pairs known
+
+    by_path : (path : Answered) → path_between options pair.0 pair.1 ≡ path → ((after : SessionState) → LeadsThrough options after (own_directives options pairs) pairs) →
+        LeadsThrough options session (directives_with pair.0 path ++ own_directives options pairs) (pair ∷ pairs)
+    by_path (Err why) is rest = WithoutPath session (own_directives options pairs) pair pairs why is (rest session)
+    by_path (Ok steps) is rest =
+        let run = runs options pair steps this.valid is in
+        let first = restore_for pair.0 in
+        let restored_to = restored-current restored_is own session pair.0 this.u64_ids.now run.0 in
+        let comes = run-comes read (answer session first).session steps pair.1 (this.u64_ids.steps steps is) (subst (λ c. IsRun c steps pair.1) (sym restored_to) run.1) in
+        WithPath session first (map directive_for steps) (own_directives options pairs) pair pairs steps is
+        (record { command = refl; restored = restored_to; taken = comes.taken; there = comes.there })
+        (rest (after_answers session (first ∷ map directive_for steps)))
+
+-- ---- and so do those that are read again
+-- a directive of the same command, which each session answers alike
+record IsSame (directive again : DirectiveText) : Type 0 where
+  command : again.command ≡ directive.command
+  answers : (session : SessionState) → answer session again ≡ answer session directive
+
+none-left : (session : SessionState) (items : List Item) → [] ≡ answered_entries session items → items ≡ []
+none-left session [] e = refl
+none-left session (item ∷ items) e = cc
+
+-- the item of the first entry, and the entries after it
+abbrev first_item : Item → List Entry → Item
+first_item default [] = default
+first_item default (entry ∷ entries) = entry.item
+
+abbrev after_first : List Entry → List Entry
+after_first [] = []
+after_first (entry ∷ entries) = entries
+
+again-same : (session : SessionState) (items : List Item) (entries : List Entry) (again : List Item) → entries ≡ answered_entries session items → AreReadAgain entries again →
+    AllZip IsSame (directives_of items) (directives_of again)
+again-same session [] entries again e AreOver = tt
+again-same session (one ∷ items) entries again e AreOver = cc
+again-same session [] entries again e (LastIsRemoved actual) = cc
+again-same session (one ∷ items) entries again e (LastIsRemoved actual) =
+    let item_is : Blank ([] ∷ []) ≡ one = ap (first_item one) e in
+    let ended : items ≡ [] = none-left (session_after session one) items (ap after_first e) in
+    rw (sym item_is, ended) tt
+again-same session [] entries again e (ReadAgain n item other actual more others is read) = cc
+again-same session (one ∷ items) entries again e (ReadAgain n item other actual more others is read) =
+    by_item one (subst (λ i. IsSameItem n actual i other) (ap (first_item one) e) is) (again-same (session_after session one) items more others (ap after_first e) read)
+  where
+    by_item : (one : Item) → IsSameItem n actual one other → AllZip IsSame (directives_of items) (directives_of others) → AllZip IsSame (directives_of (one ∷ items)) (directives_of (other ∷ others))
+    by_item (Comment lines) same rest = rw same.1 rest
+    by_item (Blank lines) same rest = rw same.1 rest
+    by_item (Directive directive) same rest =
+        rw same.1 (record { command = same.2.command; answers = λ session. same-answer n actual directive same.0 session same.2 }, rest)
+
+-- directives that are read again take the steps
+record TakesAgain (session : SessionState) (directives again : List DirectiveText) (steps : List Step) : Type 0 where
+  taken : TakesSteps session again steps
+  after : after_answers session again ≡ after_answers session directives
+
+takes-again : (session : SessionState) (directives again : List DirectiveText) (steps : List Step) → AllZip IsSame directives again → TakesSteps session directives steps → TakesAgain session directives again steps
+takes-again session [] [] [] same taken = record { taken = tt; after = refl }
+takes-again session [] [] (step ∷ steps) same taken = absurd taken
+takes-again session [] (other ∷ again) steps same taken = absurd same
+takes-again session (directive ∷ directives) [] steps same taken = absurd same
+takes-again session (directive ∷ directives) (other ∷ again) [] same taken = absurd taken
+takes-again session (directive ∷ directives) (other ∷ again) (step ∷ steps) same taken =
+    let answers = same.0.answers session in
+    let after = ap (λ (a : Answer). a.session) answers in
+    let rest = takes-again (answer session directive).session directives again steps same.1 taken.1 in
+    let moved = subst (λ s. TakesSteps s again steps × (after_answers s again ≡ after_answers (answer session directive).session directives)) (sym after) (rest.taken, rest.after) in
+    record { taken = ((taken.0.0, taken.0.1, answers ∙ taken.0.2), moved.0); after = moved.1 }
+
+-- directives that are read again, in two parts
+record AreParts (xs ys again : List DirectiveText) : Type 0 where
+  first : List DirectiveText
+  second : List DirectiveText
+  whole : again ≡ first ++ second
+  same_first : AllZip IsSame xs first
+  same_second : AllZip IsSame ys second
+
+parts-of : (xs ys again : List DirectiveText) → AllZip IsSame (xs ++ ys) again → AreParts xs ys again
+parts-of [] ys again same = record { first = []; second = again; whole = refl; same_first = tt; same_second = same }
+parts-of (x ∷ xs) ys [] same = absurd same
+parts-of (x ∷ xs) ys (z ∷ again) same =
+    let rest = parts-of xs ys again same.1 in
+    record { first = z ∷ rest.first; second = rest.second; whole = ap (λ ds. z ∷ ds) rest.whole; same_first = (same.0, rest.same_first); same_second = rest.same_second }
+
+leads-again : (options : PlanOptions) (session : SessionState) (directives again : List DirectiveText) (pairs : List Pair) → AllZip IsSame directives again →
+    LeadsThrough options session directives pairs → LeadsThrough options session again pairs
+leads-again options session [] [] pairs same (NoPair at) = NoPair session
+leads-again options session [] (other ∷ again) pairs same (NoPair at) = absurd same
+leads-again options session directives [] pairs same (WithPath at first others more pair rest steps path takes leads) = absurd same
+leads-again options session directives (other ∷ again) pairs same (WithPath at first others more pair rest steps path takes leads) =
+    let parts = parts-of others more again same.1 in
+    let answers = same.0.answers session in
+    let after = ap (λ (a : Answer). a.session) answers in
+    let taken = takes-again (answer session first).session others parts.first steps parts.same_first takes.taken in
+    let moved = subst (λ s. TakesSteps s parts.first steps × (after_answers s parts.first ≡ after_answers session (first ∷ others))) (sym after) (taken.taken, taken.after) in
+    let left = leads-again options (after_answers session (first ∷ others)) more parts.second rest parts.same_second leads in
+    subst (λ ds. LeadsThrough options session (other ∷ ds) (pair ∷ rest)) (sym parts.whole)
+    (WithPath session other parts.first parts.second pair rest steps path
+    (record { command = same.0.command ∙ takes.command; restored = ap (λ (a : Answer). current a.session) answers ∙ takes.restored; taken = moved.0; there = ap current moved.1 ∙ takes.there })
+    (subst (λ s. LeadsThrough options s parts.second rest) (sym moved.1) left))
+leads-again options session directives again pairs same (WithoutPath at own pair rest why path leads) = WithoutPath session again pair rest why path (leads-again options session directives again rest same leads)
+
+-- ---- each path is a run
+abbrev PathsAreRuns : Type 0
+PathsAreRuns = (strategy : Strategy) (down : Ids) (now target : Configuration) → IsValidWithVoter now → IsValidWithVoter target → has_path strategy now target ≡ true → IsRun now (path_by strategy down now target) target
+
+between-runs : PathsAreRuns → AreRuns
+between-runs runs options pair steps valid is = by (has_voter pair.0) (has_voter pair.1) (has_path options.strategy pair.0 pair.1) refl refl refl is
+  where
+    path : List Step
+    path = path_by options.strategy (ids_down options.down) pair.0 pair.1
+
+    by : (a b c : Bool) → has_voter pair.0 ≡ a → has_voter pair.1 ≡ b → has_path options.strategy pair.0 pair.1 ≡ c →
+        ◌≡◌ {A = Answered} (if a then (if b then (if c then Ok path else Err (codes "the target is joint")) else Err (codes "the target has no voter")) else Err (codes "the current configuration has no voter")) (Ok steps) →
+        (is_restorable pair.0 ≡ true) × IsRun pair.0 steps pair.1
+    by false b c x y z e = let wrong : ⊥ = cc in absurd wrong
+    by true false c x y z e = let wrong : ⊥ = cc in absurd wrong
+    by true true false x y z e = let wrong : ⊥ = cc in absurd wrong
+    by true true true x y z e =
+        let same : path ≡ steps = cc in
+        (simp (valid.now, x) refl, subst (λ taken. IsRun pair.0 taken pair.1) same (runs options.strategy (ids_down options.down) pair.0 pair.1 (record { valid = valid.now; voter = x }) (record { valid = valid.target; voter = y }) z))
+
+known-pairs : (options : PlanOptions) (pairs : List Pair) → All AreValid pairs → All (HasU64Pair options) pairs → All (IsKnown options) pairs
+known-pairs options [] valid small = All-nil (IsKnown options)
+known-pairs options (pair ∷ pairs) valid small =
+    All-cons (IsKnown options) pair pairs (record { valid = All-head AreValid pair pairs valid; u64_ids = All-head (HasU64Pair options) pair pairs small })
+    (known-pairs options pairs (All-tail AreValid pair pairs valid) (All-tail (HasU64Pair options) pair pairs small))
+
+-- a run with more that is known of its steps
+run-of : (Holds : Configuration → Step → Configuration → Type 0) (before after : Configuration) (steps : List Step) → IsRunWith Holds before steps after → IsRun before steps after
+run-of Holds before after [] run = run
+run-of Holds before after (step ∷ steps) run = (run.0, run.1.0, run-of Holds run.0 after steps run.2)
+
+serves-run : (strategy : Strategy) (down : Ids) (now : Configuration) (steps : List Step) (target : Configuration) → Serves strategy down now steps target → IsRun now steps target
+serves-run Shortest down now steps target serves = serves.best.run
+serves-run LearnersFirst down now steps target serves = serves.run
+serves-run OneAtATime down now steps target serves = run-of ChangesOneLearnerFirst now target steps serves.run
+
+pub paths-run : AllServe → PathsAreRuns
+paths-run serve strategy down now target voter_now voter_target path = serves-run strategy down now (path_by strategy down now target) target (serve strategy down now target voter_now voter_target path)
+
+pub script-leads : WrittenScript → DirectiveIsWellFormed → ActualIsValid → IsRestored → DescribesOwn → ChangesAreRead → PathsAreRuns → PlanScriptLeads
+script-leads written given holds restored_is own read runs = record {
+  clean = script-clean written given holds;
+  leads = λ options input script small fits.
+      let pairs = pairs_in input in
+      let text = planned-script holds options input script in
+      let again = again-read written given holds options pairs (subst (λ t. length t ≤ longest_input) text fits) in
+      let same = again-same default_session (all_items options pairs) _ _ refl again.1 in
+      let leads = own-leads restored_is own read (between-runs runs) options default_session pairs (known-pairs options pairs (all-valid input) small) in
+      subst (λ t. LeadsThrough options default_session (directives_of (script_of t).items) pairs) (sym text)
+      (leads-again options default_session (own_directives options pairs) _ pairs (subst (λ ds. AllZip IsSame ds (directives_of (script_of (rewritten_text (answered_entries default_session (all_items options pairs)))).items)) (directives-all options pairs) same) leads);
+}
