@@ -29,8 +29,8 @@ int main(void) {
     }
     printf("%.*s\n", (int)applied.number, (const char *)after);
 
-    const uint64_t voters[] = {2, 3, 5}, ids[] = {2, 3}, acknowledged[] = {9, 7};
-    struct confscript_answer committed = confscript_committed(voters, 3, voters, 0, ids, 2, acknowledged, 2);
-    printf("committed %llu\n", (unsigned long long)committed.number);
-    return committed.status != CONFSCRIPT_DONE;
+    /* 2 has acknowledged the index 9, 3 the index 7, and 5 none yet. The configuration is not joint. */
+    uint64_t acknowledged[] = {9, 7, 0}, outgoing[1];
+    printf("committed %llu\n", (unsigned long long)confscript_committed(acknowledged, 3, outgoing, 0));
+    return 0;
 }

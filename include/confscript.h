@@ -9,13 +9,17 @@
  *     leave-joint
  * docs/SPECIFICATION.md has both forms, and what each change does.
  *
- * Each call but confscript_version returns a status and a number. A call keeps no state: it reads its arguments, and
- * writes only to `out`. The caller must keep these rules, since no call checks them:
+ * A program that embeds the library passes numbers instead: an index or a vote of each voter, and a configuration as an
+ * array (enum confscript_part). Such a call allocates nothing while no list has more than eight items.
+ *
+ * Each call but confscript_version and confscript_committed returns a status and a number. A call keeps no state: it
+ * reads its arguments, and writes only to `out`; confscript_committed reorders its arguments. The caller must keep these
+ * rules, since no call checks them:
  * - Each pointer is aligned and not NULL, even for no elements, and points to as many elements as the count after it
  *   says. For no elements any pointer will do that is aligned and not NULL: a C++ caller writes
  *   `v.empty() ? &one : v.data()`.
- * - `out` overlaps no other argument. While the call runs, nothing else uses `out`, and nothing changes what the other
- *   pointers point to.
+ * - `out` overlaps no other argument, and the two arguments of confscript_committed do not overlap. While the call runs,
+ *   nothing else uses these, and nothing changes what the other pointers point to.
  * - malloc, realloc and free belong to one allocator, which aligns a block as malloc of the C library does.
  * - No call comes from a signal handler, or from the forked child of a process with threads. Otherwise any thread may
  *   call, also at the same time as others.
@@ -41,28 +45,29 @@ extern "C" {
 enum confscript_status {
     /* The call did its work. Each call below says what the number is. */
     CONFSCRIPT_DONE = 0,
-    /* The text does not fit into `out`. Nothing is written. The number is the length of the text in bytes. */
+    /* The result does not fit into `out`. Nothing is written. The number is the length of the result, as if it did. */
     CONFSCRIPT_TOO_SMALL = 1,
     /* Memory ran out. Nothing is written. */
     CONFSCRIPT_NO_MEMORY = 2,
 
     /* A text is not a ConfState line. The number is 1 for the first text of the call, and 2 for the second. */
     CONFSCRIPT_BAD_CONF_STATE = 3,
-    /* confscript_check: a list of the line names an id twice. confscript_committed and _vote: `ids` does. */
+    /* A list names an id twice. confscript_restore and _step: the number is the id, the first such one of the first such
+       list. confscript_check: 0. */
     CONFSCRIPT_REPEATED_ID = 4,
     /* The line names no configuration that the call accepts. confscript_check says why, with one exception: it accepts
        a valid configuration with members but no incoming voter, and confscript_apply does not. The number is as for
        CONFSCRIPT_BAD_CONF_STATE. */
     CONFSCRIPT_NOT_A_CONFIGURATION = 5,
-    /* There is no plan, since a configuration has no incoming voter. The number is 1 for the first, and 2 for the
-       second. */
+    /* confscript_plan: there is no plan, since a configuration has no incoming voter. The number is 1 for the first, and
+       2 for the second. confscript_restore and _step: the configuration has members but no incoming voter. */
     CONFSCRIPT_NO_VOTER = 6,
     /* A line of the plan is not a step. The number is that of the line, counted from 1. */
     CONFSCRIPT_BAD_LINE = 7,
     /* The plan has a fifth line. */
     CONFSCRIPT_TOO_MANY_STEPS = 8,
 
-    /* confscript_apply: a step is refused. The number is that of the step, counted from 1. */
+    /* confscript_apply and _step: a step is refused. confscript_apply: the number is that of the step, counted from 1. */
     CONFSCRIPT_ALREADY_JOINT = 9,
     CONFSCRIPT_ZERO_VOTER_JOINT = 10,
     CONFSCRIPT_NOT_JOINT = 11,
@@ -70,7 +75,8 @@ enum confscript_status {
     CONFSCRIPT_REMOVED_ALL_VOTERS = 13,
     CONFSCRIPT_MORE_THAN_ONE_VOTER = 14,
 
-    /* confscript_check: the first of these that is broken, in this order. */
+    /* confscript_check, _restore and _step: the first of these that is broken, in this order. confscript_restore and
+       _step: for 16 to 19 the number is the least id that breaks it. */
     CONFSCRIPT_ZERO_ID = 15,                    /* a set holds the id 0 */
     CONFSCRIPT_NEXT_NOT_OUTGOING = 16,          /* a next learner is not an outgoing voter */
     CONFSCRIPT_NEXT_AND_INCOMING = 17,          /* a next learner is an incoming voter */
@@ -78,9 +84,10 @@ enum confscript_status {
     CONFSCRIPT_NOT_JOINT_BUT_NEXT = 19,         /* next learners without outgoing voters; 16 comes before it */
     CONFSCRIPT_NOT_JOINT_BUT_AUTO_LEAVE = 20,   /* auto-leave without outgoing voters */
 
-    /* confscript_committed and _vote: there are more or fewer values than ids. */
+    /* confscript_restore and _step: the array does not have the form of enum confscript_part. It has fewer than six
+       numbers, its first number is neither 0 nor 1, or its length is not what the counts make it. */
     CONFSCRIPT_DIFFERENT_LENGTHS = 21,
-    /* confscript_vote: a byte is neither 0 nor 1. */
+    /* confscript_vote: a byte is not one of enum confscript_ballot. */
     CONFSCRIPT_BAD_VOTE = 22,
     /* confscript_may_be_down: the voters are no quorum even with none down. */
     CONFSCRIPT_NO_QUORUM = 23,
@@ -89,7 +96,13 @@ enum confscript_status {
     CONFSCRIPT_BAD_STRATEGY = 24,
     /* confscript_plan: no plan that changes one member a step leads into a joint configuration, unless it equals the
        first. */
-    CONFSCRIPT_JOINT_TARGET = 25
+    CONFSCRIPT_JOINT_TARGET = 25,
+
+    /* confscript_step: the step is not one of enum confscript_step_kind. */
+    CONFSCRIPT_BAD_STEP = 26,
+    /* confscript_step: the kind of a change is not one of enum confscript_change_kind. The number is that of the change,
+       counted from 1. */
+    CONFSCRIPT_BAD_CHANGE = 27
 };
 
 /* How confscript_plan goes from one configuration to another. */
@@ -99,11 +112,60 @@ enum confscript_strategy {
     CONFSCRIPT_ONE_AT_A_TIME = 2   /* a step changes one member; no plan leads into a joint configuration */
 };
 
+/* The vote of a voter. */
+enum confscript_ballot {
+    CONFSCRIPT_VOTED_NO = 0,
+    CONFSCRIPT_VOTED_YES = 1,
+    CONFSCRIPT_NOT_VOTED = 2
+};
+
 /* The number of confscript_vote, if it is done. */
 enum confscript_vote_result {
-    CONFSCRIPT_VOTE_PENDING = 0, /* it depends on ids that have not voted */
+    CONFSCRIPT_VOTE_PENDING = 0, /* it depends on voters that have not voted */
     CONFSCRIPT_VOTE_LOST = 1,
     CONFSCRIPT_VOTE_WON = 2
+};
+
+/*
+ * A configuration in numbers is an array of uint64_t that begins with these six and continues with the ids that they
+ * count, in the same order. The configuration (1 2)&&(1 2 3) learners_next=(3), left automatically, in which no member
+ * begins afresh, is
+ *     1, 2, 3, 0, 1, 0,  1, 2,  1, 2, 3,  3
+ * A call accepts the ids of a list in any order, and writes them in ascending order. The ids that begin afresh belong to
+ * the step that led to the configuration: a call that is passed it ignores them.
+ */
+enum confscript_part {
+    CONFSCRIPT_AUTO_LEAVE = 0,    /* 1 if the joint configuration is left automatically, else 0 */
+    CONFSCRIPT_INCOMING = 1,      /* how many voters there are, or in a joint configuration incoming voters */
+    CONFSCRIPT_OUTGOING = 2,      /* how many outgoing voters */
+    CONFSCRIPT_LEARNERS = 3,      /* how many learners */
+    CONFSCRIPT_LEARNERS_NEXT = 4, /* how many outgoing voters that become learners when it is left */
+    CONFSCRIPT_FRESH = 5,         /* how many members that begin afresh: with match 0, and next at the last index */
+    CONFSCRIPT_IDS = 6            /* the first id, if there is one */
+};
+
+/* What a change does to its id. The numbers are those of raftpb.ConfChangeType. A change of the id 0 has no effect. */
+enum confscript_change_kind {
+    CONFSCRIPT_VOTER = 0,  /* makes it a voter */
+    CONFSCRIPT_REMOVE = 1, /* removes it */
+    CONFSCRIPT_UPDATE = 2, /* has no effect */
+    CONFSCRIPT_LEARNER = 3 /* makes it a learner */
+};
+
+struct confscript_change {
+    uint32_t kind; /* an enum confscript_change_kind */
+    uint64_t id;
+};
+
+/* How the changes of confscript_step are made. 0 to 2 are the numbers of raftpb.ConfChangeTransition. */
+enum confscript_step_kind {
+    /* As etcd does: no change leaves a joint configuration, one is a simple step, and more enter a joint configuration,
+       which is left automatically. */
+    CONFSCRIPT_AUTO = 0,
+    CONFSCRIPT_IMPLICIT = 1,   /* they enter a joint configuration, which is left automatically */
+    CONFSCRIPT_EXPLICIT = 2,   /* they enter a joint configuration, which a later step has to leave */
+    CONFSCRIPT_SIMPLE = 3,     /* they change at most one voter, and any number of learners */
+    CONFSCRIPT_LEAVE_JOINT = 4 /* leaves a joint configuration; the changes are ignored */
 };
 
 struct confscript_answer {
@@ -123,17 +185,21 @@ struct confscript_answer confscript_status_text(uint32_t status, uint8_t *out, s
 /*
  * Writes to `out` the plan from the configuration of one ConfState line to that of another, by an
  * enum confscript_strategy. Both configurations must be valid and have an incoming voter. The voters before and after
- * each step overlap, and no configuration on the way tolerates fewer failures than the weaker end. If there is nothing
- * to do, the plan is the line `nothing to do`. The text does not end with a zero byte. The number is its length in
- * bytes.
+ * each step overlap, and no configuration on the way tolerates fewer failures than the weaker end, once its members
+ * have caught up. If there is nothing to do, the plan is the line `nothing to do`. The text does not end with a zero
+ * byte. The number is its length in bytes.
  *
- * - CONFSCRIPT_SHORTEST: at most four steps. No other plan has fewer steps, keeps the progress of a member that this
- *   one resets, or names a member in fewer changes. A plan does not see logs: a new voter begins with an empty one, so
- *   from [1 2 3] to [3 4 5] nothing commits until 4 or 5 has caught up.
+ * - CONFSCRIPT_SHORTEST: at most four steps. No plan has fewer steps, or names a member in fewer changes; a member that
+ *   can keep its progress keeps it. A plan does not see logs: a new voter begins with an empty one, so from [1 2 3] to
+ *   [3 4 5] nothing commits until 4 or 5 has caught up.
  * - CONFSCRIPT_LEARNERS_FIRST: at most one step more than the shortest plan. Each new voter is a learner first, so the
  *   caller can let it catch up before proposing the next step.
- * - CONFSCRIPT_ONE_AT_A_TIME: each step changes one member, and each new voter is a learner first. No plan of this kind
- *   has fewer steps. The second configuration must not be joint, unless it equals the first.
+ * - CONFSCRIPT_ONE_AT_A_TIME: each step changes one member, after a joint configuration is left, and each new voter is
+ *   a learner first. No plan of this kind has fewer steps. The second configuration must not be joint, unless it equals
+ *   the first.
+ *
+ * An id never comes back without its log and its vote: a member that was removed, and begins again with an empty disk,
+ * needs a new id. Under the old one it could vote twice in a term, and two leaders could commit different entries.
  *
  * A step `simple` may have several changes, at most one of which changes who votes. To keep the step simple in etcd,
  * propose each change as a ConfChangeV2 of its own. If they are proposed as a single ConfChangeV2, etcd's raft takes
@@ -156,24 +222,38 @@ struct confscript_answer confscript_apply(const uint8_t *state, size_t state_len
 struct confscript_answer confscript_check(const uint8_t *state, size_t state_len);
 
 /*
- * Returns the committed index of the voters in `incoming`, and of those in `outgoing` if there are any: both sets must
- * have committed it. Each id of `ids` has acknowledged the index at the same position of `acknowledged`. An id that is
- * not in `ids` has acknowledged 0. An id that a set names twice is one voter. The number is the committed index, which
- * is 2^64-1 if there are no voters.
+ * Returns the committed index of a voter set, or of a joint pair, from the index that each voter has acknowledged, 0 if
+ * it is unknown: the greatest index that more than half of `incoming` have reached, or the smaller one of both sets if
+ * `outgoing` is not empty. It is 2^64-1 if there are no voters. The call cannot fail. It sorts both arrays in place, so
+ * each is left with the same indexes in another order.
  */
-struct confscript_answer confscript_committed(const uint64_t *incoming, size_t incoming_len, const uint64_t *outgoing,
-                                              size_t outgoing_len, const uint64_t *ids, size_t ids_len,
-                                              const uint64_t *acknowledged, size_t acknowledged_len);
+uint64_t confscript_committed(uint64_t *incoming, size_t incoming_len, uint64_t *outgoing, size_t outgoing_len);
 
 /*
- * Returns the result of a vote by the voters in `incoming`, and by those in `outgoing` if there are any: both sets must
- * win it. Each id of `ids` has voted yes if the byte at the same position of `votes` is 1, and no if it is 0. An id
- * that is not in `ids` has not voted. The number is an enum confscript_vote_result. If there are no voters, the vote is
- * won.
+ * Returns the result of a vote by a voter set, or by a joint pair, from the vote of each voter, an
+ * enum confscript_ballot. Each set that is not empty must win it. If there are no voters, the vote is won. The number is
+ * an enum confscript_vote_result.
  */
-struct confscript_answer confscript_vote(const uint64_t *incoming, size_t incoming_len, const uint64_t *outgoing,
-                                         size_t outgoing_len, const uint64_t *ids, size_t ids_len, const uint8_t *votes,
-                                         size_t votes_len);
+struct confscript_answer confscript_vote(const uint8_t *incoming, size_t incoming_len, const uint8_t *outgoing,
+                                         size_t outgoing_len);
+
+/*
+ * Checks a saved configuration in numbers (etcd's ConfState), and writes it to `out` with its ids in ascending order and
+ * all members beginning afresh, as when a server restarts (etcd's confchange.Restore). The number is how many numbers
+ * are written.
+ */
+struct confscript_answer confscript_restore(const uint64_t *configuration, size_t configuration_len, uint64_t *out,
+                                            size_t out_len);
+
+/*
+ * Applies changes to a configuration in numbers, as an enum confscript_step_kind says, and writes the configuration
+ * after them to `out`. A member begins afresh if it was none before, or if a change removes it and it is added again,
+ * unless it is an outgoing voter; the others keep their progress. The number is how many numbers are written. The
+ * configuration is checked first, as by confscript_restore.
+ */
+struct confscript_answer confscript_step(const uint64_t *configuration, size_t configuration_len, uint32_t step,
+                                         const struct confscript_change *changes, size_t changes_len, uint64_t *out,
+                                         size_t out_len);
 
 /*
  * Returns how many ids may be down, whichever they are, while the other voters in `incoming`, and in `outgoing` if

@@ -75,19 +75,33 @@ static struct confscript_answer apply(void) {
 }
 static struct confscript_answer check(void) { return confscript_check(bytes(first), strlen(first)); }
 
-static uint64_t incoming[16], outgoing[16], ids[16], acknowledged[16];
-static uint8_t votes[16];
-static size_t incoming_len, outgoing_len, ids_len, values_len;
+static uint64_t incoming[16], outgoing[16], ids[16];
+static uint8_t incoming_votes[16], outgoing_votes[16];
+static size_t incoming_len, outgoing_len, ids_len, incoming_votes_len, outgoing_votes_len;
 
+/* The committed index, as the number of an answer. */
 static struct confscript_answer committed(void) {
-    return confscript_committed(incoming, incoming_len, outgoing, outgoing_len, ids, ids_len, acknowledged, values_len);
+    return (struct confscript_answer){CONFSCRIPT_DONE, confscript_committed(incoming, incoming_len, outgoing, outgoing_len)};
 }
 static struct confscript_answer vote(void) {
-    return confscript_vote(incoming, incoming_len, outgoing, outgoing_len, ids, ids_len, votes, values_len);
+    return confscript_vote(incoming_votes, incoming_votes_len, outgoing_votes, outgoing_votes_len);
 }
 
 static struct confscript_answer may_be_down(void) {
     return confscript_may_be_down(incoming, incoming_len, outgoing, outgoing_len, ids, ids_len);
+}
+
+static uint64_t configuration[ROOM], numbers[ROOM];
+static size_t configuration_len, numbers_room = ROOM;
+static uint32_t kind;
+static struct confscript_change changes[64];
+static size_t changes_len;
+
+static struct confscript_answer restore(void) {
+    return confscript_restore(configuration, configuration_len, numbers, numbers_room);
+}
+static struct confscript_answer step(void) {
+    return confscript_step(configuration, configuration_len, kind, changes, changes_len, numbers, numbers_room);
 }
 
 static uint32_t code;
@@ -95,6 +109,7 @@ static struct confscript_answer status_text(void) { return confscript_status_tex
 
 static struct confscript_answer called(call which, long granted) {
     memset(out, MARK, ROOM);
+    memset(numbers, MARK, sizeof numbers);
     left = granted;
     counts = 1;
     struct confscript_answer answer = which();
@@ -115,6 +130,29 @@ static void expect(const char *name, call which, uint32_t status, uint64_t numbe
     report(name, got.status == status && got.number == number && holds_text(text), got);
 }
 
+/* Whether the buffer of numbers begins with these, and is unchanged after them. */
+static int holds_numbers(const uint64_t *expected, size_t len) {
+    uint64_t mark;
+    memset(&mark, MARK, sizeof mark);
+    if (len && memcmp(numbers, expected, len * sizeof *expected) != 0) return 0;
+    for (size_t i = len; i < ROOM; i++) if (numbers[i] != mark) return 0;
+    return 1;
+}
+
+/* Expects this answer and these numbers of a call. `allocates` says whether it takes memory; if it does, it has to
+   return NO_MEMORY as long as one of its allocations is refused. */
+static void expect_numbers(const char *name, call which, int allocates, uint32_t status, uint64_t number, const uint64_t *expected, size_t len) {
+    struct confscript_answer got;
+    long granted = 0;
+    for (;; granted++) {
+        got = called(which, granted);
+        if (live != 0) { report(name, 0, got); printf("FAILED: %s: %ld blocks are kept\n", name, live); live = 0; return; }
+        if (got.status != CONFSCRIPT_NO_MEMORY) break;
+        if (got.number != 0 || !holds_numbers(NULL, 0) || granted > 1000) { report(name, 0, got); return; }
+    }
+    report(name, (granted > 0) == allocates && got.status == status && got.number == number && holds_numbers(expected, len), got);
+}
+
 static void on_texts(const char *a, const char *b) { first = a; second = b; room = ROOM; }
 
 static void texts(void) {
@@ -125,8 +163,8 @@ static void texts(void) {
         "can't leave a non-joint config", "can't apply simple config change in joint config", "removed all voters",
         "more than one voter changed without entering joint config", "the id 0", "a next learner is not an outgoing voter",
         "a next learner is an incoming voter", "a learner is a voter", "next learners without outgoing voters",
-        "auto-leave without outgoing voters", "not as many values as ids", "a vote is neither 0 nor 1", "the voters are no quorum",
-        "unknown strategy", "the target is joint", "unknown status"};
+        "auto-leave without outgoing voters", "the counts do not match the length", "a vote is neither 0, 1 nor 2",
+        "the voters are no quorum", "unknown strategy", "the target is joint", "unknown step", "unknown kind of change", "unknown status"};
     room = ROOM;
     for (code = 0; code < sizeof words / sizeof *words; code++)
         expect(words[code], status_text, CONFSCRIPT_DONE, strlen(words[code]), words[code]);
@@ -254,42 +292,92 @@ static void checks(void) {
 static size_t set(uint64_t *to, size_t n, const uint64_t *from) { memcpy(to, from, n * sizeof *to); return n; }
 #define SET(name, ...) name##_len = set(name, sizeof((uint64_t[]){__VA_ARGS__}) / sizeof(uint64_t), (const uint64_t[]){__VA_ARGS__})
 
-static void quorums(void) {
-    SET(incoming, 1, 2, 3);
-    outgoing_len = 0;
-    SET(ids, 1, 3);
-    values_len = set(acknowledged, 2, (const uint64_t[]){5, 7});
-    expect("committed: one set", committed, CONFSCRIPT_DONE, 5, "");
-    SET(outgoing, 4, 4);
-    expect("committed: nobody of the outgoing", committed, CONFSCRIPT_DONE, 0, "");
-    SET(ids, 4, 3, 2);
-    values_len = set(acknowledged, 3, (const uint64_t[]){4, 9, 6});
-    expect("committed: both sets", committed, CONFSCRIPT_DONE, 4, "");
-    values_len = 2;
-    expect("committed: an index is missing", committed, CONFSCRIPT_DIFFERENT_LENGTHS, 0, "");
-    SET(ids, 4, 3, 4);
-    values_len = 3;
-    expect("committed: an id twice", committed, CONFSCRIPT_REPEATED_ID, 0, "");
-    incoming_len = outgoing_len = ids_len = values_len = 0;
-    expect("committed: nobody votes", committed, CONFSCRIPT_DONE, UINT64_MAX, "");
-    expect("vote: nobody votes", vote, CONFSCRIPT_DONE, CONFSCRIPT_VOTE_WON, "");
+/* Expects a committed index, takes no memory for it, and leaves the indexes of both sets, in any order. */
+static void commits(const char *name, uint64_t index) {
+    uint64_t sums[2] = {0, 0}, left_sums[2] = {0, 0};
+    for (size_t i = 0; i < incoming_len; i++) sums[0] += incoming[i] * (incoming[i] | 1);
+    for (size_t i = 0; i < outgoing_len; i++) sums[1] += outgoing[i] * (outgoing[i] | 1);
+    struct confscript_answer got = called(committed, 0);
+    for (size_t i = 0; i < incoming_len; i++) left_sums[0] += incoming[i] * (incoming[i] | 1);
+    for (size_t i = 0; i < outgoing_len; i++) left_sums[1] += outgoing[i] * (outgoing[i] | 1);
+    report(name, got.number == index && memcmp(sums, left_sums, sizeof sums) == 0, got);
+}
 
-    SET(incoming, 1, 2, 3);
-    SET(ids, 2, 1);
-    values_len = 2;
-    votes[0] = votes[1] = 1;
-    expect("vote: won", vote, CONFSCRIPT_DONE, CONFSCRIPT_VOTE_WON, "");
-    SET(outgoing, 3, 4);
-    expect("vote: it hangs on the outgoing", vote, CONFSCRIPT_DONE, CONFSCRIPT_VOTE_PENDING, "");
-    votes[0] = votes[1] = 0;
-    expect("vote: lost", vote, CONFSCRIPT_DONE, CONFSCRIPT_VOTE_LOST, "");
-    votes[1] = 2;
-    expect("vote: no vote", vote, CONFSCRIPT_BAD_VOTE, 0, "");
-    values_len = 3;
-    expect("vote: a vote too many", vote, CONFSCRIPT_DIFFERENT_LENGTHS, 0, "");
-    SET(ids, 2, 2);
-    values_len = 2;
-    expect("vote: an id twice", vote, CONFSCRIPT_REPEATED_ID, 0, "");
+/* Expects the result of a vote, and takes no memory for it. */
+static void votes(const char *name, uint32_t status, uint64_t number) {
+    struct confscript_answer got = called(vote, 0);
+    report(name, got.status == status && got.number == number, got);
+}
+
+enum { MANY = 100001 };
+static uint64_t many[MANY];
+static uint8_t many_votes[MANY];
+
+/* 100,001 voters, whose indexes are first in descending order, then all the same. */
+static void many_voters(void) {
+    for (size_t i = 0; i < MANY; i++) many[i] = MANY - i;
+    struct confscript_answer got = {CONFSCRIPT_DONE, confscript_committed(many, MANY, outgoing, 0)};
+    report("committed: many voters", got.number == MANY / 2 + 1, got);
+    for (size_t i = 0; i < MANY; i++) many[i] = 7;
+    got.number = confscript_committed(outgoing, 0, many, MANY);
+    report("committed: many voters with the same index", got.number == 7, got);
+    memset(many_votes, CONFSCRIPT_VOTED_NO, MANY);
+    memset(many_votes, CONFSCRIPT_VOTED_YES, MANY / 2 + 1);
+    got = confscript_vote(many_votes, MANY, many_votes, 0);
+    report("vote: many voters win", got.status == CONFSCRIPT_DONE && got.number == CONFSCRIPT_VOTE_WON, got);
+    many_votes[0] = CONFSCRIPT_VOTED_NO;
+    got = confscript_vote(many_votes, MANY, many_votes, 0);
+    report("vote: many voters lose", got.status == CONFSCRIPT_DONE && got.number == CONFSCRIPT_VOTE_LOST, got);
+}
+
+enum { NO = CONFSCRIPT_VOTED_NO, YES = CONFSCRIPT_VOTED_YES, NONE = CONFSCRIPT_NOT_VOTED };
+#define VOTES(name, ...) (name##_votes_len = sizeof((uint8_t[]){__VA_ARGS__}), memcpy(name##_votes, (const uint8_t[]){__VA_ARGS__}, name##_votes_len))
+
+static void quorums(void) {
+    incoming_len = outgoing_len = 0;
+    commits("committed: no voters", UINT64_MAX);
+    SET(incoming, 5, 0, 7);
+    commits("committed: one set", 5);
+    SET(outgoing, 0);
+    commits("committed: no index of the outgoing voter", 0);
+    SET(incoming, 9, 0, 6, 6, 4);
+    SET(outgoing, 4, 4);
+    commits("committed: both sets", 4);
+    SET(incoming, 1);
+    commits("committed: the smaller of both", 1);
+    incoming_len = 0;
+    commits("committed: outgoing voters alone", 4);
+    SET(incoming, 3, 3, 3, 3);
+    outgoing_len = 0;
+    commits("committed: repeated indexes", 3);
+    SET(incoming, 2, 8);
+    commits("committed: both of two", 2);
+    SET(incoming, UINT64_MAX, 1, UINT64_MAX);
+    commits("committed: the greatest index", UINT64_MAX);
+
+    incoming_votes_len = outgoing_votes_len = 0;
+    votes("vote: no voters", CONFSCRIPT_DONE, CONFSCRIPT_VOTE_WON);
+    VOTES(incoming, YES, NONE, YES);
+    votes("vote: won", CONFSCRIPT_DONE, CONFSCRIPT_VOTE_WON);
+    VOTES(outgoing, YES, NONE);
+    votes("vote: it depends on an outgoing voter", CONFSCRIPT_DONE, CONFSCRIPT_VOTE_PENDING);
+    VOTES(outgoing, YES, YES);
+    votes("vote: both sets win", CONFSCRIPT_DONE, CONFSCRIPT_VOTE_WON);
+    VOTES(outgoing, NO, NONE);
+    votes("vote: the outgoing voters lose", CONFSCRIPT_DONE, CONFSCRIPT_VOTE_LOST);
+    outgoing_votes_len = 0;
+    VOTES(incoming, NONE, NONE, NO);
+    votes("vote: pending", CONFSCRIPT_DONE, CONFSCRIPT_VOTE_PENDING);
+    VOTES(incoming, NO, NONE, NO);
+    votes("vote: lost", CONFSCRIPT_DONE, CONFSCRIPT_VOTE_LOST);
+    VOTES(incoming, YES, YES, NO, NO);
+    votes("vote: half is not enough", CONFSCRIPT_DONE, CONFSCRIPT_VOTE_LOST);
+    VOTES(incoming, YES, YES, 3);
+    votes("vote: no such vote", CONFSCRIPT_BAD_VOTE, 0);
+    incoming_votes_len = 0;
+    VOTES(outgoing, 255);
+    votes("vote: no such vote of an outgoing voter", CONFSCRIPT_BAD_VOTE, 0);
+    many_voters();
 
     SET(incoming, 1, 2, 3);
     outgoing_len = ids_len = 0;
@@ -306,6 +394,156 @@ static void quorums(void) {
     expect("may be down: the weaker, where one does not count", may_be_down, CONFSCRIPT_DONE, 0, "");
     incoming_len = 0;
     expect("may be down: nobody votes", may_be_down, CONFSCRIPT_NO_QUORUM, 0, "");
+}
+
+#define NUMBERS(...) (const uint64_t[]){__VA_ARGS__}, sizeof((uint64_t[]){__VA_ARGS__}) / sizeof(uint64_t)
+#define GIVEN(...) (configuration_len = set(configuration, sizeof((uint64_t[]){__VA_ARGS__}) / sizeof(uint64_t), (const uint64_t[]){__VA_ARGS__}))
+
+/* Expects that a call with numbers writes these, without taking memory. */
+#define WRITES(name, which, ...) expect_numbers(name, which, 0, CONFSCRIPT_DONE, sizeof((uint64_t[]){__VA_ARGS__}) / sizeof(uint64_t), NUMBERS(__VA_ARGS__))
+/* Expects that it is refused. */
+#define REFUSED(name, which, status, number) expect_numbers(name, which, 0, status, number, NULL, 0)
+
+static void restores(void) {
+    GIVEN(0, 3, 0, 1, 0, 0, 3, 1, 2, 4);
+    WRITES("restore: voters and a learner", restore, 0, 3, 0, 1, 0, 4, 1, 2, 3, 4, 1, 2, 3, 4);
+    numbers_room = 14;
+    WRITES("restore: it just fits", restore, 0, 3, 0, 1, 0, 4, 1, 2, 3, 4, 1, 2, 3, 4);
+    numbers_room = 13;
+    REFUSED("restore: one number too small", restore, CONFSCRIPT_TOO_SMALL, 14);
+    numbers_room = 0;
+    REFUSED("restore: no room", restore, CONFSCRIPT_TOO_SMALL, 14);
+    numbers_room = ROOM;
+    GIVEN(1, 2, 3, 0, 1, 0, 2, 1, 3, 1, 2, 3);
+    WRITES("restore: a joint configuration", restore, 1, 2, 3, 0, 1, 3, 1, 2, 1, 2, 3, 3, 1, 2, 3);
+    GIVEN(0, 0, 0, 0, 0, 0);
+    WRITES("restore: no members", restore, 0, 0, 0, 0, 0, 0);
+    GIVEN(0, 1, 0, 0, 0, 2, UINT64_MAX, 9, 9);
+    WRITES("restore: the greatest id, and ids that began afresh before", restore, 0, 1, 0, 0, 0, 1, UINT64_MAX, UINT64_MAX);
+    configuration_len = 0;
+    REFUSED("restore: no numbers", restore, CONFSCRIPT_DIFFERENT_LENGTHS, 0);
+    GIVEN(0, 0, 0, 0, 0);
+    REFUSED("restore: a count is missing", restore, CONFSCRIPT_DIFFERENT_LENGTHS, 0);
+    GIVEN(2, 1, 0, 0, 0, 0, 1);
+    REFUSED("restore: no flag", restore, CONFSCRIPT_DIFFERENT_LENGTHS, 0);
+    GIVEN(0, 2, 0, 0, 0, 0, 1);
+    REFUSED("restore: an id is missing", restore, CONFSCRIPT_DIFFERENT_LENGTHS, 0);
+    GIVEN(0, 1, 0, 0, 0, 0, 1, 2);
+    REFUSED("restore: an id too many", restore, CONFSCRIPT_DIFFERENT_LENGTHS, 0);
+    GIVEN(0, UINT64_MAX, 1, 1, 0, 0, 1);
+    REFUSED("restore: counts that wrap around", restore, CONFSCRIPT_DIFFERENT_LENGTHS, 0);
+    GIVEN(0, 1, 1, 0, 1, 0, 1, 2, 1);
+    REFUSED("restore: next, not outgoing", restore, CONFSCRIPT_NEXT_NOT_OUTGOING, 1);
+    GIVEN(0, 1, 1, 0, 2, 0, 1, 1, 4, 3);
+    REFUSED("restore: the least of two next, not outgoing", restore, CONFSCRIPT_NEXT_NOT_OUTGOING, 3);
+    GIVEN(0, 2, 2, 0, 1, 0, 1, 2, 1, 2, 2);
+    REFUSED("restore: next and incoming", restore, CONFSCRIPT_NEXT_AND_INCOMING, 2);
+    GIVEN(0, 2, 0, 1, 0, 0, 1, 2, 2);
+    REFUSED("restore: learner and voter", restore, CONFSCRIPT_LEARNER_AND_VOTER, 2);
+    GIVEN(0, 1, 0, 1, 0, 0, 1, 0);
+    REFUSED("restore: the id 0", restore, CONFSCRIPT_ZERO_ID, 0);
+    GIVEN(1, 1, 0, 0, 0, 0, 1);
+    REFUSED("restore: auto-leave, not joint", restore, CONFSCRIPT_NOT_JOINT_BUT_AUTO_LEAVE, 0);
+    GIVEN(0, 0, 0, 1, 0, 0, 5);
+    REFUSED("restore: a learner and no voter", restore, CONFSCRIPT_NO_VOTER, 0);
+    GIVEN(0, 4, 2, 0, 0, 0, 1, 3, 3, 1, 2, 2);
+    expect_numbers("restore: an id twice", restore, 1, CONFSCRIPT_REPEATED_ID, 1, NULL, 0);
+    GIVEN(0, 9, 0, 0, 0, 0, 9, 8, 7, 6, 5, 4, 3, 2, 1);
+    expect_numbers("restore: nine voters", restore, 1, CONFSCRIPT_DONE, 24, NUMBERS(0, 9, 0, 0, 0, 9, 1, 2, 3, 4, 5, 6, 7, 8, 9, 1, 2, 3, 4, 5, 6, 7, 8, 9));
+}
+
+enum { VOTER = CONFSCRIPT_VOTER, REMOVE = CONFSCRIPT_REMOVE, UPDATE = CONFSCRIPT_UPDATE, LEARNER = CONFSCRIPT_LEARNER };
+#define BY(how, ...) do { \
+    const struct confscript_change by[] = {__VA_ARGS__}; \
+    kind = how; \
+    changes_len = sizeof by / sizeof *by; \
+    memcpy(changes, by, sizeof by); \
+} while (0)
+#define BY_NONE(how) (kind = how, changes_len = 0)
+/* The next step is from the configuration that the last one wrote. */
+static void go_on(void) {
+    configuration_len = CONFSCRIPT_IDS;
+    for (int part = CONFSCRIPT_INCOMING; part < CONFSCRIPT_IDS; part++) configuration_len += numbers[part];
+    memcpy(configuration, numbers, configuration_len * sizeof *numbers);
+}
+
+static void accepted_steps(void) {
+    GIVEN(0, 3, 0, 0, 0, 0, 3, 2, 1);
+    BY(CONFSCRIPT_AUTO, {LEARNER, 4});
+    WRITES("step: auto, one change", step, 0, 3, 0, 1, 0, 1, 1, 2, 3, 4, 4);
+    go_on();
+    BY(CONFSCRIPT_SIMPLE, {VOTER, 4});
+    WRITES("step: a promoted learner keeps its progress", step, 0, 4, 0, 0, 0, 0, 1, 2, 3, 4);
+    GIVEN(0, 3, 0, 0, 0, 0, 1, 2, 3);
+    BY(CONFSCRIPT_AUTO, {VOTER, 4}, {REMOVE, 1});
+    WRITES("step: auto, two changes", step, 1, 3, 3, 0, 0, 1, 2, 3, 4, 1, 2, 3, 4);
+    go_on();
+    BY_NONE(CONFSCRIPT_AUTO);
+    WRITES("step: auto, no change", step, 0, 3, 0, 0, 0, 0, 2, 3, 4);
+    go_on();
+    BY(CONFSCRIPT_IMPLICIT, {LEARNER, 3});
+    WRITES("step: implicit", step, 1, 2, 3, 0, 1, 0, 2, 4, 2, 3, 4, 3);
+    go_on();
+    BY(CONFSCRIPT_LEAVE_JOINT, {VOTER, 9});
+    WRITES("step: leaving, where the changes are ignored", step, 0, 2, 0, 1, 0, 0, 2, 4, 3);
+    GIVEN(0, 1, 0, 0, 0, 0, 1);
+    BY_NONE(CONFSCRIPT_EXPLICIT);
+    WRITES("step: explicit, no change", step, 0, 1, 1, 0, 0, 0, 1, 1);
+    GIVEN(0, 2, 0, 0, 0, 0, 1, 2);
+    BY(CONFSCRIPT_SIMPLE, {REMOVE, 1}, {VOTER, 1});
+    WRITES("step: removed and added again", step, 0, 2, 0, 0, 0, 1, 1, 2, 1);
+    BY(CONFSCRIPT_EXPLICIT, {REMOVE, 1}, {VOTER, 1});
+    WRITES("step: removed and added again, while it is an outgoing voter", step, 0, 2, 2, 0, 0, 0, 1, 2, 1, 2);
+    BY(CONFSCRIPT_SIMPLE, {UPDATE, 1}, {VOTER, 0}, {UPDATE, 7});
+    WRITES("step: changes without effect", step, 0, 2, 0, 0, 0, 0, 1, 2);
+    BY(CONFSCRIPT_SIMPLE, {VOTER, 7}, {LEARNER, 7}, {REMOVE, 1}, {VOTER, 1});
+    WRITES("step: the last change of an id decides", step, 0, 2, 0, 1, 0, 2, 1, 2, 7, 1, 7);
+    numbers_room = 10;
+    REFUSED("step: one number too small", step, CONFSCRIPT_TOO_SMALL, 11);
+    numbers_room = ROOM;
+    GIVEN(0, 0, 0, 0, 0, 0);
+    BY(CONFSCRIPT_SIMPLE, {VOTER, UINT64_MAX});
+    WRITES("step: the first voter, of the greatest id", step, 0, 1, 0, 0, 0, 1, UINT64_MAX, UINT64_MAX);
+    kind = CONFSCRIPT_SIMPLE;
+    uint64_t expected[ROOM] = {0, 1, 0, 40, 0, 41, 1};
+    changes_len = 0;
+    changes[changes_len++] = (struct confscript_change){VOTER, 1};
+    for (uint64_t id = 50; id > 10; id--) changes[changes_len++] = (struct confscript_change){LEARNER, id};
+    for (uint64_t i = 0; i < 40; i++) expected[7 + i] = expected[48 + i] = 11 + i;
+    expected[47] = 1;
+    expect_numbers("step: many changes", step, 1, CONFSCRIPT_DONE, 88, expected, 88);
+}
+
+static void refused_steps(void) {
+    GIVEN(0, 1, 1, 0, 0, 0, 2, 1);
+    BY_NONE(CONFSCRIPT_IMPLICIT);
+    REFUSED("step: already joint", step, CONFSCRIPT_ALREADY_JOINT, 0);
+    BY(CONFSCRIPT_AUTO, {VOTER, 3});
+    REFUSED("step: simple in a joint configuration", step, CONFSCRIPT_SIMPLE_IN_JOINT, 0);
+    GIVEN(0, 0, 0, 0, 0, 0);
+    BY(CONFSCRIPT_EXPLICIT, {VOTER, 1});
+    REFUSED("step: no voter to enter from", step, CONFSCRIPT_ZERO_VOTER_JOINT, 0);
+    GIVEN(0, 1, 0, 0, 0, 0, 1);
+    BY_NONE(CONFSCRIPT_LEAVE_JOINT);
+    REFUSED("step: not joint", step, CONFSCRIPT_NOT_JOINT, 0);
+    BY_NONE(CONFSCRIPT_AUTO);
+    REFUSED("step: auto, no change, not joint", step, CONFSCRIPT_NOT_JOINT, 0);
+    BY(CONFSCRIPT_SIMPLE, {REMOVE, 1});
+    REFUSED("step: no voter is left", step, CONFSCRIPT_REMOVED_ALL_VOTERS, 0);
+    BY(CONFSCRIPT_EXPLICIT, {LEARNER, 1});
+    REFUSED("step: no incoming voter is left", step, CONFSCRIPT_REMOVED_ALL_VOTERS, 0);
+    BY(CONFSCRIPT_SIMPLE, {VOTER, 2}, {REMOVE, 1});
+    REFUSED("step: two voters at once", step, CONFSCRIPT_MORE_THAN_ONE_VOTER, 0);
+    BY(CONFSCRIPT_SIMPLE, {VOTER, 2}, {4, 1}, {5, 1});
+    REFUSED("step: no such kind of change", step, CONFSCRIPT_BAD_CHANGE, 2);
+    BY_NONE(5);
+    REFUSED("step: no such step", step, CONFSCRIPT_BAD_STEP, 0);
+    BY_NONE(UINT32_MAX);
+    REFUSED("step: the greatest number of a step", step, CONFSCRIPT_BAD_STEP, 0);
+    GIVEN(0, 1, 0, 0, 0, 0);
+    REFUSED("step: no configuration", step, CONFSCRIPT_DIFFERENT_LENGTHS, 0);
+    GIVEN(0, 2, 0, 1, 0, 0, 1, 2, 2);
+    REFUSED("step: not a valid configuration", step, CONFSCRIPT_LEARNER_AND_VOTER, 2);
 }
 
 /* Applies a plan to a line, four steps in each call, and writes the last result to `line`. */
@@ -361,6 +599,9 @@ int main(void) {
     applies();
     checks();
     quorums();
+    restores();
+    accepted_steps();
+    refused_steps();
     rounds();
     texts();
     return 0;

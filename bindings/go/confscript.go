@@ -33,16 +33,6 @@ func (refused *Refused) Error() string {
 	return fmt.Sprintf("%s (%d)", text, refused.Number)
 }
 
-// VoteResult is the result of a vote.
-type VoteResult uint64
-
-// The results of a vote.
-const (
-	VotePending VoteResult = C.CONFSCRIPT_VOTE_PENDING
-	VoteLost    VoteResult = C.CONFSCRIPT_VOTE_LOST
-	VoteWon     VoteResult = C.CONFSCRIPT_VOTE_WON
-)
-
 // Strategy is how a plan goes from one configuration to another.
 type Strategy uint32
 
@@ -82,41 +72,6 @@ func Check(state string) error {
 	return err
 }
 
-// Committed returns the committed index of a voter set, or of a joint pair. The map has the index that each id has
-// acknowledged. The committed index is 2^64-1 if there are no voters.
-func Committed(incoming, outgoing []uint64, acknowledged map[uint64]uint64) (uint64, error) {
-	ids, indexes := []uint64{}, []uint64{}
-	for id, index := range acknowledged {
-		ids, indexes = append(ids, id), append(indexes, index)
-	}
-	return number(C.confscript_committed(first(incoming), C.size_t(len(incoming)), first(outgoing), C.size_t(len(outgoing)),
-		first(ids), C.size_t(len(ids)), first(indexes), C.size_t(len(indexes))))
-}
-
-// Vote returns the result of a vote by a voter set, or by a joint pair. The map has the vote of each id that has voted.
-func Vote(incoming, outgoing []uint64, votes map[uint64]bool) (VoteResult, error) {
-	ids, said := []uint64{}, []byte{}
-	for id, vote := range votes {
-		ids = append(ids, id)
-		if vote {
-			said = append(said, 1)
-		} else {
-			said = append(said, 0)
-		}
-	}
-	result, err := number(C.confscript_vote(first(incoming), C.size_t(len(incoming)), first(outgoing), C.size_t(len(outgoing)),
-		first(ids), C.size_t(len(ids)), start(said), C.size_t(len(said))))
-	return VoteResult(result), err
-}
-
-// MayBeDown returns how many ids may be down, whichever they are, while the other voters are a quorum, for which the
-// uncounted ids do not count. If the voters are no quorum even with none down, the error is a Refused with the status
-// 23.
-func MayBeDown(incoming, outgoing, uncounted []uint64) (uint64, error) {
-	return number(C.confscript_may_be_down(first(incoming), C.size_t(len(incoming)), first(outgoing), C.size_t(len(outgoing)),
-		first(uncounted), C.size_t(len(uncounted))))
-}
-
 // Version returns the version of the library: 10,000 for each major version, 100 for each minor one, and the patch.
 func Version() uint32 {
 	return uint32(C.confscript_version())
@@ -128,14 +83,6 @@ func start(text []byte) *C.uint8_t {
 		text = make([]byte, 1)
 	}
 	return (*C.uint8_t)(unsafe.Pointer(&text[0]))
-}
-
-// first returns a pointer to the first number, which is not nil even if there is none.
-func first(numbers []uint64) *C.uint64_t {
-	if len(numbers) == 0 {
-		numbers = make([]uint64, 1)
-	}
-	return (*C.uint64_t)(unsafe.Pointer(&numbers[0]))
 }
 
 // number returns the number of an answer, or the error of a call that was refused.

@@ -72,18 +72,18 @@ func TestRefusals(t *testing.T) {
 
 func TestQuorums(t *testing.T) {
 	voters := []uint64{1, 2, 3}
-	if index, err := Committed(voters, nil, map[uint64]uint64{1: 9, 2: 7}); err != nil || index != 7 {
-		t.Errorf("Committed: %d, %v", index, err)
+	if index := Committed(voters, nil, map[uint64]uint64{1: 9, 2: 7}); index != 7 {
+		t.Errorf("Committed: %d", index)
 	}
-	if index, err := Committed(voters, []uint64{4}, map[uint64]uint64{1: 9, 2: 7, 4: 5}); err != nil || index != 5 {
-		t.Errorf("Committed: %d, %v", index, err)
+	if index := Committed(voters, []uint64{4}, map[uint64]uint64{1: 9, 2: 7, 4: 5}); index != 5 {
+		t.Errorf("Committed: %d", index)
 	}
-	if index, err := Committed(nil, nil, nil); err != nil || index != math.MaxUint64 {
-		t.Errorf("Committed: %d, %v", index, err)
+	if index := Committed(nil, nil, nil); index != math.MaxUint64 {
+		t.Errorf("Committed: %d", index)
 	}
 	for result, votes := range map[VoteResult]map[uint64]bool{VoteWon: {1: true, 2: true}, VoteLost: {1: false, 2: false}, VotePending: nil} {
-		if got, err := Vote(voters, nil, votes); err != nil || got != result {
-			t.Errorf("Vote: %d, %v", got, err)
+		if got := Vote(voters, nil, votes); got != result {
+			t.Errorf("Vote: %d", got)
 		}
 	}
 }

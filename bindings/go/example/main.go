@@ -17,9 +17,6 @@ func main() {
 	if err != nil {
 		log.Fatal(err)
 	}
-	index, err := confscript.Committed([]uint64{2, 3, 5}, nil, map[uint64]uint64{2: 9, 3: 7})
-	if err != nil {
-		log.Fatal(err)
-	}
+	index := confscript.Committed([]uint64{2, 3, 5}, nil, map[uint64]uint64{2: 9, 3: 7})
 	fmt.Printf("%s%s\ncommitted %d\n", steps, after, index)
 }

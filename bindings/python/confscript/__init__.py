@@ -7,14 +7,22 @@ A configuration is a ConfState line, and a plan is the text of its lines, both a
     >>> steps = plan("Voters:[1 2] ..", "Voters:[2 3] ..")
     >>> apply("Voters:[1 2] ..", steps)
 
+A program that embeds the library keeps a Configuration and makes its steps by `step`, without texts.
+
 A call that is refused raises Refused, which has the status and the number; if memory runs out, it raises MemoryError.
+A number that is not an int raises TypeError, and one that is not in range OverflowError.
 The library is the one that CONFSCRIPT_LIBRARY names, or the one that the system's loader finds.
 """
 import ctypes
+import operator
 import os
 from enum import IntEnum
+from typing import NamedTuple
 
-__all__ = ["Refused", "Strategy", "Vote", "apply", "check", "committed", "may_be_down", "plan", "version", "vote"]
+__all__ = [
+    "ChangeKind", "Configuration", "Refused", "StepKind", "Strategy", "Vote", "apply", "check", "committed", "may_be_down", "plan", "restore", "step",
+    "version", "vote",
+]
 
 DONE, TOO_SMALL, NO_MEMORY, NO_QUORUM = 0, 1, 2, 23
 
@@ -43,8 +51,45 @@ class Vote(IntEnum):
     WON = 2
 
 
+class Configuration(NamedTuple):
+    """A configuration: etcd's ConfState, and the members whose progress begins afresh in the step that led to it.
+
+    The ids of a list may be in any order. A call that is passed the configuration ignores `fresh`.
+    """
+
+    voters: tuple = ()
+    voters_outgoing: tuple = ()
+    learners: tuple = ()
+    learners_next: tuple = ()
+    auto_leave: bool = False
+    fresh: tuple = ()
+
+
+class ChangeKind(IntEnum):
+    """What a change does to its id. The numbers are those of raftpb.ConfChangeType."""
+
+    VOTER = 0
+    REMOVE = 1
+    UPDATE = 2
+    LEARNER = 3
+
+
+class StepKind(IntEnum):
+    """How the changes of a step are made. The first three are the numbers of raftpb.ConfChangeTransition."""
+
+    AUTO = 0
+    IMPLICIT = 1
+    EXPLICIT = 2
+    SIMPLE = 3
+    LEAVE_JOINT = 4
+
+
 class _Answer(ctypes.Structure):
     _fields_ = [("status", ctypes.c_uint32), ("number", ctypes.c_uint64)]
+
+
+class _Change(ctypes.Structure):
+    _fields_ = [("kind", ctypes.c_uint32), ("id", ctypes.c_uint64)]
 
 
 _library = ctypes.CDLL(os.environ.get("CONFSCRIPT_LIBRARY") or "libconfscript.so.0")
@@ -54,14 +99,24 @@ for _name, _types in {
     "plan": (*_BYTES * 2, ctypes.c_uint32, *_OUT),
     "apply": _BYTES * 2 + _OUT,
     "check": _BYTES,
-    "committed": _IDS * 4,
-    "vote": _IDS * 3 + _BYTES,
+    "vote": _BYTES * 2,
     "may_be_down": _IDS * 3,
+    "restore": _IDS * 2,
+    "step": (*_IDS, ctypes.c_uint32, ctypes.POINTER(_Change), ctypes.c_size_t, *_IDS),
     "status_text": (ctypes.c_uint32, *_OUT),
 }.items():
     _call = getattr(_library, f"confscript_{_name}")
     _call.argtypes, _call.restype = _types, _Answer
+_library.confscript_committed.argtypes, _library.confscript_committed.restype = _IDS * 2, ctypes.c_uint64
 _library.confscript_version.argtypes, _library.confscript_version.restype = (), ctypes.c_uint32
+
+
+def _uint(value, bits=64):
+    """Returns an int that fits into so many bits; ctypes would wrap it around."""
+    number = operator.index(value)
+    if not 0 <= number < 1 << bits:
+        raise OverflowError(f"{number} is not in the range 0 to 2**{bits}-1")
+    return number
 
 
 def _bytes(text):
@@ -70,9 +125,10 @@ def _bytes(text):
     return data, len(data)
 
 
-def _ids(ids):
-    # The array has room for at least one id, so that its pointer is never null.
-    return (ctypes.c_uint64 * max(len(ids), 1))(*ids), len(ids)
+def _numbers(numbers):
+    numbers = [*map(_uint, numbers)]
+    # The array has room for at least one number, so that its pointer is never null.
+    return (ctypes.c_uint64 * max(len(numbers), 1))(*numbers), len(numbers)
 
 
 def _number(answer):
@@ -92,13 +148,30 @@ def _written(call, *arguments):
         room = answer.number
 
 
+def _configured(call, configuration, *arguments):
+    """The configuration that a call writes. If the buffer is too small, the call is made again with a larger one."""
+    parts = [[*part] for part in (configuration.voters, configuration.voters_outgoing, configuration.learners, configuration.learners_next)]
+    numbers = _numbers([bool(configuration.auto_leave), *map(len, parts), 0, *(id for part in parts for id in part)])
+    room = 64
+    while True:
+        out = (ctypes.c_uint64 * room)()
+        answer = call(*numbers, *arguments, out, room)
+        if answer.status != TOO_SMALL:
+            break
+        room = answer.number
+    auto_leave, *rest = out[: _number(answer)]
+    ids = iter(rest[5:])
+    *parts, fresh = (tuple(next(ids) for _ in range(count)) for count in rest[:5])
+    return Configuration(*parts, bool(auto_leave), fresh)
+
+
 def _text_of(status):
     return _written(_library.confscript_status_text, status)
 
 
 def plan(now, target, strategy=Strategy.SHORTEST):
     """Returns the plan by a strategy from the configuration of one ConfState line to that of another."""
-    return _written(_library.confscript_plan, *_bytes(now), *_bytes(target), strategy)
+    return _written(_library.confscript_plan, *_bytes(now), *_bytes(target), _uint(strategy, 32))
 
 
 def apply(state, steps):
@@ -114,15 +187,39 @@ def check(state):
 def committed(incoming, outgoing, acknowledged):
     """Returns the committed index of a voter set, or of a joint pair; `acknowledged` maps each id to its index.
 
-    The committed index is 2**64-1 if there are no voters.
+    An id that is not in the map has acknowledged 0. The committed index is 2**64-1 if there are no voters.
     """
-    return _number(_library.confscript_committed(*_ids([*incoming]), *_ids([*outgoing]), *_ids([*acknowledged]), *_ids([*acknowledged.values()])))
+    acknowledged = {_uint(id): _uint(index) for id, index in acknowledged.items()}
+    indexes = ([acknowledged.get(id, 0) for id in {*map(_uint, voters)}] for voters in (incoming, outgoing))
+    return _library.confscript_committed(*(argument for part in indexes for argument in _numbers(part)))
+
+
+def _ballots(voters, votes):
+    ballots = [votes.get(id) for id in {*map(_uint, voters)}]
+    for ballot in ballots:
+        if ballot is not None and not isinstance(ballot, bool):
+            raise TypeError(f"a vote is a bool, not {ballot!r}")
+    return _bytes(bytes(2 if ballot is None else ballot for ballot in ballots))
 
 
 def vote(incoming, outgoing, votes):
     """Returns the result of a vote by a voter set, or by a joint pair; `votes` maps each id that voted to a bool."""
-    said = bytes(bool(it) for it in votes.values())
-    return Vote(_number(_library.confscript_vote(*_ids([*incoming]), *_ids([*outgoing]), *_ids([*votes]), *_bytes(said))))
+    return Vote(_number(_library.confscript_vote(*_ballots(incoming, votes), *_ballots(outgoing, votes))))
+
+
+def restore(configuration):
+    """Checks a saved configuration, and returns it with its ids in ascending order and all members beginning afresh.
+
+    So a server restores it when it restarts (etcd's confchange.Restore).
+    """
+    return _configured(_library.confscript_restore, configuration)
+
+
+def step(configuration, kind, changes=()):
+    """Returns the configuration after one step; each of `changes` is a pair of a ChangeKind and an id."""
+    changes = [_Change(_uint(change, 32), _uint(id)) for change, id in changes]
+    array = (_Change * max(len(changes), 1))(*changes)
+    return _configured(_library.confscript_step, configuration, _uint(kind, 32), array, len(changes))
 
 
 def may_be_down(incoming, outgoing, uncounted=()):
@@ -130,7 +227,7 @@ def may_be_down(incoming, outgoing, uncounted=()):
 
     The uncounted ids do not count for the quorum. Returns None if the voters are no quorum even with none down.
     """
-    answer = _library.confscript_may_be_down(*_ids([*incoming]), *_ids([*outgoing]), *_ids([*uncounted]))
+    answer = _library.confscript_may_be_down(*_numbers(incoming), *_numbers(outgoing), *_numbers(uncounted))
     return None if answer.status == NO_QUORUM else _number(answer)
 
 

@@ -47,6 +47,47 @@ class Calls(unittest.TestCase):
         self.assertEqual(confscript.vote([1, 2, 3], [], {1: True, 2: True}), confscript.Vote.WON)
         self.assertEqual(confscript.vote([1, 2, 3], [], {1: False, 2: False}), confscript.Vote.LOST)
         self.assertEqual(confscript.vote([1, 2, 3], [], {}), confscript.Vote.PENDING)
+        self.assertEqual(confscript.vote([1, 1, 1, 2, 2], [3], {1: True, 2: True, 3: True}), confscript.Vote.WON)
+
+    def test_steps(self):
+        from confscript import ChangeKind, Configuration, StepKind
+        joint = confscript.step(Configuration(voters=[3, 2, 1]), StepKind.AUTO, [(ChangeKind.VOTER, 4), (ChangeKind.REMOVE, 1)])
+        self.assertEqual(joint, Configuration((2, 3, 4), (1, 2, 3), (), (), True, (4,)))
+        self.assertEqual(confscript.step(joint, StepKind.LEAVE_JOINT), Configuration((2, 3, 4)))
+        many = confscript.step(Configuration([501]), StepKind.SIMPLE, [(ChangeKind.LEARNER, id) for id in range(1, 501)])
+        self.assertEqual(many.learners, tuple(range(1, 501)))
+        with self.assertRaises(confscript.Refused) as raised:
+            confscript.step(joint, StepKind.SIMPLE)
+        self.assertEqual((raised.exception.status, raised.exception.number), (12, 0))
+
+    def test_restore(self):
+        self.assertEqual(confscript.restore(confscript.Configuration([3, 1])), confscript.Configuration((1, 3), fresh=(1, 3)))
+        with self.assertRaises(confscript.Refused) as raised:
+            confscript.restore(confscript.Configuration([1, 2], learners=[2]))
+        self.assertEqual((raised.exception.status, str(raised.exception)), (18, "a learner is a voter (2)"))
+
+    def test_numbers_out_of_range(self):
+        from confscript import Configuration
+        for call in [
+            lambda: confscript.committed([1], [], {1: -1}),
+            lambda: confscript.committed([-1], [], {}),
+            lambda: confscript.committed([2**64], [], {}),
+            lambda: confscript.vote([2**64], [], {}),
+            lambda: confscript.may_be_down([1, -1], []),
+            lambda: confscript.plan(NOW, TARGET, 2**32),
+            lambda: confscript.step(Configuration([1]), 2**32),
+            lambda: confscript.step(Configuration([1]), 0, [(2**32, 1)]),
+            lambda: confscript.restore(Configuration([-1])),
+        ]:
+            self.assertRaises(OverflowError, call)
+        for call in [
+            lambda: confscript.committed([1], [], {1: 1.5}),
+            lambda: confscript.committed(["1"], [], {}),
+            lambda: confscript.vote([1, 2], [], {1: "no", 2: "no"}),
+            lambda: confscript.vote([1, 2], [], {1: 1, 2: 1}),
+            lambda: confscript.restore(Configuration([1.0])),
+        ]:
+            self.assertRaises(TypeError, call)
 
     def test_may_be_down(self):
         self.assertEqual(confscript.may_be_down([1, 2, 3], []), 1)

@@ -3,7 +3,7 @@ fn main() -> Result<(), confscript::Error> {
     let now = "Voters:[1 2 3] VotersOutgoing:[] Learners:[] LearnersNext:[] AutoLeave:false";
     let steps = confscript::plan(now, "Voters:[2 3 5] VotersOutgoing:[] Learners:[] LearnersNext:[] AutoLeave:false")?;
     let after = confscript::apply(now, &steps)?;
-    let index = confscript::committed(&[2, 3, 5], &[], &[(2, 9), (3, 7)])?;
+    let index = confscript::committed(&mut [9, 7, 0], &mut []);
     println!("{steps}{after}\ncommitted {index}");
     Ok(())
 }

@@ -1,7 +1,8 @@
 //! Plans and checks who votes in a raft group: a thin layer over `libconfscript.a`. `confscript.h` says what each call
 //! returns.
 //!
-//! A configuration is a ConfState line, and a plan is the text of its lines.
+//! A configuration is a ConfState line, and a plan is the text of its lines. A program that embeds the library keeps a
+//! [`Configuration`], makes its steps by [`step`], and counts by [`committed`] and [`vote`], without texts.
 use std::fmt;
 
 #[repr(C)]
@@ -18,13 +19,11 @@ extern "C" {
     ) -> Answer;
     fn confscript_apply(state: *const u8, state_len: usize, plan: *const u8, plan_len: usize, out: *mut u8, out_len: usize) -> Answer;
     fn confscript_check(state: *const u8, state_len: usize) -> Answer;
-    fn confscript_committed(
-        incoming: *const u64, incoming_len: usize, outgoing: *const u64, outgoing_len: usize, ids: *const u64, ids_len: usize,
-        acknowledged: *const u64, acknowledged_len: usize,
-    ) -> Answer;
-    fn confscript_vote(
-        incoming: *const u64, incoming_len: usize, outgoing: *const u64, outgoing_len: usize, ids: *const u64, ids_len: usize,
-        votes: *const u8, votes_len: usize,
+    fn confscript_committed(incoming: *mut u64, incoming_len: usize, outgoing: *mut u64, outgoing_len: usize) -> u64;
+    fn confscript_vote(incoming: *const u8, incoming_len: usize, outgoing: *const u8, outgoing_len: usize) -> Answer;
+    fn confscript_restore(configuration: *const u64, configuration_len: usize, out: *mut u64, out_len: usize) -> Answer;
+    fn confscript_step(
+        configuration: *const u64, configuration_len: usize, step: u32, changes: *const Change, changes_len: usize, out: *mut u64, out_len: usize,
     ) -> Answer;
     fn confscript_may_be_down(
         incoming: *const u64, incoming_len: usize, outgoing: *const u64, outgoing_len: usize, uncounted: *const u64, uncounted_len: usize,
@@ -40,20 +39,19 @@ pub enum Error {
     NoMemory,
     /// The number is 1 for the first text of the call, and 2 for the second.
     BadConfState(u64),
-    RepeatedId,
+    /// The id, or 0 for a line.
+    RepeatedId(u64),
     /// The number is as for `BadConfState`.
     NotAConfiguration(u64),
-    /// The number is as for `BadConfState`.
+    /// The number is as for `BadConfState`, or 0 for a configuration that is no line.
     NoVoter(u64),
     /// The number of the line, counted from 1.
     BadLine(u64),
     TooManySteps,
-    /// A step is refused: the status that says why, and the number of the step, counted from 1.
+    /// A step is refused: the status that says why, and the number of the step of a plan, counted from 1, else 0.
     Step(u32, u64),
-    /// The configuration breaks an invariant: the status that says which.
-    Broken(u32),
-    DifferentLengths,
-    BadVote,
+    /// The configuration breaks an invariant: the status that says which, and the least id that breaks it, or 0.
+    Broken(u32, u64),
     NoQuorum,
     /// No plan that changes one member at a time leads into a joint configuration.
     JointTarget,
@@ -64,17 +62,15 @@ impl Error {
         match (answer.status, answer.number) {
             (2, _) => Error::NoMemory,
             (3, number) => Error::BadConfState(number),
-            (4, _) => Error::RepeatedId,
+            (4, number) => Error::RepeatedId(number),
             (5, number) => Error::NotAConfiguration(number),
             (6, number) => Error::NoVoter(number),
             (7, number) => Error::BadLine(number),
             (8, _) => Error::TooManySteps,
-            (21, _) => Error::DifferentLengths,
-            (22, _) => Error::BadVote,
             (23, _) => Error::NoQuorum,
             (25, _) => Error::JointTarget,
             (status @ 9..=14, number) => Error::Step(status, number),
-            (status, _) => Error::Broken(status),
+            (status, number) => Error::Broken(status, number),
         }
     }
 
@@ -83,14 +79,12 @@ impl Error {
         match *self {
             Error::NoMemory => 2,
             Error::BadConfState(_) => 3,
-            Error::RepeatedId => 4,
+            Error::RepeatedId(_) => 4,
             Error::NotAConfiguration(_) => 5,
             Error::NoVoter(_) => 6,
             Error::BadLine(_) => 7,
             Error::TooManySteps => 8,
-            Error::Step(status, _) | Error::Broken(status) => status,
-            Error::DifferentLengths => 21,
-            Error::BadVote => 22,
+            Error::Step(status, _) | Error::Broken(status, _) => status,
             Error::NoQuorum => 23,
             Error::JointTarget => 25,
         }
@@ -103,8 +97,9 @@ impl fmt::Display for Error {
         let text = written(|room| unsafe { confscript_status_text(self.status(), room.as_mut_ptr(), room.len()) });
         out.write_str(&text.unwrap_or_default())?;
         match self {
+            Error::RepeatedId(0) | Error::NoVoter(0) | Error::Step(_, 0) | Error::Broken(_, 0) => Ok(()),
             Error::BadConfState(number) | Error::NotAConfiguration(number) | Error::NoVoter(number) => write!(out, " ({number})"),
-            Error::BadLine(number) | Error::Step(_, number) => write!(out, " ({number})"),
+            Error::RepeatedId(number) | Error::BadLine(number) | Error::Step(_, number) | Error::Broken(_, number) => write!(out, " ({number})"),
             _ => Ok(()),
         }
     }
@@ -122,6 +117,88 @@ pub enum Strategy {
     LearnersFirst = 1,
     /// A step changes one member; no plan leads into a joint configuration.
     OneAtATime = 2,
+}
+
+/// A configuration: etcd's `ConfState`, and the members whose progress begins afresh in the step that led to it.
+#[derive(Clone, Debug, Default, PartialEq, Eq)]
+pub struct Configuration {
+    /// The voters, or in a joint configuration the incoming ones.
+    pub voters: Vec<u64>,
+    /// The outgoing voters, none if the configuration is not joint.
+    pub voters_outgoing: Vec<u64>,
+    pub learners: Vec<u64>,
+    /// The outgoing voters that become learners when the joint configuration is left.
+    pub learners_next: Vec<u64>,
+    /// Whether the joint configuration is left automatically.
+    pub auto_leave: bool,
+    /// The members that begin afresh; a call that is passed the configuration ignores them.
+    pub fresh: Vec<u64>,
+}
+
+impl Configuration {
+    fn parts(&self) -> [&Vec<u64>; 5] {
+        [&self.voters, &self.voters_outgoing, &self.learners, &self.learners_next, &self.fresh]
+    }
+
+    // The array of the configuration (`enum confscript_part`).
+    fn numbers(&self) -> Vec<u64> {
+        let counts = self.parts().map(|part| part.len() as u64);
+        let ids = self.parts().into_iter().flatten();
+        [u64::from(self.auto_leave)].iter().chain(&counts).chain(ids).copied().collect()
+    }
+
+    // The configuration of an array that a call wrote.
+    fn of(numbers: &[u64]) -> Configuration {
+        let (head, mut ids) = numbers.split_at(6);
+        let mut part = |count: u64| {
+            let (part, rest) = ids.split_at(count as usize);
+            ids = rest;
+            part.to_vec()
+        };
+        Configuration {
+            auto_leave: head[0] == 1,
+            voters: part(head[1]),
+            voters_outgoing: part(head[2]),
+            learners: part(head[3]),
+            learners_next: part(head[4]),
+            fresh: part(head[5]),
+        }
+    }
+}
+
+/// What a change does to its id. The numbers are those of `raftpb.ConfChangeType`.
+#[repr(u32)]
+#[derive(Clone, Copy, Debug, PartialEq, Eq)]
+pub enum ChangeKind {
+    Voter = 0,
+    Remove = 1,
+    /// It has no effect.
+    Update = 2,
+    Learner = 3,
+}
+
+/// A change of an id. A change of the id 0 has no effect.
+#[repr(C)]
+#[derive(Clone, Copy, Debug, PartialEq, Eq)]
+pub struct Change {
+    pub kind: ChangeKind,
+    pub id: u64,
+}
+
+/// How the changes of a step are made.
+#[derive(Clone, Copy, Debug, PartialEq, Eq)]
+pub enum StepKind {
+    /// As etcd does: no change leaves a joint configuration, one is a simple step, and more enter a joint configuration,
+    /// which is left automatically.
+    Auto = 0,
+    /// They enter a joint configuration, which is left automatically.
+    Implicit = 1,
+    /// They enter a joint configuration, which a later step has to leave.
+    Explicit = 2,
+    /// They change at most one voter, and any number of learners.
+    Simple = 3,
+    /// A joint configuration is left, and the changes are ignored.
+    LeaveJoint = 4,
 }
 
 /// The result of a vote.
@@ -147,6 +224,20 @@ fn written(call: impl Fn(&mut [u8]) -> Answer) -> Result<String, Error> {
         }
         out.truncate(number(answer)? as usize);
         return Ok(String::from_utf8_lossy(&out).into_owned());
+    }
+}
+
+// The configuration that a call writes. If the buffer is too small, the call is made again with a larger one.
+fn configured(call: impl Fn(&mut [u64]) -> Answer) -> Result<Configuration, Error> {
+    let mut out = vec![0; 64];
+    loop {
+        let answer = call(&mut out);
+        if answer.status == TOO_SMALL {
+            out = vec![0; answer.number as usize];
+            continue;
+        }
+        out.truncate(number(answer)? as usize);
+        return Ok(Configuration::of(&out));
     }
 }
 
@@ -176,36 +267,45 @@ pub fn check(state: &str) -> Result<(), Error> {
     number(unsafe { confscript_check(state.as_ptr(), state.len()) }).map(|_| ())
 }
 
-/// The committed index of a voter set, or of a joint pair, from the index that each id has acknowledged. It is
-/// `u64::MAX` if there are no voters.
-pub fn committed(incoming: &[u64], outgoing: &[u64], acknowledged: &[(u64, u64)]) -> Result<u64, Error> {
-    let (ids, indexes): (Vec<u64>, Vec<u64>) = acknowledged.iter().copied().unzip();
-    // SAFETY: as in `plan_by`; a vector's pointer is not null, even if the vector is empty.
-    number(unsafe {
-        confscript_committed(
-            incoming.as_ptr(), incoming.len(), outgoing.as_ptr(), outgoing.len(), ids.as_ptr(), ids.len(), indexes.as_ptr(), indexes.len(),
-        )
-    })
+/// The committed index of a voter set, or of a joint pair, from the index that each voter has acknowledged, 0 if it is
+/// unknown. It is `u64::MAX` if there are no voters. The indexes are left in another order.
+pub fn committed(incoming: &mut [u64], outgoing: &mut [u64]) -> u64 {
+    // SAFETY: as in `plan_by`.
+    unsafe { confscript_committed(incoming.as_mut_ptr(), incoming.len(), outgoing.as_mut_ptr(), outgoing.len()) }
 }
 
-/// The result of a vote by a voter set, or by a joint pair, from the vote of each id that has voted.
-pub fn vote(incoming: &[u64], outgoing: &[u64], votes: &[(u64, bool)]) -> Result<VoteResult, Error> {
-    let (ids, said): (Vec<u64>, Vec<u8>) = votes.iter().map(|&(id, vote)| (id, u8::from(vote))).unzip();
-    // SAFETY: as in `committed`.
-    let result = number(unsafe {
-        confscript_vote(incoming.as_ptr(), incoming.len(), outgoing.as_ptr(), outgoing.len(), ids.as_ptr(), ids.len(), said.as_ptr(), said.len())
-    })?;
-    Ok(match result {
+/// The result of a vote by a voter set, or by a joint pair, from the vote of each voter, `None` if it has not voted.
+pub fn vote(incoming: &[Option<bool>], outgoing: &[Option<bool>]) -> VoteResult {
+    let [incoming, outgoing] = [incoming, outgoing].map(|votes| votes.iter().map(|vote| vote.map_or(2, u8::from)).collect::<Vec<_>>());
+    // SAFETY: as in `plan_by`; a vector's pointer is not null, even if the vector is empty.
+    match unsafe { confscript_vote(incoming.as_ptr(), incoming.len(), outgoing.as_ptr(), outgoing.len()) }.number {
         0 => VoteResult::Pending,
         1 => VoteResult::Lost,
         _ => VoteResult::Won,
+    }
+}
+
+/// Checks a saved configuration, and returns it with its ids in ascending order and all members beginning afresh, as
+/// when a server restarts (etcd's `confchange.Restore`).
+pub fn restore(configuration: &Configuration) -> Result<Configuration, Error> {
+    let numbers = configuration.numbers();
+    // SAFETY: as in `vote`.
+    configured(|out| unsafe { confscript_restore(numbers.as_ptr(), numbers.len(), out.as_mut_ptr(), out.len()) })
+}
+
+/// The configuration after one step.
+pub fn step(configuration: &Configuration, kind: StepKind, changes: &[Change]) -> Result<Configuration, Error> {
+    let numbers = configuration.numbers();
+    // SAFETY: as in `vote`; a `Change` has the layout of a `struct confscript_change`.
+    configured(|out| unsafe {
+        confscript_step(numbers.as_ptr(), numbers.len(), kind as u32, changes.as_ptr(), changes.len(), out.as_mut_ptr(), out.len())
     })
 }
 
 /// How many ids may be down, whichever they are, while the other voters are a quorum, for which the uncounted ids do
 /// not count. The error is `Error::NoQuorum` if the voters are no quorum even with none down.
 pub fn may_be_down(incoming: &[u64], outgoing: &[u64], uncounted: &[u64]) -> Result<u64, Error> {
-    // SAFETY: as in `committed`.
+    // SAFETY: as in `plan_by`.
     number(unsafe {
         confscript_may_be_down(incoming.as_ptr(), incoming.len(), outgoing.as_ptr(), outgoing.len(), uncounted.as_ptr(), uncounted.len())
     })

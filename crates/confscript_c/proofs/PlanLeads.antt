@@ -1,6 +1,7 @@
 -- That the steps of a path lead from the one line to the other.
 use Rattle.std.proofs.Common.{◌≡◌, ℕ, ◌+◌, ◌∷◌, List, [], ap, ◌∙◌}
 use Rattle.std.specs.Prelude.{Ok}
+use Rattle.quorum_sets.specs.Ids.{Ids}
 use Rattle.conf_change.specs.Configuration.{Configuration}
 use Rattle.conf_change.specs.ConfState.{lists_of}
 use Rattle.conf_change.specs.ConfStateLine.{conf_state_text}
@@ -24,7 +25,7 @@ IsRun-from_with Holds before after [] run = run
 IsRun-from_with Holds before after (step ∷ steps) run = (run.0, run.1.0, IsRun-from_with Holds run.0 after steps run.2)
 
 -- the path of each strategy is a run
-pub IsRun-by : (strategy : Strategy) (before after : Configuration) (steps : List Step) → Serves strategy before steps after → IsRun before steps after
-IsRun-by Shortest before after steps serves = serves.best.run
-IsRun-by LearnersFirst before after steps serves = serves.run
-IsRun-by OneAtATime before after steps serves = IsRun-from_with _ before after steps serves.run
+pub IsRun-by : (strategy : Strategy) (down : Ids) (before after : Configuration) (steps : List Step) → Serves strategy down before steps after → IsRun before steps after
+IsRun-by Shortest down before after steps serves = serves.best.run
+IsRun-by LearnersFirst down before after steps serves = serves.run
+IsRun-by OneAtATime down before after steps serves = IsRun-from_with _ before after steps serves.run

@@ -12,7 +12,7 @@ use Rattle.conf_plan.specs.declared.text.PlanTextFault.{PlanTextFault}
 use Rattle.conf_plan.specs.declared.text.PlanTextFault.TheVariants as fault
 use Rattle.confscript_c.specs.Answer.{status_answer, no_memory}
 use Rattle.confscript_c.specs.InputLines.{read_as}
-use Rattle.confscript_c.specs.Written.{TextResult}
+use Rattle.confscript_c.specs.Written.{OutResult}
 use Rattle.confscript_c.specs.declared.answer.Answer.{Answer}
 use Rattle.confscript_c.specs.declared.status.Status.TheVariants.{NotAConfiguration, BadLine, TooManySteps, AlreadyJoint, ZeroVoterJoint, NotJoint, SimpleInJoint, RemovedAllVoters, MoreThanOneVoter}
 
@@ -43,22 +43,22 @@ refusal_answer refused.MoreThanOneVoter number = status_answer MoreThanOneVoter 
 refusal_answer refused.NoMemory number = no_memory
 
 -- the result, given the outcome of one step: the answer if it is refused, else the result of the rest
-abbrev pub then_result : ℕ → Outcome → (Configuration → TextResult) → TextResult
+abbrev pub then_result : ℕ → Outcome → (Configuration → OutResult) → OutResult
 then_result number (Err why) rest = Err (refusal_answer why number)
 then_result number (Ok next) rest = rest next
 
 -- the line of the configuration after all steps, the first of which has this number; or the answer for the first step
 -- that is refused
-abbrev pub steps_result : ℕ → Configuration → List Step → TextResult
+abbrev pub steps_result : ℕ → Configuration → List Step → OutResult
 steps_result number c [] = Ok (conf_state_text (lists_of c))
 steps_result number c (step ∷ steps) = then_result number (outcome c step) (λ next. steps_result (number + 1) next steps)
 
 -- the result of applying steps to a configuration; an error of the configuration comes before one of the plan
-abbrev pub applied : Result Configuration Answer → Result (List Step) PlanTextFault → TextResult
+abbrev pub applied : Result Configuration Answer → Result (List Step) PlanTextFault → OutResult
 applied (Err why) steps = Err why
 applied (Ok c) (Err fault) = Err (text_fault_answer fault)
 applied (Ok c) (Ok steps) = steps_result 1 c steps
 
 -- the result of `confscript_apply` for the texts of a line and of a plan
-abbrev pub apply_result : List ℕ → List ℕ → TextResult
+abbrev pub apply_result : List ℕ → List ℕ → OutResult
 apply_result state plan = applied (restored_of (read_as 1 (conf_state_in state))) (plan_in plan)

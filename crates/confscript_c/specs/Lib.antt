@@ -7,3 +7,5 @@ pub mod Checked
 pub mod Applied
 pub mod Planning
 pub mod Version
+pub mod Numbers
+pub mod Stepped

@@ -1,7 +1,7 @@
 -- The codes of the statuses and their texts, which include/confscript.h gives to callers.
 use Rattle.std.specs.Prelude.{ℕ, List, codes, ◌==◌, if◌then◌else◌}
 use Rattle.confscript_c.specs.declared.status.Status.{Status}
-use Rattle.confscript_c.specs.declared.status.Status.TheVariants.{Done, TooSmall, NoMemory, BadConfState, RepeatedId, NotAConfiguration, NoVoter, BadLine, TooManySteps, AlreadyJoint, ZeroVoterJoint, NotJoint, SimpleInJoint, RemovedAllVoters, MoreThanOneVoter, ZeroId, NextNotOutgoing, NextAndIncoming, LearnerAndVoter, NotJointButNext, NotJointButAutoLeave, DifferentLengths, BadVote, NoQuorum, BadStrategy, JointTarget}
+use Rattle.confscript_c.specs.declared.status.Status.TheVariants.{Done, TooSmall, NoMemory, BadConfState, RepeatedId, NotAConfiguration, NoVoter, BadLine, TooManySteps, AlreadyJoint, ZeroVoterJoint, NotJoint, SimpleInJoint, RemovedAllVoters, MoreThanOneVoter, ZeroId, NextNotOutgoing, NextAndIncoming, LearnerAndVoter, NotJointButNext, NotJointButAutoLeave, DifferentLengths, BadVote, NoQuorum, BadStrategy, JointTarget, BadStep, BadChange}
 
 -- the code of a status; codes never change
 abbrev pub code_of : Status → ℕ
@@ -31,6 +31,8 @@ code_of BadVote = 22
 code_of NoQuorum = 23
 code_of BadStrategy = 24
 code_of JointTarget = 25
+code_of BadStep = 26
+code_of BadChange = 27
 
 -- what a status means; the text of a refused step is what the program prints
 abbrev pub status_text : Status → List ℕ
@@ -55,13 +57,15 @@ status_text NextAndIncoming = codes "a next learner is an incoming voter"
 status_text LearnerAndVoter = codes "a learner is a voter"
 status_text NotJointButNext = codes "next learners without outgoing voters"
 status_text NotJointButAutoLeave = codes "auto-leave without outgoing voters"
-status_text DifferentLengths = codes "not as many values as ids"
-status_text BadVote = codes "a vote is neither 0 nor 1"
+status_text DifferentLengths = codes "the counts do not match the length"
+status_text BadVote = codes "a vote is neither 0, 1 nor 2"
 status_text NoQuorum = codes "the voters are no quorum"
 status_text BadStrategy = codes "unknown strategy"
 status_text JointTarget = codes "the target is joint"
+status_text BadStep = codes "unknown step"
+status_text BadChange = codes "unknown kind of change"
 
--- what the status of a code means; a number above 25 is not the code of one
+-- what the status of a code means; a number above 27 is not the code of one
 abbrev pub text_of_code : ℕ → List ℕ
 text_of_code code =
     if code == 0 then status_text Done
@@ -90,4 +94,6 @@ text_of_code code =
     else (if code == 23 then status_text NoQuorum
     else (if code == 24 then status_text BadStrategy
     else (if code == 25 then status_text JointTarget
-    else codes "unknown status")))))))))))))))))))))))))
+    else (if code == 26 then status_text BadStep
+    else (if code == 27 then status_text BadChange
+    else codes "unknown status")))))))))))))))))))))))))))

@@ -13,10 +13,10 @@ ghost use Rattle.conf_plan.specs.PlanCode.{plan_in};
 ghost use Rattle.confscript_c.specs.Answer.{no_memory};
 ghost use Rattle.confscript_c.specs.Applied.{apply_result, restored_of, steps_result, text_fault_answer, refusal_answer};
 ghost use Rattle.confscript_c.specs.InputLines.{read_as};
-ghost use Rattle.confscript_c.specs.Written.{WritesText};
+ghost use Rattle.confscript_c.specs.Written.{Writes};
 
 use crate::answer::Answer;
-use crate::buffer::write_text;
+use crate::buffer::write_out;
 use crate::input_lines::read_saved;
 use crate::status::Status;
 use conf_change::{Changer, Config, Refused, RestoreFault, conf_state, write_conf_state};
@@ -35,10 +35,10 @@ pub extern "C" fn confscript_apply(
     plan: &[u8],
     out: &mut [u8],
 ) -> Answer
-    ensures { WritesText (apply_result state.now plan.now) out.old result out.new }
+    ensures { Writes (apply_result state.now plan.now) out.old result out.new }
 {
     match line_after(alloc, state, plan) {
-        Ok(line) => write_text(line.as_slice(), out),
+        Ok(line) => write_out(line.as_slice(), out),
         Err(why) => why,
     }
 }
@@ -91,8 +91,8 @@ fn take(changer: &mut Changer<InlineIds>, plan: &Plan) -> Result<(), Answer>
     }
 }
 
-// The answer for a refused step, whose number is counted from 1.
-fn refusal(refused: Refused, number: u64) -> Answer
+/// The answer for a refused step with this number.
+pub(crate) fn refusal(refused: Refused, number: u64) -> Answer
     ensures { result ≡ refusal_answer refused number }
 {
     match refused {

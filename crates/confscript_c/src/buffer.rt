@@ -1,20 +1,20 @@
-//! Writing a text into the caller's buffer.
-ghost use Rattle.std.specs.Prelude.{◌≡◌, Ok, length};
-ghost use Rattle.confscript_c.specs.Written.{answer_to, buffer_after};
+//! Writing a result into the caller's buffer: the bytes of a text, or numbers.
+ghost use Rattle.std.specs.Prelude.{◌≡◌, length};
+ghost use Rattle.confscript_c.specs.Written.{length_answer, written_over};
 
 use crate::answer::Answer;
 use crate::status::Status;
 
-/// Writes a text to the start of a buffer if it fits. If not, the buffer is unchanged, and the status is `TooSmall`.
-/// The number is the length of the text in both cases.
-pub(crate) fn write_text(text: &[u8], buffer: &mut [u8]) -> Answer
-    ensures answer { result ≡ answer_to (Ok text.now) (length buffer.old) }
-    ensures written { buffer.new ≡ buffer_after (Ok text.now) buffer.old }
+/// Writes items to the start of a buffer if they fit. If not, the buffer is unchanged, and the status is `TooSmall`.
+/// The number is how many items there are in both cases.
+pub(crate) fn write_out<T: Copy>(items: &[T], buffer: &mut [T]) -> Answer
+    ensures answer { result ≡ length_answer (length items.now) (length buffer.old) }
+    ensures written { buffer.new ≡ written_over items.now buffer.old }
 {
-    let len = text.len();
+    let len = items.len();
     if len > buffer.len() {
         return Answer::new(Status::TooSmall, len as u64);
     }
-    buffer[..len].copy_from_slice(text);
+    buffer[..len].copy_from_slice(items);
     Answer::done(len as u64)
 }

@@ -1,7 +1,7 @@
 //! The library for C, Go, Rust and Python, declared in `include/confscript.h`: the plans, checks and quorums of the
 //! crates below, as calls that any language can make.
 //!
-//! A call takes numbers, texts and lists of ids, and keeps no state. It returns a status and a number, and writes its
+//! A call takes numbers, texts and lists, and keeps no state. It returns a status and a number, and writes its
 //! text, if it has one, into a buffer of the caller:
 //!
 //! ```text
@@ -17,8 +17,10 @@
 //! confscript_plan         two lines, a strategy        the steps from the first to the second
 //! confscript_apply        a line, steps                the line after the steps
 //! confscript_check        a line                       the first broken invariant
-//! confscript_committed    voters, indexes by id        the committed index
-//! confscript_vote         voters, votes by id          pending, lost or won
+//! confscript_committed    an index for each voter      the committed index
+//! confscript_vote         a vote for each voter        pending, lost or won
+//! confscript_restore      a configuration in numbers   the configuration, all members beginning afresh
+//! confscript_step         a configuration, changes     the configuration after them, and who begins afresh
 //! confscript_may_be_down  voters, ids with no log      how many ids may be down
 //! ```
 //!
@@ -30,9 +32,13 @@ mod applying;
 mod buffer;
 mod checking;
 mod input_lines;
+pub mod laws;
+mod numbers;
 mod planning;
 mod quorums;
+mod restoring;
 mod status;
+mod stepping;
 mod version;
 
 pub use answer::Answer;
@@ -40,5 +46,7 @@ pub use applying::confscript_apply;
 pub use checking::confscript_check;
 pub use planning::confscript_plan;
 pub use quorums::{confscript_committed, confscript_may_be_down, confscript_vote};
+pub use restoring::confscript_restore;
 pub use status::confscript_status_text;
+pub use stepping::{NumberedChange, confscript_step};
 pub use version::confscript_version;

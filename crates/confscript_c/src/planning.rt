@@ -10,15 +10,15 @@ ghost use Rattle.std.specs.Prelude.{◌≡◌, ◌≢◌, ◌⊎◌, ℕ, List, 
 ghost use Rattle.conf_change.specs.Configuration.{is_valid};
 ghost use Rattle.confscript_c.specs.Answer.{no_memory};
 ghost use Rattle.confscript_c.specs.Planning.{strategy_at, path_result, plan_result, IsPathText, LeadsToTarget};
-ghost use Rattle.confscript_c.specs.Written.{WritesText};
+ghost use Rattle.confscript_c.specs.Written.{Writes};
 
 use crate::answer::Answer;
-use crate::buffer::write_text;
+use crate::buffer::write_out;
 use crate::input_lines::configuration_at;
 use crate::status::Status;
 use conf_change::Config;
 use conf_plan::{NoPath, Strategy, plan_by, print_path};
-use quorum_sets::InlineIds;
+use quorum_sets::{InlineIds, MemberSet};
 use std::alloc::Global;
 
 /// Writes the text of the path from the configuration of one ConfState line to that of another, by a strategy: 0 for
@@ -33,13 +33,13 @@ pub extern "C" fn confscript_plan(
     strategy: u32,
     out: &mut [u8],
 ) -> Answer
-    ensures writes { WritesText (plan_result strategy now.now target.now) out.old result out.new }
+    ensures writes { Writes (plan_result strategy now.now target.now) out.old result out.new }
 
     // The path leads to the target, and keeps what the strategy promises.
     ensures leads { result ≢ no_memory → (text : List ℕ) → plan_result strategy now.now target.now ≡ Ok text → LeadsToTarget strategy now.now target.now text }
 {
     match text_between_lines(alloc, now, target, strategy) {
-        Ok(text) => write_text(text.as_slice(), out),
+        Ok(text) => write_out(text.as_slice(), out),
         Err(why) => why,
     }
 }
@@ -86,7 +86,8 @@ fn text_between(
     ensures path { IfOk result (λ text. IsPathText strategy now.now target.now text.items) }
     ensures refused { IfErr result (λ why. (why ≡ no_memory) ⊎ (path_result strategy now.now target.now ≡ Err why)) }
 {
-    match plan_by(alloc, strategy, now, target) {
+    let none = InlineIds::empty(alloc);
+    match plan_by(alloc, strategy, now, target, &none) {
         Ok(path) => {
             let mut text = Vec::new(alloc);
             print_path(&mut text, &path)?;

@@ -5,7 +5,7 @@ ghost use Rattle.confscript_c.specs.Status.{code_of, status_text, text_of_code};
 ghost use Rattle.confscript_c.specs.Written.{answer_to, buffer_after};
 
 use crate::answer::Answer;
-use crate::buffer::write_text;
+use crate::buffer::write_out;
 
 /// The statuses with their codes, which `enum confscript_status` names. The number of an answer is 0 unless documented
 /// otherwise (own; those of refused steps and broken invariants are etcd's, but for `ZeroId` and `NextAndIncoming`).
@@ -19,7 +19,7 @@ pub enum Status {
     NoMemory = 2,
     /// A line is not a ConfState line. The number is that of the line: 1 or 2.
     BadConfState = 3,
-    /// An id is listed twice.
+    /// An id is listed twice. The number is the id, if the configuration is in numbers.
     RepeatedId = 4,
     /// A line names no configuration that the call accepts. The number is that of the line: 1 or 2.
     NotAConfiguration = 5,
@@ -36,16 +36,16 @@ pub enum Status {
     SimpleInJoint = 12,
     RemovedAllVoters = 13,
     MoreThanOneVoter = 14,
-    // From here to 20 an invariant is broken.
+    // From here to 20 an invariant is broken. The number is the id, if the configuration is in numbers.
     ZeroId = 15,
     NextNotOutgoing = 16,
     NextAndIncoming = 17,
     LearnerAndVoter = 18,
     NotJointButNext = 19,
     NotJointButAutoLeave = 20,
-    /// There are more or fewer values than ids.
+    /// An array does not have the form of a configuration in numbers.
     DifferentLengths = 21,
-    /// A vote is neither 0 nor 1.
+    /// A vote is neither 0, 1 nor 2.
     BadVote = 22,
     /// The voters are no quorum even with none down.
     NoQuorum = 23,
@@ -53,10 +53,14 @@ pub enum Status {
     BadStrategy = 24,
     /// The strategy has no path into a joint configuration.
     JointTarget = 25,
+    /// The number of the step is unknown.
+    BadStep = 26,
+    /// The number of the kind of a change is unknown. The number is that of the change, from 1.
+    BadChange = 27,
 }
 
 impl Status {
-    /// The code of the status, from 0 to 25.
+    /// The code of the status, from 0 to 27.
     pub fn code(self) -> u32
         ensures { result ≡ code_of self }
     {
@@ -89,11 +93,13 @@ impl Status {
             Status::LearnerAndVoter => "a learner is a voter",
             Status::NotJointButNext => "next learners without outgoing voters",
             Status::NotJointButAutoLeave => "auto-leave without outgoing voters",
-            Status::DifferentLengths => "not as many values as ids",
-            Status::BadVote => "a vote is neither 0 nor 1",
+            Status::DifferentLengths => "the counts do not match the length",
+            Status::BadVote => "a vote is neither 0, 1 nor 2",
             Status::NoQuorum => "the voters are no quorum",
             Status::BadStrategy => "unknown strategy",
             Status::JointTarget => "the target is joint",
+            Status::BadStep => "unknown step",
+            Status::BadChange => "unknown kind of change",
         }
     }
 }
@@ -105,7 +111,7 @@ pub extern "C" fn confscript_status_text(code: u32, out: &mut [u8]) -> Answer
     ensures answer { result ≡ answer_to (Ok (text_of_code code)) (length out.old) }
     ensures written { out.new ≡ buffer_after (Ok (text_of_code code)) out.old }
 {
-    write_text(text_of_code(code).as_bytes(), out)
+    write_out(text_of_code(code).as_bytes(), out)
 }
 
 // What the status of this code means.
@@ -139,6 +145,8 @@ fn text_of_code(code: u32) -> &'static str
         23 => Status::NoQuorum.text(),
         24 => Status::BadStrategy.text(),
         25 => Status::JointTarget.text(),
+        26 => Status::BadStep.text(),
+        27 => Status::BadChange.text(),
         _ => "unknown status",
     }
 }

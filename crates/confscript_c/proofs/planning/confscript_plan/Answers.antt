@@ -1,10 +1,10 @@
 use Rattle.std.proofs.Common.{◌≡◌, ℕ, List, sym, subst, ◌∙◌}
 use Rattle.std.specs.Prelude.{Ok}
 use Rattle.confscript_c.specs.Planning.{LeadsToTarget}
-use Rattle.confscript_c.specs.Written.{TextResult}
+use Rattle.confscript_c.specs.Written.{OutResult}
 use Rattle.confscript_c.proofs.planning.confscript_plan.Goals as goal
 
-same_text : (a b : List ℕ) → ◌≡◌ {A = TextResult} (Ok a) (Ok b) → a ≡ b
+same_text : (a b : List ℕ) → ◌≡◌ {A = OutResult} (Ok a) (Ok b) → a ≡ b
 same_text a b e = cc
 
 pub returns-in-Ok-clause-leads : goal.returns-in-Ok-clause-leads

@@ -1,0 +1,122 @@
+/*
+ * Times the calls of the library with numbers, beside a plain sort and a plain count in C. Prints a row for each, the
+ * least of nine rounds, in nanoseconds a call. bench/calls builds it.
+ */
+#define _POSIX_C_SOURCE 199309L
+#include <stdio.h>
+#include <stdlib.h>
+#include <string.h>
+#include <time.h>
+
+#include "confscript.h"
+
+enum { ROWS = 64, MOST = 11, ROUNDS = 9, CALLS = 200000 };
+static uint64_t indexes[ROWS][MOST], none[1];
+static uint8_t votes[ROWS][MOST];
+static size_t voters;
+static volatile uint64_t sum;
+
+static double seconds(void) {
+    struct timespec now;
+    clock_gettime(CLOCK_MONOTONIC, &now);
+    return now.tv_sec + now.tv_nsec / 1e9;
+}
+
+static uint64_t random_number(void) {
+    static uint64_t state = 1;
+    state = state * 6364136223846793005u + 1442695040888963407u;
+    return state >> 40;
+}
+
+static void committed(int row) {
+    uint64_t copy[MOST];
+    memcpy(copy, indexes[row], sizeof copy);
+    sum += confscript_committed(copy, voters, none, 0);
+}
+
+static void plain_committed(int row) {
+    uint64_t copy[MOST];
+    memcpy(copy, indexes[row], sizeof copy);
+    for (size_t i = 1; i < voters; i++)
+        for (size_t k = i; k > 0 && copy[k] < copy[k - 1]; k--) {
+            uint64_t less = copy[k];
+            copy[k] = copy[k - 1];
+            copy[k - 1] = less;
+        }
+    sum += copy[voters - (voters / 2 + 1)];
+}
+
+static void vote(int row) {
+    sum += confscript_vote(votes[row], voters, votes[row], 0).number;
+}
+
+static void plain_vote(int row) {
+    size_t yes = 0, possible = 0;
+    for (size_t i = 0; i < voters; i++) {
+        yes += votes[row][i] == CONFSCRIPT_VOTED_YES;
+        possible += votes[row][i] != CONFSCRIPT_VOTED_NO;
+    }
+    sum += yes > voters / 2 ? 2 : possible > voters / 2 ? 0 : 1;
+}
+
+static const uint64_t five[] = {0, 5, 0, 0, 0, 0, 1, 2, 3, 4, 5};
+
+static void simple_step(int row) {
+    struct confscript_change change = {CONFSCRIPT_LEARNER, 6 + (uint64_t)row};
+    uint64_t out[32];
+    sum += confscript_step(five, 11, CONFSCRIPT_SIMPLE, &change, 1, out, 32).number;
+}
+
+static void entering_step(int row) {
+    struct confscript_change changes[] = {{CONFSCRIPT_VOTER, 6 + (uint64_t)row}, {CONFSCRIPT_REMOVE, 1}};
+    uint64_t out[32];
+    sum += confscript_step(five, 11, CONFSCRIPT_AUTO, changes, 2, out, 32).number;
+}
+
+static void restore(int row) {
+    uint64_t out[32];
+    sum += confscript_restore(five, 11, out, 32).number + (uint64_t)row;
+}
+
+static double least(void (*call)(int)) {
+    double best = 1e9;
+    for (int round = 0; round < ROUNDS; round++) {
+        double begin = seconds();
+        for (int i = 0; i < CALLS; i++) call(i % ROWS);
+        double taken = (seconds() - begin) / CALLS;
+        if (taken < best) best = taken;
+    }
+    return best * 1e9;
+}
+
+static void many(size_t n) {
+    uint64_t *given = malloc(n * sizeof *given), *copy = malloc(n * sizeof *copy);
+    if (!given || !copy) exit(1);
+    double best = 1e9;
+    for (size_t i = 0; i < n; i++) given[i] = random_number();
+    for (int round = 0; round < ROUNDS; round++) {
+        memcpy(copy, given, n * sizeof *copy);
+        double begin = seconds();
+        sum += confscript_committed(copy, n, none, 0);
+        double taken = seconds() - begin;
+        if (taken < best) best = taken;
+    }
+    printf("committed, %zu voters: %.0f microseconds\n", n, best * 1e6);
+    free(given);
+    free(copy);
+}
+
+int main(void) {
+    for (int row = 0; row < ROWS; row++)
+        for (int i = 0; i < MOST; i++) {
+            indexes[row][i] = random_number();
+            votes[row][i] = indexes[row][i] % 3;
+        }
+    for (voters = 1; voters <= MOST; voters += 2)
+        printf("%2zu voters: committed %.0f, plain %.0f; vote %.0f, plain %.0f\n", voters, least(committed),
+               least(plain_committed), least(vote), least(plain_vote));
+    printf("five voters: simple step %.0f, entering step %.0f, restore %.0f\n", least(simple_step), least(entering_step),
+           least(restore));
+    for (size_t n = 1000; n <= 1000000; n *= 10) many(n);
+    return 0;
+}

@@ -1,0 +1,164 @@
+package confscript
+
+/*
+#include <confscript.h>
+*/
+import "C"
+
+import "unsafe"
+
+// ConfState is a configuration, with the field names of raftpb.ConfState. The ids of a list may be in any order.
+type ConfState struct {
+	// The voters; in a joint configuration the incoming ones.
+	Voters   []uint64
+	Learners []uint64
+	// The outgoing voters of a joint configuration.
+	VotersOutgoing []uint64
+	// The outgoing voters that become learners when the joint configuration is left.
+	LearnersNext []uint64
+	// Whether raft leaves the joint configuration by itself.
+	AutoLeave bool
+}
+
+// ConfChangeType is what a change does to its id.
+type ConfChangeType int32
+
+// The types of changes, with the numbers of raftpb.
+const (
+	ConfChangeAddNode        ConfChangeType = C.CONFSCRIPT_VOTER
+	ConfChangeRemoveNode     ConfChangeType = C.CONFSCRIPT_REMOVE
+	ConfChangeUpdateNode     ConfChangeType = C.CONFSCRIPT_UPDATE
+	ConfChangeAddLearnerNode ConfChangeType = C.CONFSCRIPT_LEARNER
+)
+
+// ConfChangeSingle is a change of one id. A change of the id 0 has no effect.
+type ConfChangeSingle struct {
+	Type   ConfChangeType
+	NodeID uint64
+}
+
+// ConfChangeTransition is how the changes of a proposal are made.
+type ConfChangeTransition int32
+
+// The transitions, with the numbers of raftpb.
+const (
+	// No change leaves a joint configuration, one is a simple change, and more enter a joint configuration that raft
+	// leaves by itself.
+	ConfChangeTransitionAuto ConfChangeTransition = C.CONFSCRIPT_AUTO
+	// The changes enter a joint configuration that raft leaves by itself.
+	ConfChangeTransitionJointImplicit ConfChangeTransition = C.CONFSCRIPT_IMPLICIT
+	// The changes enter a joint configuration that another proposal has to leave.
+	ConfChangeTransitionJointExplicit ConfChangeTransition = C.CONFSCRIPT_EXPLICIT
+)
+
+// ConfChangeV2 is a proposal, with the field names of raftpb.ConfChangeV2.
+type ConfChangeV2 struct {
+	Transition ConfChangeTransition
+	Changes    []ConfChangeSingle
+}
+
+// ApplyConfChange returns the configuration after a proposal, as etcd's raft applies it, and the members that begin
+// afresh in it: those that were none before, and those that the changes remove and add again, unless they are outgoing
+// voters. The other members keep their progress.
+func ApplyConfChange(state ConfState, change ConfChangeV2) (next ConfState, fresh []uint64, err error) {
+	return step(state, C.uint32_t(change.Transition), change.Changes)
+}
+
+// Simple returns the configuration after changes of any number of learners and at most one voter. It is refused in a
+// joint configuration.
+func Simple(state ConfState, changes []ConfChangeSingle) (next ConfState, fresh []uint64, err error) {
+	return step(state, C.CONFSCRIPT_SIMPLE, changes)
+}
+
+// EnterJoint returns the joint configuration that changes lead to, which raft leaves by itself with autoLeave.
+func EnterJoint(state ConfState, autoLeave bool, changes []ConfChangeSingle) (next ConfState, fresh []uint64, err error) {
+	if autoLeave {
+		return step(state, C.CONFSCRIPT_IMPLICIT, changes)
+	}
+	return step(state, C.CONFSCRIPT_EXPLICIT, changes)
+}
+
+// LeaveJoint returns the configuration after a joint one is left.
+func LeaveJoint(state ConfState) (next ConfState, fresh []uint64, err error) {
+	return step(state, C.CONFSCRIPT_LEAVE_JOINT, nil)
+}
+
+// Restore checks a saved configuration, and returns it with its ids in ascending order. Each member begins afresh, as
+// when a server restarts.
+func Restore(state ConfState) (restored ConfState, fresh []uint64, err error) {
+	from := state.numbers()
+	return configuration(len(from)+state.size(), func(out *C.uint64_t, room C.size_t) C.struct_confscript_answer {
+		return C.confscript_restore(first(from), C.size_t(len(from)), out, room)
+	})
+}
+
+func step(state ConfState, kind C.uint32_t, changes []ConfChangeSingle) (ConfState, []uint64, error) {
+	from := state.numbers()
+	// Each id of the result was a member, or is that of a change; a few are in two lists.
+	return configuration(len(from)+state.size()+4*len(changes), func(out *C.uint64_t, room C.size_t) C.struct_confscript_answer {
+		list := make([]C.struct_confscript_change, len(changes)+1)
+		for i, change := range changes {
+			list[i] = C.struct_confscript_change{kind: C.uint32_t(change.Type), id: C.uint64_t(change.NodeID)}
+		}
+		return C.confscript_step(first(from), C.size_t(len(from)), kind, &list[0], C.size_t(len(changes)), out, room)
+	})
+}
+
+// size returns how many ids the lists have.
+func (state ConfState) size() int {
+	return len(state.Voters) + len(state.VotersOutgoing) + len(state.Learners) + len(state.LearnersNext)
+}
+
+// numbers returns the configuration as the array that enum confscript_part describes.
+func (state ConfState) numbers() []uint64 {
+	lists := [][]uint64{state.Voters, state.VotersOutgoing, state.Learners, state.LearnersNext}
+	numbers := make([]uint64, C.CONFSCRIPT_IDS, C.CONFSCRIPT_IDS+state.size())
+	if state.AutoLeave {
+		numbers[C.CONFSCRIPT_AUTO_LEAVE] = 1
+	}
+	for i, list := range lists {
+		numbers[C.CONFSCRIPT_INCOMING+i] = uint64(len(list))
+		numbers = append(numbers, list...)
+	}
+	return numbers
+}
+
+// configuration returns the configuration that a call writes, and the members that begin afresh in it. If there is not
+// room enough, the call is made again with more.
+func configuration(room int, call func(out *C.uint64_t, room C.size_t) C.struct_confscript_answer) (ConfState, []uint64, error) {
+	for {
+		out := make([]uint64, room)
+		answer := call((*C.uint64_t)(unsafe.Pointer(&out[0])), C.size_t(room))
+		if answer.status == C.CONFSCRIPT_TOO_SMALL {
+			room = int(answer.number)
+			continue
+		}
+		if _, err := number(answer); err != nil {
+			return ConfState{}, nil, err
+		}
+		state, fresh := read(out)
+		return state, fresh, nil
+	}
+}
+
+// read returns the configuration and the fresh members of such an array. The lists are parts of it; an empty one is nil.
+func read(numbers []uint64) (ConfState, []uint64) {
+	ids := numbers[C.CONFSCRIPT_IDS:]
+	next := func(part int) []uint64 {
+		count := numbers[part]
+		list := ids[:count:count]
+		ids = ids[count:]
+		if count == 0 {
+			return nil
+		}
+		return list
+	}
+	state := ConfState{
+		Voters:         next(C.CONFSCRIPT_INCOMING),
+		VotersOutgoing: next(C.CONFSCRIPT_OUTGOING),
+		Learners:       next(C.CONFSCRIPT_LEARNERS),
+		LearnersNext:   next(C.CONFSCRIPT_LEARNERS_NEXT),
+		AutoLeave:      numbers[C.CONFSCRIPT_AUTO_LEAVE] == 1,
+	}
+	return state, next(C.CONFSCRIPT_FRESH)
+}

@@ -1,0 +1,149 @@
+package confscript
+
+/*
+#include <confscript.h>
+
+// The values of a few voters, the incoming ones first. They are passed by value, so that Go keeps them on its stack.
+struct few_indexes { uint64_t each[16]; };
+struct few_ballots { uint8_t each[16]; };
+
+static inline uint64_t committed_of_few(struct few_indexes few, size_t incoming, size_t outgoing) {
+	return confscript_committed(few.each, incoming, few.each + incoming, outgoing);
+}
+
+static inline struct confscript_answer vote_of_few(struct few_ballots few, size_t incoming, size_t outgoing) {
+	return confscript_vote(few.each, incoming, few.each + incoming, outgoing);
+}
+*/
+import "C"
+
+import "unsafe"
+
+// fewValues is how many values are passed without an allocation.
+const fewValues = 16
+
+// VoteResult is the result of a vote.
+type VoteResult uint64
+
+// The results of a vote.
+const (
+	VotePending VoteResult = C.CONFSCRIPT_VOTE_PENDING
+	VoteLost    VoteResult = C.CONFSCRIPT_VOTE_LOST
+	VoteWon     VoteResult = C.CONFSCRIPT_VOTE_WON
+)
+
+// Ballot is the vote of a voter.
+type Ballot uint8
+
+// The ballots.
+const (
+	VotedNo  Ballot = C.CONFSCRIPT_VOTED_NO
+	VotedYes Ballot = C.CONFSCRIPT_VOTED_YES
+	NotVoted Ballot = C.CONFSCRIPT_NOT_VOTED
+)
+
+// CommittedIndex returns the committed index of a voter set, or of a joint pair, from the index that each voter has
+// acknowledged, 0 if none is known. It is 2^64-1 if there are no voters.
+func CommittedIndex(incoming, outgoing []uint64) uint64 {
+	if len(incoming)+len(outgoing) <= fewValues {
+		var few C.struct_few_indexes
+		for i, index := range incoming {
+			few.each[i] = C.uint64_t(index)
+		}
+		for i, index := range outgoing {
+			few.each[len(incoming)+i] = C.uint64_t(index)
+		}
+		return uint64(C.committed_of_few(few, C.size_t(len(incoming)), C.size_t(len(outgoing))))
+	}
+	// The library sorts in place.
+	in, out := append([]uint64(nil), incoming...), append([]uint64(nil), outgoing...)
+	return uint64(C.confscript_committed(first(in), C.size_t(len(in)), first(out), C.size_t(len(out))))
+}
+
+// TallyVotes returns the result of a vote by a voter set, or by a joint pair, from the ballot of each voter. A value that
+// is not a ballot counts as NotVoted.
+func TallyVotes(incoming, outgoing []Ballot) VoteResult {
+	if len(incoming)+len(outgoing) <= fewValues {
+		var few C.struct_few_ballots
+		for i, ballot := range incoming {
+			few.each[i] = cast(ballot)
+		}
+		for i, ballot := range outgoing {
+			few.each[len(incoming)+i] = cast(ballot)
+		}
+		return VoteResult(C.vote_of_few(few, C.size_t(len(incoming)), C.size_t(len(outgoing))).number)
+	}
+	in, out := castAll(incoming), castAll(outgoing)
+	return VoteResult(C.confscript_vote(start(in), C.size_t(len(in)), start(out), C.size_t(len(out))).number)
+}
+
+func cast(ballot Ballot) C.uint8_t {
+	if ballot > NotVoted {
+		return C.uint8_t(NotVoted)
+	}
+	return C.uint8_t(ballot)
+}
+
+func castAll(ballots []Ballot) []byte {
+	all := make([]byte, len(ballots))
+	for i, ballot := range ballots {
+		all[i] = byte(cast(ballot))
+	}
+	return all
+}
+
+// Committed returns the committed index of a voter set, or of a joint pair, each of which lists a voter once. The map has
+// the index that each id has acknowledged; it is 0 for any other id. The committed index is 2^64-1 if there are no
+// voters.
+func Committed(incoming, outgoing []uint64, acknowledged map[uint64]uint64) uint64 {
+	index := func(voters []uint64) []uint64 {
+		indexes := make([]uint64, len(voters))
+		for i, id := range voters {
+			indexes[i] = acknowledged[id]
+		}
+		return indexes
+	}
+	return CommittedIndex(index(incoming), index(outgoing))
+}
+
+// Vote returns the result of a vote by a voter set, or by a joint pair, each of which lists a voter once. The map has the
+// vote of each id that has voted.
+func Vote(incoming, outgoing []uint64, votes map[uint64]bool) VoteResult {
+	ballots := func(voters []uint64) []Ballot {
+		all := make([]Ballot, len(voters))
+		for i, id := range voters {
+			all[i] = BallotOf(votes, id)
+		}
+		return all
+	}
+	return TallyVotes(ballots(incoming), ballots(outgoing))
+}
+
+// BallotOf returns the ballot of an id, of a map that has the vote of each id that has voted.
+func BallotOf(votes map[uint64]bool, id uint64) Ballot {
+	yes, voted := votes[id]
+	switch {
+	case !voted:
+		return NotVoted
+	case yes:
+		return VotedYes
+	default:
+		return VotedNo
+	}
+}
+
+// MayBeDown returns how many ids may be down, whichever they are, while the other voters are a quorum, for which the
+// uncounted ids do not count. If the voters are no quorum even with none down, the error is a Refused with the status
+// 23.
+func MayBeDown(incoming, outgoing, uncounted []uint64) (uint64, error) {
+	return number(C.confscript_may_be_down(first(incoming), C.size_t(len(incoming)), first(outgoing), C.size_t(len(outgoing)),
+		first(uncounted), C.size_t(len(uncounted))))
+}
+
+// first returns a pointer to the first number, which is not nil even if there is none.
+func first(numbers []uint64) *C.uint64_t {
+	if len(numbers) == 0 {
+		numbers = make([]uint64, 1)
+	}
+	return (*C.uint64_t)(unsafe.Pointer(&numbers[0]))
+}

@@ -1,0 +1,81 @@
+package confscript
+
+import (
+	"math"
+	"testing"
+)
+
+func TestCommittedIndex(t *testing.T) {
+	many := make([]uint64, 1001)
+	for i := range many {
+		many[i] = uint64(len(many) - i)
+	}
+	for _, row := range []struct {
+		incoming, outgoing []uint64
+		index              uint64
+	}{
+		{nil, nil, math.MaxUint64},
+		{[]uint64{7}, nil, 7},
+		{[]uint64{9, 0, 7}, nil, 7},
+		{[]uint64{9, 9, 7, 7}, nil, 7},
+		{[]uint64{9, 0, 7}, []uint64{5}, 5},
+		{[]uint64{4}, []uint64{9, 8, math.MaxUint64}, 4},
+		{nil, []uint64{3}, 3},
+		{many, nil, 501},
+		{many[:17], many[:16], 993},
+	} {
+		incoming := append([]uint64(nil), row.incoming...)
+		if index := CommittedIndex(row.incoming, row.outgoing); index != row.index {
+			t.Errorf("CommittedIndex of %v and %v: %d, and not %d", row.incoming, row.outgoing, index, row.index)
+		}
+		for i := range incoming {
+			if row.incoming[i] != incoming[i] {
+				t.Fatalf("CommittedIndex changed its argument: %v", row.incoming)
+			}
+		}
+	}
+}
+
+func TestTallyVotes(t *testing.T) {
+	many := make([]Ballot, 1001)
+	for i := range many {
+		many[i] = VotedYes
+	}
+	for _, row := range []struct {
+		incoming, outgoing []Ballot
+		result             VoteResult
+	}{
+		{nil, nil, VoteWon},
+		{[]Ballot{VotedYes, VotedYes, NotVoted}, nil, VoteWon},
+		{[]Ballot{VotedYes, VotedNo, NotVoted}, nil, VotePending},
+		{[]Ballot{VotedNo, VotedNo, NotVoted}, nil, VoteLost},
+		{[]Ballot{VotedYes, VotedYes, VotedNo, VotedNo}, nil, VoteLost},
+		{[]Ballot{VotedYes}, []Ballot{NotVoted}, VotePending},
+		{[]Ballot{VotedYes}, []Ballot{VotedNo}, VoteLost},
+		{[]Ballot{VotedYes, VotedYes, 3}, []Ballot{VotedYes}, VoteWon},
+		{[]Ballot{VotedYes, 3, 3}, nil, VotePending},
+		{many, many[:17], VoteWon},
+		{many, []Ballot{VotedNo}, VoteLost},
+	} {
+		if result := TallyVotes(row.incoming, row.outgoing); result != row.result {
+			t.Errorf("TallyVotes of %d and %d ballots: %d, and not %d", len(row.incoming), len(row.outgoing), result, row.result)
+		}
+	}
+}
+
+func TestFewValuesTakeNoMemory(t *testing.T) {
+	indexes, ballots := []uint64{1, 2, 3, 4, 5}, []Ballot{VotedYes, NotVoted, VotedNo}
+	if count := testing.AllocsPerRun(100, func() {
+		CommittedIndex(indexes, indexes)
+		TallyVotes(ballots, ballots)
+	}); count != 0 {
+		t.Errorf("%v allocations", count)
+	}
+}
+
+func BenchmarkCommittedIndex(b *testing.B) {
+	indexes := []uint64{5, 3, 4, 1, 2}
+	for i := 0; i < b.N; i++ {
+		CommittedIndex(indexes, nil)
+	}
+}

@@ -1,0 +1,107 @@
+-- Configurations in numbers: an array of a flag, five counts, and the ids that they count.
+use Rattle.std.specs.Prelude.{ℕ, ◌+◌, Bool, ◌==◌, ◌&&◌, List, ◌∷◌, ◌++◌, length, nat_eq, nat_le, Result, Ok, Err, if◌then◌else◌}
+use Rattle.std.specs.List.{slice_index, slice_range}
+use Rattle.quorum_sets.specs.Ids.{Ids, ascending, union}
+use Rattle.conf_change.specs.Configuration.{Configuration, has_voter_or_is_empty}
+use Rattle.conf_change.specs.ConfState.{ConfStateLists, lists_of}
+use Rattle.conf_change.specs.Violation.{valid_of}
+use Rattle.conf_change.specs.declared.configuration_line.ConfigurationFault.{ConfigurationFault}
+use Rattle.conf_change.specs.declared.configuration_line.ConfigurationFault.TheVariants as fault
+use Rattle.conf_change.specs.declared.violation.Violation.{Violation}
+use Rattle.conf_change.specs.declared.violation.Violation.TheVariants as violated
+use Rattle.confscript_c.specs.Answer.{status_answer, no_memory}
+use Rattle.confscript_c.specs.Written.{OutResult}
+use Rattle.confscript_c.specs.declared.answer.Answer.{Answer}
+use Rattle.confscript_c.specs.declared.status.Status.TheVariants.{RepeatedId, NoVoter, ZeroId, NextNotOutgoing, NextAndIncoming, LearnerAndVoter, NotJointButNext, NotJointButAutoLeave, DifferentLengths}
+
+-- ---- written
+-- the number of the flag
+abbrev pub flag_number : Bool → ℕ
+flag_number auto_leave = if auto_leave then 1 else 0
+
+-- the array of a saved configuration, with the ids that begin afresh
+abbrev pub array_of : ConfStateLists → List ℕ → List ℕ
+array_of saved fresh =
+    flag_number saved.auto_leave ∷ length saved.voters ∷ length saved.voters_outgoing ∷ length saved.learners ∷ length saved.learners_next ∷ length fresh
+    ∷ saved.voters ++ saved.voters_outgoing ++ saved.learners ++ saved.learners_next ++ fresh
+
+-- the array of a configuration, with the members that begin afresh; the ids of each part are in ascending order
+abbrev pub numbers_of : Configuration → Ids → List ℕ
+numbers_of c fresh = array_of (lists_of c) (ascending fresh)
+
+-- ---- read
+-- how many ids the array counts: its second to sixth numbers are the counts
+abbrev pub counted : List ℕ → ℕ
+counted numbers = slice_index numbers 1 + slice_index numbers 2 + slice_index numbers 3 + slice_index numbers 4 + slice_index numbers 5
+
+-- whether the array has a flag, five counts, and as many ids as they count
+abbrev pub has_form : List ℕ → Bool
+has_form numbers = nat_le 6 (length numbers) && nat_le (slice_index numbers 0) 1 && nat_eq (length numbers) (6 + counted numbers)
+
+-- the index of the first outgoing voter, and so on, as far as there are any
+abbrev pub outgoing_at : List ℕ → ℕ
+outgoing_at numbers = 6 + slice_index numbers 1
+
+abbrev pub learners_at : List ℕ → ℕ
+learners_at numbers = outgoing_at numbers + slice_index numbers 2
+
+abbrev pub learners_next_at : List ℕ → ℕ
+learners_next_at numbers = learners_at numbers + slice_index numbers 3
+
+abbrev pub fresh_at : List ℕ → ℕ
+fresh_at numbers = learners_next_at numbers + slice_index numbers 4
+
+-- the saved configuration of an array; the ids that begin afresh belong to the step before it, and are ignored
+abbrev pub lists_in : List ℕ → ConfStateLists
+lists_in numbers = record {
+  voters = slice_range numbers 6 (outgoing_at numbers);
+  voters_outgoing = slice_range numbers (outgoing_at numbers) (learners_at numbers);
+  learners = slice_range numbers (learners_at numbers) (learners_next_at numbers);
+  learners_next = slice_range numbers (learners_next_at numbers) (fresh_at numbers);
+  auto_leave = slice_index numbers 0 == 1;
+}
+
+-- ---- checked
+-- the answer for an id that is listed twice or for a broken invariant, with the id
+abbrev pub violation_answer : Violation → Answer
+violation_answer (violated.ListedTwice id) = status_answer RepeatedId id
+violation_answer violated.ZeroId = status_answer ZeroId 0
+violation_answer (violated.NextNotOutgoing id) = status_answer NextNotOutgoing id
+violation_answer (violated.NextAndIncoming id) = status_answer NextAndIncoming id
+violation_answer (violated.LearnerAndVoter id) = status_answer LearnerAndVoter id
+violation_answer (violated.NotJointButNext id) = status_answer NotJointButNext id
+violation_answer violated.NotJointButAutoLeave = status_answer NotJointButAutoLeave 0
+
+-- the answer for a saved configuration that is not valid; it is not read from a line, so there is no bad one
+abbrev pub invalid_answer : ConfigurationFault → Answer
+invalid_answer fault.BadConfState = status_answer DifferentLengths 0
+invalid_answer (fault.NotAConfiguration violation) = violation_answer violation
+invalid_answer fault.NoMemory = no_memory
+
+-- the configuration, or the answer if it has members but no incoming voter
+abbrev pub with_voter : Configuration → Result Configuration Answer
+with_voter c = if has_voter_or_is_empty c then Ok c else Err (status_answer NoVoter 0)
+
+-- the configuration to which a saved one is restored, or the answer if it is not valid or has no voter
+abbrev pub restored_or_answer : Result Configuration ConfigurationFault → Result Configuration Answer
+restored_or_answer (Ok c) = with_voter c
+restored_or_answer (Err why) = Err (invalid_answer why)
+
+-- the configuration of an array, or the answer if it has none
+abbrev pub configuration_of : List ℕ → Result Configuration Answer
+configuration_of numbers =
+    if has_form numbers then restored_or_answer (valid_of (lists_in numbers)) else Err (status_answer DifferentLengths 0)
+
+-- ---- restored
+-- all members of a configuration
+abbrev pub all_members : Configuration → Ids
+all_members c = union (union c.incoming c.outgoing) c.learners
+
+-- the array of a configuration all of whose members begin afresh, if there is a configuration
+abbrev pub restored_array : Result Configuration Answer → OutResult
+restored_array (Ok c) = Ok (numbers_of c (all_members c))
+restored_array (Err why) = Err why
+
+-- the result of `confscript_restore`
+abbrev pub restore_result : List ℕ → OutResult
+restore_result numbers = restored_array (configuration_of numbers)

@@ -1,0 +1,29 @@
+//! Laws of configurations in numbers: what is true of all arrays. Each is the contract of a function that does nothing.
+ghost use Rattle.std.specs.Prelude.{◌≡◌, ◌↔◌, ℕ, List, true, Ok, Some};
+ghost use Rattle.quorum_sets.specs.Ids.{Ids};
+ghost use Rattle.conf_change.specs.Configuration.{Configuration, is_restorable};
+ghost use Rattle.conf_change.specs.ConfState.{ConfStateLists, restored};
+ghost use Rattle.confscript_c.specs.Numbers.{array_of, configuration_of, has_form, lists_in, numbers_of, restore_result};
+ghost use Rattle.confscript_c.specs.Stepped.{step_result};
+ghost use Rattle.confscript_c.specs.declared.stepping.NumberedChange.{NumberedChange};
+
+/// The array of a saved configuration has the form, and is read as that configuration, whichever members begin afresh.
+pub fn arrays_are_read_again()
+    ensures form { (saved : ConfStateLists) (fresh : List ℕ) → has_form (array_of saved fresh) ≡ true }
+    ensures lists { (saved : ConfStateLists) (fresh : List ℕ) → lists_in (array_of saved fresh) ≡ saved }
+{}
+
+/// An array has a configuration exactly if it has the form and etcd's `Restore` restores its saved configuration to it.
+/// What a call writes, the next takes as it is: the array of a configuration that can be restored has that
+/// configuration, and so has each array that `confscript_restore` or `confscript_step` writes.
+pub fn written_arrays_are_taken()
+    ensures restored { (numbers : List ℕ) (c : Configuration) → (configuration_of numbers ≡ Ok c) ↔ ((has_form numbers ≡ true) × (restored (lists_in numbers) ≡ Some c)) }
+    ensures again { (c : Configuration) (fresh : Ids) → is_restorable c ≡ true → configuration_of (numbers_of c fresh) ≡ Ok c }
+    ensures after_restore { (numbers out : List ℕ) → restore_result numbers ≡ Ok out → (c : Configuration) × (configuration_of numbers ≡ Ok c) × (configuration_of out ≡ Ok c) }
+    ensures after_step { (numbers out : List ℕ) (step : ℕ) (changes : List NumberedChange) → step_result numbers step changes ≡ Ok out → (c : Configuration) × (configuration_of out ≡ Ok c) }
+{
+    conf_change::laws::valid_is_described();
+    conf_change::laws::restored_is_described();
+    conf_change::laws::conf_state_describes();
+    conf_change::laws::trackers_stay_sound();
+}

@@ -1,0 +1,154 @@
+//! Configurations in numbers: an array of a flag, five counts, and the ids that they count. A program that keeps its
+//! configuration so has no text to read or write:
+//!
+//! ```text
+//! (1 2)&&(1 2 3) learners_next=(3) autoleave   is   1, 2, 3, 0, 1, 0,  1, 2,  1, 2, 3,  3
+//! ```
+//!
+//! The last count is that of the members that begin afresh. They belong to the step that led to the configuration, so
+//! what comes out of one call goes into the next as it is.
+ghost use Rattle.std.specs.Prelude.{◌≡◌, ◌⊎◌, ◌++◌, true, Ok, Err, IfOk, IfErr, OnOk};
+ghost use Rattle.quorum_sets.specs.Ids.{ascending};
+ghost use Rattle.conf_change.specs.ConfState.{lists_of};
+ghost use Rattle.confscript_c.specs.Answer.{no_memory};
+ghost use Rattle.confscript_c.specs.Numbers as spec;
+ghost use Rattle.confscript_c.specs.Numbers.{has_form, lists_in, violation_answer, configuration_of, flag_number, numbers_of};
+
+use crate::answer::Answer;
+use crate::status::Status;
+use conf_change::{
+    Config, ConfigurationFault, SavedLists, Violation, has_voter_or_is_empty, valid_lists,
+};
+use quorum_sets::{InlineIds, MemberSet, NoMemory};
+use smallvec::SmallVec;
+use std::alloc::Global;
+
+/// The numbers of an array; those of a configuration with few members take no allocation.
+pub(crate) type Numbers = SmallVec<u64, 64>;
+
+/// The configuration of an array. It must be valid, and have an incoming voter or no members, as one that etcd's
+/// `confchange.Restore` restores.
+pub(crate) fn configuration_of(alloc: Global, numbers: &[u64]) -> Result<Config<InlineIds>, Answer>
+    ensures configuration { IfOk result (λ c. configuration_of numbers.now ≡ Ok c) }
+    ensures refused { IfErr result (λ why. (why ≡ no_memory) ⊎ (configuration_of numbers.now ≡ Err why)) }
+{
+    if !has_form(numbers) {
+        return Err(Answer::new(Status::DifferentLengths, 0));
+    }
+    match valid_lists(alloc, &lists_in(numbers)) {
+        Ok(config) => with_voter(config),
+        Err(fault) => Err(invalid_answer(fault)),
+    }
+}
+
+// Whether an array has a flag, five counts, and as many ids as they count.
+fn has_form(numbers: &[u64]) -> bool
+    ensures { result ≡ has_form numbers.now }
+{
+    if numbers.len() < 6 {
+        return false;
+    }
+    let counted = numbers[1]
+        .saturating_add(numbers[2])
+        .saturating_add(numbers[3])
+        .saturating_add(numbers[4])
+        .saturating_add(numbers[5]);
+    numbers[0] <= 1 && counted == (numbers.len() - 6) as u64
+}
+
+// The saved configuration of an array.
+fn lists_in(numbers: &[u64]) -> SavedLists<'_>
+    requires { has_form numbers.now ≡ true }
+    ensures { result ≡ lists_in numbers.now }
+{
+    let outgoing = 6 + numbers[1] as usize;
+    let learners = outgoing + numbers[2] as usize;
+    let learners_next = learners + numbers[3] as usize;
+    let fresh = learners_next + numbers[4] as usize;
+    SavedLists {
+        voters: &numbers[6..outgoing],
+        voters_outgoing: &numbers[outgoing..learners],
+        learners: &numbers[learners..learners_next],
+        learners_next: &numbers[learners_next..fresh],
+        auto_leave: numbers[0] == 1,
+    }
+}
+
+// The configuration, unless it has members but no incoming voter.
+fn with_voter(config: Config<InlineIds>) -> Result<Config<InlineIds>, Answer>
+    ensures { result ≡ spec.with_voter config }
+{
+    if has_voter_or_is_empty(&config) {
+        Ok(config)
+    } else {
+        Err(Answer::new(Status::NoVoter, 0))
+    }
+}
+
+// The answer for a saved configuration that is not valid.
+fn invalid_answer(fault: ConfigurationFault) -> Answer
+    ensures { result ≡ spec.invalid_answer fault }
+{
+    match fault {
+        ConfigurationFault::BadConfState => Answer::new(Status::DifferentLengths, 0),
+        ConfigurationFault::NotAConfiguration(violation) => violation_answer(violation),
+        ConfigurationFault::NoMemory => Answer::no_memory(),
+    }
+}
+
+// The answer for an id that is listed twice or a broken invariant. The number is the id, if there is one.
+fn violation_answer(violation: Violation) -> Answer
+    ensures { result ≡ violation_answer violation }
+{
+    match violation {
+        Violation::ListedTwice(id) => Answer::new(Status::RepeatedId, id),
+        Violation::ZeroId => Answer::new(Status::ZeroId, 0),
+        Violation::NextNotOutgoing(id) => Answer::new(Status::NextNotOutgoing, id),
+        Violation::NextAndIncoming(id) => Answer::new(Status::NextAndIncoming, id),
+        Violation::LearnerAndVoter(id) => Answer::new(Status::LearnerAndVoter, id),
+        Violation::NotJointButNext(id) => Answer::new(Status::NotJointButNext, id),
+        Violation::NotJointButAutoLeave => Answer::new(Status::NotJointButAutoLeave, 0),
+    }
+}
+
+/// The array of a configuration with the members that begin afresh.
+pub(crate) fn numbers_of<S: MemberSet>(
+    alloc: Global,
+    config: &Config<S>,
+    fresh: &S,
+) -> Result<Numbers, NoMemory>
+    ensures { IfOk result (λ numbers. numbers.items ≡ numbers_of config.now (S.ids fresh.now)) }
+{
+    let mut numbers = SmallVec::new(alloc);
+    numbers.push(flag_number(config.auto_leave))?;
+    numbers.push(config.incoming.len() as u64)?;
+    numbers.push(config.outgoing.len() as u64)?;
+    numbers.push(config.learners.len() as u64)?;
+    numbers.push(config.learners_next.len() as u64)?;
+    numbers.push(fresh.len() as u64)?;
+    append_ids(&mut numbers, &config.incoming)?;
+    append_ids(&mut numbers, &config.outgoing)?;
+    append_ids(&mut numbers, &config.learners)?;
+    append_ids(&mut numbers, &config.learners_next)?;
+    append_ids(&mut numbers, fresh)?;
+    Ok(numbers)
+}
+
+// The number of the flag.
+fn flag_number(auto_leave: bool) -> u64
+    ensures { result ≡ flag_number auto_leave }
+{
+    if auto_leave { 1 } else { 0 }
+}
+
+// Appends the ids of a set, in ascending order.
+fn append_ids<S: MemberSet>(numbers: &mut Numbers, ids: &S) -> Result<(), NoMemory>
+    ensures { OnOk result (numbers.new.items ≡ numbers.old.items ++ ascending (S.ids ids.now)) }
+{
+    for position in 0..ids.len() {
+        if let Some(id) = ids.at(position) {
+            numbers.push(id)?;
+        }
+    }
+    Ok(())
+}
