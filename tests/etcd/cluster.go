@@ -1,9 +1,6 @@
 package etcd
 
 import (
-	"io"
-	"log"
-	"math"
 	"sort"
 	"testing"
 
@@ -11,67 +8,51 @@ import (
 	pb "go.etcd.io/etcd/raft/raftpb"
 )
 
-// A member is a RawNode with its log in memory.
-type member struct {
-	raw     *raft.RawNode
-	storage *raft.MemoryStorage
-	applied uint64
-	state   pb.ConfState // after the last change that it applied
-}
-
 // A cluster is a group of members whose messages are delivered by hand, in the order of their ids. Only the leader's
 // clock runs, so there is no election that the test did not start.
 type cluster struct {
 	t       *testing.T
 	members map[uint64]*member
-	changed []pb.ConfState // the leader's configuration after each change since the last call of taken
+	stopped map[uint64]*raft.MemoryStorage // what was stored by those that were stopped
+	changed []pb.ConfState                 // the leader's configuration after each change since the last call of taken
 }
 
-// newCluster starts the members of a configuration, as if from a snapshot that holds it, and makes one of them
-// leader.
+// newCluster starts the members of a configuration, and makes one of them leader.
 func newCluster(t *testing.T, state pb.ConfState, leader uint64) *cluster {
-	c := &cluster{t: t, members: map[uint64]*member{}}
-	for _, id := range members(state) {
-		storage := raft.NewMemoryStorage()
-		storage.ApplySnapshot(pb.Snapshot{Metadata: pb.SnapshotMetadata{ConfState: state, Index: 1, Term: 1}})
-		storage.SetHardState(pb.HardState{Term: 1, Commit: 1})
-		c.start(id, storage)
-		c.members[id].state = state
-	}
+	c := startCluster(t, state)
 	c.elect(leader)
 	return c
 }
 
-// start starts a member from its storage. etcd panics if it cannot restore the configuration there.
-func (c *cluster) start(id uint64, storage *raft.MemoryStorage) {
-	raw, err := raft.NewRawNode(&raft.Config{
-		ID:              id,
-		ElectionTick:    10,
-		HeartbeatTick:   1,
-		Storage:         storage,
-		MaxSizePerMsg:   math.MaxUint64,
-		MaxInflightMsgs: 256,
-		Logger:          &raft.DefaultLogger{Logger: log.New(io.Discard, "", 0)},
-	})
-	if err != nil {
-		c.t.Fatal(err)
+// startCluster starts the members of a configuration, as if from a snapshot that holds it.
+func startCluster(t *testing.T, state pb.ConfState) *cluster {
+	c := &cluster{t: t, members: map[uint64]*member{}, stopped: map[uint64]*raft.MemoryStorage{}}
+	for _, id := range members(state) {
+		c.members[id] = startMember(t, id, storageOf(state))
 	}
-	c.members[id] = &member{raw: raw, storage: storage}
+	return c
 }
 
-// startMissing starts the members of a configuration that do not run yet, with an empty log.
+// startMissing starts the members of a configuration that do not run yet: a new one with an empty log, and one that
+// was stopped with what it stored.
 func (c *cluster) startMissing(state pb.ConfState) {
 	for _, id := range members(state) {
-		if c.members[id] == nil {
-			c.start(id, raft.NewMemoryStorage())
+		if c.members[id] != nil {
+			continue
 		}
+		storage := c.stopped[id]
+		if storage == nil {
+			storage = raft.NewMemoryStorage()
+		}
+		c.members[id] = startMember(c.t, id, storage)
 	}
 }
 
-// stopOthers stops those that are not members of a configuration, and forgets their logs.
+// stopOthers stops those that are not members of a configuration.
 func (c *cluster) stopOthers(state pb.ConfState) {
-	for id := range c.members {
+	for id, m := range c.members {
 		if !holds(members(state), id) {
+			c.stopped[id] = m.storage
 			delete(c.members, id)
 		}
 	}
@@ -127,6 +108,13 @@ func (c *cluster) handleEach() bool {
 	return isBusy
 }
 
+// handleAll handles all that one member has ready.
+func (c *cluster) handleAll(m *member) {
+	for m.raw.HasReady() {
+		c.handle(m)
+	}
+}
+
 // wait runs the leader's clock for some heartbeats. With auto-leave, etcd appends the change that leaves to the
 // leader's log, and sends it only after the next heartbeat.
 func (c *cluster) wait() {
@@ -140,51 +128,18 @@ func (c *cluster) wait() {
 // handle saves, sends and applies what a member has ready.
 func (c *cluster) handle(m *member) {
 	ready := m.raw.Ready()
-	if !raft.IsEmptySnap(ready.Snapshot) {
-		m.storage.ApplySnapshot(ready.Snapshot)
-		m.applied, m.state = ready.Snapshot.Metadata.Index, ready.Snapshot.Metadata.ConfState
-	}
-	if !raft.IsEmptyHardState(ready.HardState) {
-		m.storage.SetHardState(ready.HardState)
-	}
-	m.storage.Append(ready.Entries)
+	m.save(ready)
 	for _, message := range ready.Messages {
 		if to := c.members[message.To]; to != nil {
 			to.raw.Step(message) // an error says that the message is out of date
 		}
 	}
 	for _, entry := range ready.CommittedEntries {
-		c.apply(m, entry)
+		if m.apply(entry) && m == c.members[c.leader()] {
+			c.changed = append(c.changed, m.state)
+		}
 	}
 	m.raw.Advance(ready)
-}
-
-// apply applies a committed entry. After a change of the configuration there is a new snapshot, which a member that
-// starts with an empty log is sent.
-func (c *cluster) apply(m *member, entry pb.Entry) {
-	m.applied = entry.Index
-	var change pb.ConfChangeI
-	switch entry.Type {
-	case pb.EntryConfChange:
-		var single pb.ConfChange
-		if err := single.Unmarshal(entry.Data); err != nil {
-			c.t.Fatal(err)
-		}
-		change = single
-	case pb.EntryConfChangeV2:
-		var list pb.ConfChangeV2
-		if err := list.Unmarshal(entry.Data); err != nil {
-			c.t.Fatal(err)
-		}
-		change = list
-	default:
-		return
-	}
-	m.state = *m.raw.ApplyConfChange(change)
-	m.storage.CreateSnapshot(entry.Index, &m.state, nil)
-	if m == c.members[c.leader()] {
-		c.changed = append(c.changed, m.state)
-	}
 }
 
 // taken returns the leader's configuration after each change since the last call.

@@ -6,7 +6,9 @@ import (
 	"strings"
 
 	"go.etcd.io/etcd/raft"
+	"go.etcd.io/etcd/raft/confchange"
 	pb "go.etcd.io/etcd/raft/raftpb"
+	"go.etcd.io/etcd/raft/tracker"
 )
 
 // readConfState reads the line that etcd's DescribeConfState writes.
@@ -48,6 +50,16 @@ func isSame(a, b pb.ConfState) bool {
 	return a.Equivalent(b) == nil
 }
 
+// areSame says whether two lists of ConfStates name the same configurations, one by one.
+func areSame(a, b []pb.ConfState) bool {
+	for i := range a {
+		if i < len(b) && !isSame(a[i], b[i]) {
+			return false
+		}
+	}
+	return len(a) == len(b)
+}
+
 // describe writes states for a report.
 func describe(states ...pb.ConfState) string {
 	var lines []string
@@ -78,4 +90,33 @@ func members(state pb.ConfState) []uint64 {
 		}
 	}
 	return ids
+}
+
+// voterIDs returns the incoming and the outgoing voters of configurations, each once.
+func voterIDs(states ...pb.ConfState) []uint64 {
+	var ids []uint64
+	for _, state := range states {
+		ids = append(ids, without(state.Voters, ids)...)
+		ids = append(ids, without(state.VotersOutgoing, ids)...)
+	}
+	return ids
+}
+
+// staying returns the voters of a configuration that are voters of another one too.
+func staying(before, after pb.ConfState) []uint64 {
+	return without(voterIDs(before), without(voterIDs(before), voterIDs(after)))
+}
+
+// left returns what a joint configuration becomes when etcd's changer leaves it.
+func left(joint pb.ConfState) pb.ConfState {
+	changer := confchange.Changer{Tracker: tracker.MakeProgressTracker(10)}
+	var err error
+	changer.Tracker.Config, changer.Tracker.Progress, err = confchange.Restore(changer, joint)
+	if err == nil {
+		changer.Tracker.Config, changer.Tracker.Progress, err = changer.LeaveJoint()
+	}
+	if err != nil {
+		panic(err)
+	}
+	return changer.Tracker.ConfState()
 }

@@ -29,19 +29,19 @@ func TestNumbers(t *testing.T) {
 				for _, line := range p.lines {
 					away := append(append([]uint64(nil), down...), line.CatchUp...)
 					does := commits(t, line.ConfState, away)
-					if line.Commits == nil || *line.Commits != does {
+					stalls = stalls || !does
+					compareNumbers(t, line, down)
+					if (line.Besides != nil) != does {
 						t.Errorf("without %v this commits: %v\n%s", away, does, describe(line.ConfState))
 					}
-					stalls = stalls || !does
-					compareNumbers(t, line)
 				}
 				if stalls {
 					stalled++
 				} else {
 					committed++
 				}
-				if (status == 1) != stalls {
-					t.Errorf("status %d without %v for\n%s", status, down, describe(p.now, p.target))
+				if (status == 1) != stalls || p.stalls != stalls {
+					t.Errorf("status %d, stalls: %v, without %v for\n%s", status, p.stalls, down, describe(p.now, p.target))
 				}
 			})
 		}
@@ -58,17 +58,25 @@ func list(ids []uint64) string {
 	return strings.Trim(strings.ReplaceAll(fmt.Sprint(ids), " ", ","), "[]")
 }
 
-// compareNumbers compares how many may be down with what trying each set of voters gives.
-func compareNumbers(t *testing.T, line planLine) {
-	if k := mayBeDown(line.ConfState, nil); k != line.MayBeDown {
-		t.Errorf("%d may be down, and not %d, in\n%s", k, line.MayBeDown, describe(line.ConfState))
-	}
-	untilThen := -1
-	if line.UntilThen != nil {
-		untilThen = *line.UntilThen
-	}
-	if k := mayBeDown(line.ConfState, line.CatchUp); k != untilThen {
-		t.Errorf("%d may be down until %v have caught up, and not %d, in\n%s", k, line.CatchUp, untilThen, describe(line.ConfState))
+// compareNumbers compares how many may be down, at all, until those that have to catch up have done so, and besides
+// those that are down, with what trying each set of voters gives.
+func compareNumbers(t *testing.T, line planLine, down []uint64) {
+	for _, number := range []struct {
+		name      string
+		value     *int
+		uncounted []uint64
+	}{
+		{"may_be_down", &line.MayBeDown, nil},
+		{"until_then", line.UntilThen, line.CatchUp},
+		{"may_be_down_besides", line.Besides, append(append([]uint64(nil), down...), line.CatchUp...)},
+	} {
+		value := -1
+		if number.value != nil {
+			value = *number.value
+		}
+		if k := mayBeDown(line.ConfState, number.uncounted); k != value {
+			t.Errorf("%s is %d instead of %d without %v in\n%s", number.name, value, k, number.uncounted, describe(line.ConfState))
+		}
 	}
 }
 

@@ -16,12 +16,13 @@ var strategies = []string{"shortest", "learners-first", "one-at-a-time"}
 // A planLine is a line of `plan --output json`: a step, an empty plan, or a pair without a plan.
 type planLine struct {
 	CatchUp    []uint64        `json:"catch_up"`
-	Commits    *bool           `json:"commits"` // with --down
 	ConfChange pb.ConfChangeV2 `json:"conf_change"`
 	ConfState  pb.ConfState    `json:"conf_state"`
 	MayBeDown  int             `json:"may_be_down"`
+	Besides    *int            `json:"may_be_down_besides"` // with --down; null if it stalls
 	NoPlan     string          `json:"no_plan"`
 	Plan       int             `json:"plan"`
+	Stalls     bool            `json:"stalls"` // with --down
 	Step       int             `json:"step"`
 	Steps      int             `json:"steps"`
 	UntilThen  *int            `json:"until_then"` // null if it stalls
@@ -32,7 +33,7 @@ type plan struct {
 	strategy    string
 	now, target pb.ConfState
 	lines       []planLine
-	left        pb.ConfState // after the joint configuration of the target is left, if it has auto-leave
+	stalls      bool // with --down
 }
 
 // after returns the configurations after the steps.
@@ -77,6 +78,7 @@ func readLines(t *testing.T, output string, pairs []*plan) {
 			t.Fatalf("there is no such plan: %s", scanner.Text())
 		}
 		p := pairs[line.Plan-1]
+		p.stalls = line.Stalls
 		if line.NoPlan == "" && line.Steps == 0 {
 			continue
 		}
@@ -100,8 +102,18 @@ func askPlans(t *testing.T, strategy string, pairs []*plan, options ...string) i
 	return status
 }
 
-// leavesByItself says whether etcd enters a joint configuration for the line's change and leaves it by itself.
-func (line planLine) leavesByItself() bool {
-	autoLeave, joint := line.ConfChange.EnterJoint()
-	return joint && autoLeave
+// settled returns the configuration after the line. etcd leaves one with auto-leave by itself.
+func (line planLine) settled() pb.ConfState {
+	if line.ConfState.AutoLeave {
+		return left(line.ConfState)
+	}
+	return line.ConfState
+}
+
+// passed returns the configurations that etcd passes through from before the line to after it.
+func (line planLine) passed() []pb.ConfState {
+	if line.ConfState.AutoLeave {
+		return []pb.ConfState{line.ConfState, left(line.ConfState)}
+	}
+	return []pb.ConfState{line.ConfState}
 }

@@ -3,11 +3,8 @@ package etcd
 import (
 	"fmt"
 	"math/rand"
-	"strings"
 	"testing"
 
-	"github.com/cockroachdb/datadriven"
-	"go.etcd.io/etcd/raft"
 	pb "go.etcd.io/etcd/raft/raftpb"
 )
 
@@ -25,13 +22,16 @@ func TestPlans(t *testing.T) {
 			p.count(seen)
 			t.Run(fmt.Sprint(strategy, " ", i), func(t *testing.T) { p.carryOut(t, rand.New(rand.NewSource(int64(i))), seen) })
 		}
-		t.Run(strategy+": each kind occurs", func(t *testing.T) {
-			for _, kind := range kindsOfPlans[strategy] {
-				if seen[kind] < 5 {
-					t.Errorf("%s: %d times", kind, seen[kind])
-				}
-			}
-		})
+		t.Run(strategy+": each kind occurs", func(t *testing.T) { compareSeen(t, seen, kindsOfPlans[strategy]) })
+	}
+}
+
+// compareSeen demands that each kind was seen at least five times.
+func compareSeen(t *testing.T, seen map[string]int, kinds []string) {
+	for _, kind := range kinds {
+		if seen[kind] < 5 {
+			t.Errorf("%s: %d times", kind, seen[kind])
+		}
 	}
 }
 
@@ -39,7 +39,7 @@ func TestPlans(t *testing.T) {
 var kindsOfPlans = map[string][]string{
 	"shortest": {
 		"1 steps", "2 steps", "3 steps", "4 steps", "auto", "explicit", "implicit", "leaving", "an update alone",
-		"left by itself after the step", "left by itself at the start", "leadership moved", "leadership lost",
+		"left by itself at the start", "leadership moved", "leadership lost",
 	},
 	"learners-first": {
 		"1 steps", "2 steps", "3 steps", "4 steps", "5 steps", "auto", "explicit", "implicit", "leaving", "leadership moved",
@@ -80,7 +80,6 @@ func makePlans(t *testing.T, chance *rand.Rand, strategy string) []*plan {
 	if status := askPlans(t, strategy, made); status != 0 {
 		t.Fatalf("%s: status %d", strategy, status)
 	}
-	leaveTargets(t, made)
 	return made
 }
 
@@ -99,36 +98,16 @@ func pair(chance *rand.Rand, strategy string) *plan {
 	return p
 }
 
-// leaveTargets asks confscript for what is left of each target with auto-leave.
-func leaveTargets(t *testing.T, made []*plan) {
-	var script strings.Builder
-	var leaving []*plan
-	for _, p := range made {
-		if p.target.AutoLeave {
-			leaving = append(leaving, p)
-			fmt.Fprintf(&script, "restore\n%s\n----\n\nleave-joint\n----\n\nconf-state\n----\n\n", raft.DescribeConfState(p.target))
-		}
+// compareTarget demands that the last line leads to the target.
+func (p *plan) compareTarget(t *testing.T) {
+	if states := p.after(); !isSame(states[len(states)-1], p.target) {
+		t.Fatalf("the plan for\n%s\nleads to\n%s", describe(p.now, p.target), describe(states...))
 	}
-	if len(leaving) == 0 {
-		return
-	}
-	datadriven.RunTestFromString(t, rewrite(t, script.String()), func(t *testing.T, d *datadriven.TestData) string {
-		if d.Cmd == "conf-state" {
-			state, err := readConfState(d.Expected)
-			if err != nil {
-				t.Fatal(err)
-			}
-			leaving[0].left, leaving = state, leaving[1:]
-		}
-		return d.Expected
-	})
 }
 
 // carryOut starts a cluster with the current configuration, and proposes the steps.
 func (p *plan) carryOut(t *testing.T, chance *rand.Rand, seen map[string]int) {
-	if states := p.after(); !isSame(states[len(states)-1], p.target) {
-		t.Fatalf("the plan for\n%s\nleads to\n%s", describe(p.now, p.target), describe(states...))
-	}
+	p.compareTarget(t)
 	// With auto-leave the first step comes before leadership can be moved.
 	leaders := p.now.Voters
 	if !p.now.AutoLeave {
@@ -137,11 +116,8 @@ func (p *plan) carryOut(t *testing.T, chance *rand.Rand, seen map[string]int) {
 	c := newCluster(t, p.now, oneOf(chance, leaders))
 	before := p.now
 	for _, line := range p.lines {
-		p.carryOutStep(c, line, before, seen)
-		before = line.ConfState
-	}
-	if p.target.AutoLeave {
-		before = p.left
+		c.carryOut(line, before, seen)
+		before = line.settled()
 	}
 	c.commit()
 	for id, m := range c.members {
@@ -151,36 +127,25 @@ func (p *plan) carryOut(t *testing.T, chance *rand.Rand, seen map[string]int) {
 	}
 }
 
-// carryOutStep starts new members, moves leadership if the step takes it away, proposes the line's change, waits, and
+// carryOut starts new members, moves leadership if the step takes it away, proposes the line's change, waits, and
 // compares the leader's configuration with the one of the line. A configuration with auto-leave is left without a
 // proposal.
-func (p *plan) carryOutStep(c *cluster, line planLine, before pb.ConfState, seen map[string]int) {
-	after := line.ConfState
-	c.startMissing(after)
-	expected := 1
+func (c *cluster) carryOut(line planLine, before pb.ConfState, seen map[string]int) {
+	last := line.settled()
+	c.startMissing(line.ConfState)
 	if before.AutoLeave {
 		seen["left by itself at the start"]++
 	} else {
-		if c.moveLeader(before, after, line.leavesByItself()) {
+		if c.moveLeader(before, last) {
 			seen["leadership moved"]++
 		}
 		c.propose(line.ConfChange)
 	}
-	last := after
-	if line.leavesByItself() {
-		expected++
-	}
-	if after.AutoLeave {
-		last = p.left
-	} else if line.leavesByItself() {
-		seen["left by itself after the step"]++
-	}
-	states := c.taken()
-	if len(states) != expected || !isSame(states[len(states)-1], last) || after.AutoLeave && !isSame(states[0], after) {
-		c.t.Fatalf("%v led from\n%s\nto\n%s\ninstead of\n%s", line.ConfChange, describe(before), describe(states...), describe(after))
+	if states := c.taken(); !areSame(states, line.passed()) {
+		c.t.Fatalf("%v led from\n%s\nto\n%s\ninstead of\n%s", line.ConfChange, describe(before), describe(states...), describe(line.passed()...))
 	}
 	c.stopOthers(last)
-	if c.leader() == 0 && after.AutoLeave {
+	if c.leader() == 0 && line.ConfState.AutoLeave {
 		c.elect(last.Voters[0])
 		seen["leadership lost"]++
 	}
@@ -191,19 +156,13 @@ func (p *plan) carryOutStep(c *cluster, line planLine, before pb.ConfState, seen
 // moveLeader moves leadership to a voter that stays one if the leader does not, and says whether it did. Where none
 // stays, since etcd leaves the joint configuration by itself, the leader is left in place, and an election has to
 // follow.
-func (c *cluster) moveLeader(before, after pb.ConfState, leavesByItself bool) bool {
-	stay := append([]uint64(nil), after.Voters...)
-	if !leavesByItself {
-		stay = append(stay, after.VotersOutgoing...)
-	}
-	if holds(stay, c.leader()) {
+func (c *cluster) moveLeader(before, last pb.ConfState) bool {
+	if holds(voterIDs(last), c.leader()) {
 		return false
 	}
-	for _, id := range stay {
-		if holds(before.Voters, id) || holds(before.VotersOutgoing, id) {
-			c.move(id)
-			return true
-		}
+	for _, id := range staying(before, last) {
+		c.move(id)
+		return true
 	}
 	return false
 }

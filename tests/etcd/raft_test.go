@@ -2,10 +2,8 @@ package etcd
 
 import (
 	"fmt"
-	"strings"
 	"testing"
 
-	"go.etcd.io/etcd/raft"
 	pb "go.etcd.io/etcd/raft/raftpb"
 )
 
@@ -15,7 +13,9 @@ func TestRaft(t *testing.T) {
 	t.Run("a list without changes does not enter", enterWithoutChanges)
 	t.Run("a change is refused while another is not applied", twoAtOnce)
 	t.Run("a voter that is only outgoing is sent no snapshot", lateOutgoingVoter)
+	t.Run("removed members are stopped too early", stopTooEarly)
 	t.Run("auto-leave while entries are applied leaves twice", leaveTwice)
+	t.Run("several changes in one proposal end a cluster that serves", severalChanges)
 }
 
 // change writes a ConfChangeV2.
@@ -59,7 +59,7 @@ func lateOutgoingVoter(t *testing.T) {
 		c := newCluster(t, pb.ConfState{Voters: []uint64{1, 2, 3}}, 1)
 		c.propose(change(pb.ConfChangeTransitionAuto, "v4"))
 		c.propose(change(pb.ConfChangeTransitionJointExplicit, changes))
-		c.start(4, raft.NewMemoryStorage())
+		c.startMissing(pb.ConfState{Voters: []uint64{4}})
 		c.wait()
 		if c.isCaughtUp() != isIncoming {
 			t.Errorf("%s: 4 has caught up: %v", changes, !isIncoming)
@@ -67,21 +67,104 @@ func lateOutgoingVoter(t *testing.T) {
 	}
 }
 
-// leaveTwice proposes entries so that some are applied between the change that enters and the one that leaves.
-func leaveTwice(t *testing.T) {
-	c := newCluster(t, pb.ConfState{Voters: []uint64{1, 2, 3}}, 1)
-	leader := c.members[1].raw
+// stopTooEarly leaves a joint configuration. When the leader has applied that, and no other member knows of it, those
+// that are removed are stopped or not, and the leader fails, as one of three voters may.
+func stopTooEarly(t *testing.T) {
+	for _, isStopped := range []bool{true, false} {
+		c := newCluster(t, pb.ConfState{Voters: []uint64{4, 5, 6}, VotersOutgoing: []uint64{1, 2, 3}}, 4)
+		leader, all := c.leading(), c.members
+		if err := leader.raw.ProposeConfChange(change(pb.ConfChangeTransitionAuto, "")); err != nil {
+			t.Fatal(err)
+		}
+		c.handleEach()
+		for _, id := range []uint64{1, 2, 3} {
+			c.handleAll(c.members[id])
+		}
+		c.members = map[uint64]*member{4: leader}
+		c.handleAll(leader)
+		if left := c.taken(); len(left) != 1 {
+			t.Fatalf("the leader went through\n%s", describe(left...))
+		}
+		c.members = all
+		delete(c.members, 4)
+		if isStopped {
+			c.stopOthers(pb.ConfState{Voters: []uint64{5, 6}})
+		}
+		for _, id := range []uint64{5, 6, 5, 6} {
+			c.members[id].raw.Campaign()
+			c.settle()
+		}
+		if (c.leader() == 0) != isStopped {
+			t.Errorf("if they are stopped: %v, %d leads", isStopped, c.leader())
+		}
+	}
+}
+
+// leftTwice is what etcd panics with when it applies a change that leaves, and the configuration is not joint.
+const leftTwice = "can't leave a non-joint config"
+
+// panicOf returns what a call panics with, or nothing.
+func panicOf(call func()) (panicked string) {
 	defer func() {
-		if panicked := fmt.Sprint(recover()); !strings.Contains(panicked, "can't leave a non-joint config") {
-			t.Errorf("etcd answered %s; configurations\n%s", panicked, describe(c.taken()...))
+		if value := recover(); value != nil {
+			panicked = fmt.Sprint(value)
 		}
 	}()
-	if err := leader.ProposeConfChange(change(pb.ConfChangeTransitionJointImplicit, "u1")); err != nil {
-		t.Fatal(err)
+	call()
+	return ""
+}
+
+// proposeWhileServing proposes a change, and then entries, so that some are applied while the change is on its way.
+func (c *cluster) proposeWhileServing(change pb.ConfChangeV2) {
+	leader := c.leading().raw
+	if err := leader.ProposeConfChange(change); err != nil {
+		c.t.Fatal(err)
 	}
 	for i := 0; i < 10; i++ {
 		leader.Propose([]byte("entry"))
 		c.handleEach()
 	}
 	c.settle()
+}
+
+// leaveTwice lets entries be applied between the change that enters and the one that leaves.
+func leaveTwice(t *testing.T) {
+	c := newCluster(t, pb.ConfState{Voters: []uint64{1, 2, 3}}, 1)
+	panicked := panicOf(func() { c.proposeWhileServing(change(pb.ConfChangeTransitionJointImplicit, "u1")) })
+	if panicked != leftTwice {
+		t.Errorf("etcd answered %q; configurations\n%s", panicked, describe(c.taken()...))
+	}
+}
+
+// severalChanges makes a simple step of two changes, first as one proposal. Then each member panics, and again when it
+// starts from what it stored. As one proposal for each change, as the lines of a plan are, the step is made.
+func severalChanges(t *testing.T) {
+	voters := []uint64{1, 2, 3}
+	start := func() *cluster {
+		c := newCluster(t, pb.ConfState{Voters: voters}, 1)
+		c.startMissing(pb.ConfState{Learners: []uint64{4, 5}})
+		return c
+	}
+	c := start()
+	answers := []string{panicOf(func() { c.proposeWhileServing(change(pb.ConfChangeTransitionAuto, "l4 l5")) })}
+	for _, id := range voters[1:] {
+		answers = append(answers, panicOf(func() { c.handleAll(c.members[id]) }))
+	}
+	for _, id := range voters {
+		answers = append(answers, panicOf(func() { c.handleAll(startMember(t, id, c.members[id].storage)) }))
+	}
+	for _, answer := range answers {
+		if answer != leftTwice {
+			t.Errorf("etcd answered %q", answers)
+			break
+		}
+	}
+	c = start()
+	for _, changes := range []string{"l4", "l5"} {
+		c.proposeWhileServing(change(pb.ConfChangeTransitionAuto, changes))
+		c.catchUp()
+	}
+	if expected := (pb.ConfState{Voters: voters, Learners: []uint64{4, 5}}); !isSame(c.leading().state, expected) {
+		t.Errorf("they led to %s", describe(c.leading().state))
+	}
 }
