@@ -1,7 +1,8 @@
 //! Changes of a configuration.
-use crate::sets::{has_ids, ids};
+use crate::equal::{has_ids, is_same};
+use crate::sets::ids;
 use crate::texts::appends;
-use crate::twice::twice;
+use crate::twice;
 use conf_change::{
     Change, Changer, Changes, Config, Progress, Refused, Step, StepKind, TokenFault, Transition,
     read_changes, taken, union, write_config, write_progress, write_refused, write_token_fault,
@@ -200,20 +201,6 @@ fn step(alloc: Global, call: Call, text: &'static [u8]) -> Result<Step, NoMemory
         StepKind::Enter(auto_leave) => Step::EnterJoint(auto_leave, copy),
         StepKind::Leave => Step::LeaveJoint,
     })
-}
-
-/// Whether two changers are equal. It does not allocate.
-pub(crate) fn is_same<S: MemberSet>(changer: &Changer<S>, other: &Changer<S>) -> bool {
-    let tracker = changer.tracker();
-    let others = other.tracker();
-    let mut is_so = tracker.config().same(others.config())
-        & (tracker.member_count() == others.member_count())
-        & (changer.last_index() == other.last_index())
-        & (changer.floor() == other.floor());
-    for index in 0..tracker.member_count() {
-        is_so &= tracker.member_at(index) == others.member_at(index);
-    }
-    is_so
 }
 
 fn has_text<S: MemberSet>(alloc: Global, config: &Config<S>, expected: &str) -> bool {

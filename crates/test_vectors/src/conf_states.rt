@@ -1,7 +1,8 @@
 //! Saved configurations, and copies of configurations and changers.
-use crate::changers::{Shown, is_same, is_shown};
+use crate::changers::{Shown, is_shown};
+use crate::equal::is_same;
 use crate::texts::appends;
-use crate::twice::twice;
+use crate::twice;
 use conf_change::{
     AckFault, Changer, ConfState, ConfStateFault, Config, ConfigurationFault, Floor, Progress,
     RestoreFault, Violation, check, conf_state, described, read_conf_state, read_configuration,

@@ -1,7 +1,7 @@
 //! The JSON of saved configurations and of proposed changes.
 use crate::conf_states::{changer_at, read};
 use crate::paths::FIVE;
-use crate::twice::twice;
+use crate::twice;
 use conf_change::{Change, Changes, ConfState, Config, Kind, Step};
 use quorum_sets::{InlineIds, MemberSet, NoMemory, TreeIds};
 use raft_json::{JsonFault, conf_change_value, conf_state_value, read_conf_state_json};

@@ -1,11 +1,14 @@
 //! Test vectors for the public calls of the other crates: inputs with the results that the rules give, where the
-//! scripts of `tests/scripts` do not show them. They are a crate of their own, so that the other crates are not proved
-//! again with their tests.
+//! scripts of `tests/scripts` do not show them. They are crates of their own, so that the other crates are not proved
+//! again with their tests. This one has those of sets, configurations, plans and paths, and `script_vectors` those of
+//! scripts, sessions and modes; their tests are proved beside each other.
 //!
 //! Each test outside of `ample` is run once for each of its allocations, with that one refused, and once with none
 //! refused (see `tests/refused`). So a call either returns the right result, or reports that memory ran out and leaves
 //! its arguments as its contract states, and then a second call returns the right result. The tests in `ample` are run
 //! once: those of calls that do not allocate, and those that stop if memory runs out.
+//!
+//! What the tests of both crates need is in `equal`, `runtime` and `twice`.
 #![tactic(auto)]
 
 #[cfg(test)]
@@ -14,25 +17,18 @@ mod ample;
 mod changers;
 #[cfg(test)]
 mod conf_states;
-#[cfg(test)]
-mod files;
+pub mod equal;
 #[cfg(test)]
 mod json;
-#[cfg(test)]
-mod matching;
-#[cfg(test)]
-mod modes;
 #[cfg(test)]
 mod paths;
 #[cfg(test)]
 mod plans;
 #[cfg(test)]
 mod printed_paths;
-#[cfg(test)]
-mod sessions;
+pub mod runtime;
 #[cfg(test)]
 mod sets;
 #[cfg(test)]
 mod texts;
-#[cfg(test)]
 mod twice;

@@ -3,9 +3,9 @@ ghost use Rattle.std.specs.Prelude.{◌≡◌, true};
 ghost use Rattle.conf_change.specs.Configuration.{is_valid};
 
 use crate::conf_states::changer_at;
-use crate::sets::has_ids;
+use crate::equal::has_ids;
 use crate::texts::appends;
-use crate::twice::twice;
+use crate::twice;
 use conf_change::{Changer, Config, Refused, Step, check};
 use conf_plan::{NoPath, Path, Strategy, catching_up, plan_by, print_path};
 use quorum_sets::{InlineIds, MemberSet, NoMemory, TreeIds};
@@ -179,17 +179,21 @@ static ROWS: [Row; 11] = [
     ),
 ];
 
-/// The path by a strategy.
+/// The path by a strategy, made while these ids are down.
 pub(crate) fn path_of<S: MemberSet>(
     alloc: Global,
     strategy: Strategy,
     now: &Config<S>,
     target: &Config<S>,
+    down: &S,
 ) -> Result<Path, NoPath>
     requires now { is_valid now.now ≡ true }
     requires target { is_valid target.now ≡ true }
 {
-    twice!(NoPath::NoMemory, plan_by(alloc, strategy, now, target))
+    twice!(
+        NoPath::NoMemory,
+        plan_by(alloc, strategy, now, target, down)
+    )
 }
 
 /// The path by a strategy between valid configurations, if there is one.
@@ -198,9 +202,10 @@ pub(crate) fn path_between<S: MemberSet>(
     strategy: Strategy,
     now: &Config<S>,
     target: &Config<S>,
+    down: &S,
 ) -> Option<Path> {
     if check(now).is_ok() && check(target).is_ok() {
-        path_of(alloc, strategy, now, target).ok()
+        path_of(alloc, strategy, now, target, down).ok()
     } else {
         None
     }
@@ -268,7 +273,9 @@ fn leads<S: MemberSet>(
     target: &Config<S>,
     expected: &Expected,
 ) -> bool {
-    match path_between(alloc, expected.0, changer.tracker().config(), target) {
+    let none_down = S::empty(alloc);
+    let now = changer.tracker().config();
+    match path_between(alloc, expected.0, now, target, &none_down) {
         Some(path) => {
             has_steps(alloc, changer, &path, expected) & changer.tracker().config().same(target)
         }

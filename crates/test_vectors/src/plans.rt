@@ -6,7 +6,7 @@ use crate::changers::{Shown, is_shown};
 use crate::conf_states::{TEN, changer_at};
 use crate::paths::path_of;
 use crate::texts::appends;
-use crate::twice::twice;
+use crate::twice;
 use conf_change::{Changer, Config, Refused, Step, check};
 use conf_plan::{
     Path, Plan, PlanFault, PlanTextFault, StepRefused, Strategy, apply_plan, changes_text,
@@ -168,8 +168,8 @@ static ROWS: [Row; 5] = [
     },
 ];
 
-/// The plan that a text is parsed as.
-pub(crate) fn plan_of(alloc: Global, text: &str) -> Result<Plan, PlanTextFault> {
+// The plan that a text is parsed as.
+fn plan_of(alloc: Global, text: &str) -> Result<Plan, PlanTextFault> {
     twice!(PlanTextFault::NoMemory, read_plan(alloc, text.as_bytes()))
 }
 
@@ -193,7 +193,8 @@ fn is_planned<S: MemberSet>(
     requires target { is_valid target.now ≡ true }
 {
     let answer = twice!(PlanFault::NoMemory, plan(alloc, now, target));
-    let path = path_of(alloc, Strategy::Shortest, now, target);
+    let none_down = S::empty(alloc);
+    let path = path_of(alloc, Strategy::Shortest, now, target, &none_down);
     match (answer, path) {
         (Ok(plan), Ok(path)) => (plan == *expected) & has_steps(&path, expected),
         _ => false,

@@ -5,7 +5,7 @@ ghost use Rattle.conf_change.specs.Configuration.{is_restorable};
 use crate::conf_states::changer_at;
 use crate::paths::{FIVE, TWO_OF_FIVE, path_between};
 use crate::texts::appends;
-use crate::twice::twice;
+use crate::twice;
 use conf_change::Config;
 use conf_plan::{Path, Strategy};
 use plan_output::{add_json_lines, add_no_plan_line, add_table, stalls};
@@ -29,7 +29,13 @@ struct Row {
     stalls: bool,
 }
 
-static ROWS: [Row; 13] = [
+const THREE: &str = "Voters:[1 2 3] VotersOutgoing:[] Learners:[] LearnersNext:[] AutoLeave:false";
+
+// Five voters, in which 6 and 7 replace 4 and 5.
+const OTHERS_OF_FIVE: &str =
+    "Voters:[1 2 3 6 7] VotersOutgoing:[] Learners:[] LearnersNext:[] AutoLeave:false";
+
+static ROWS: [Row; 16] = [
     Row {
         now: FIVE,
         target: TWO_OF_FIVE,
@@ -94,10 +100,10 @@ static ROWS: [Row; 13] = [
         strategy: Strategy::Shortest,
         down: &[4],
         printed: Printed::Table(
-            "step                                       1 2 3 4 5 6 7  majority           may be down  catch up  until then  with 4 down\n\
-            now                                        V V V V V . .  3 of 5             2                                  commits\n\
+            "step                                       1 2 3 4 5 6 7  majority           may be down  catch up  until then  besides 4\n\
+            now                                        V V V V V . .  3 of 5             2                                  1\n\
             1 enter-joint autoleave=false r1 r2 v6 v7  - - V V V + +  3 of 5 and 3 of 5  2            6 7       0           stalls\n\
-            2 leave-joint                              . . V V V V V  3 of 5             2                                  commits\n",
+            2 leave-joint                              . . V V V V V  3 of 5             2                                  1\n",
         ),
         stalls: true,
     },
@@ -124,8 +130,8 @@ static ROWS: [Row; 13] = [
         strategy: Strategy::LearnersFirst,
         down: &[9, 4, 9],
         printed: Printed::Table(
-            "step  1 2 3 4 5  majority  may be down  catch up  until then  with 4 9 down\n\
-            now   V V V V V  3 of 5    2                                  commits\n",
+            "step  1 2 3 4 5  majority  may be down  catch up  until then  besides 4 9\n\
+            now   V V V V V  3 of 5    2                                  1\n",
         ),
         stalls: false,
     },
@@ -136,7 +142,7 @@ static ROWS: [Row; 13] = [
         strategy: Strategy::Shortest,
         down: &[1, 2, 3],
         printed: Printed::Table(
-            "step  1 2 3 4 5  majority  may be down  catch up  until then  with 1 2 3 down\n\
+            "step  1 2 3 4 5  majority  may be down  catch up  until then  besides 1 2 3\n\
             now   V V V V V  3 of 5    2                                  stalls\n",
         ),
         stalls: true,
@@ -160,9 +166,10 @@ static ROWS: [Row; 13] = [
         strategy: Strategy::LearnersFirst,
         down: &[],
         printed: Printed::Json(
-            "{\"catch_up\":[6,7],\"conf_change\":{\"changes\":[{\"node_id\":6,\"type\":\"ConfChangeAddLearnerNode\"},{\"node_id\":7,\"type\":\"ConfChangeAddLearnerNode\"}],\"transition\":\"ConfChangeTransitionAuto\"},\"conf_state\":{\"auto_leave\":false,\"learners\":[6,7],\"learners_next\":[],\"voters\":[1,2,3,4,5],\"voters_outgoing\":[]},\"may_be_down\":2,\"plan\":1,\"step\":1,\"steps\":3,\"until_then\":2}\n\
-            {\"catch_up\":[],\"conf_change\":{\"changes\":[{\"node_id\":1,\"type\":\"ConfChangeRemoveNode\"},{\"node_id\":2,\"type\":\"ConfChangeRemoveNode\"},{\"node_id\":6,\"type\":\"ConfChangeAddNode\"},{\"node_id\":7,\"type\":\"ConfChangeAddNode\"}],\"transition\":\"ConfChangeTransitionJointExplicit\"},\"conf_state\":{\"auto_leave\":false,\"learners\":[],\"learners_next\":[],\"voters\":[3,4,5,6,7],\"voters_outgoing\":[1,2,3,4,5]},\"may_be_down\":2,\"plan\":1,\"step\":2,\"steps\":3,\"until_then\":2}\n\
-            {\"catch_up\":[],\"conf_change\":{\"changes\":[],\"transition\":\"ConfChangeTransitionAuto\"},\"conf_state\":{\"auto_leave\":false,\"learners\":[],\"learners_next\":[],\"voters\":[3,4,5,6,7],\"voters_outgoing\":[]},\"may_be_down\":2,\"plan\":1,\"step\":3,\"steps\":3,\"until_then\":2}\n",
+            "{\"catch_up\":[6],\"conf_change\":{\"changes\":[{\"node_id\":6,\"type\":\"ConfChangeAddLearnerNode\"}],\"transition\":\"ConfChangeTransitionAuto\"},\"conf_state\":{\"auto_leave\":false,\"learners\":[6],\"learners_next\":[],\"voters\":[1,2,3,4,5],\"voters_outgoing\":[]},\"may_be_down\":2,\"plan\":1,\"step\":1,\"steps\":4,\"until_then\":2}\n\
+            {\"catch_up\":[7],\"conf_change\":{\"changes\":[{\"node_id\":7,\"type\":\"ConfChangeAddLearnerNode\"}],\"transition\":\"ConfChangeTransitionAuto\"},\"conf_state\":{\"auto_leave\":false,\"learners\":[6,7],\"learners_next\":[],\"voters\":[1,2,3,4,5],\"voters_outgoing\":[]},\"may_be_down\":2,\"plan\":1,\"step\":2,\"steps\":4,\"until_then\":2}\n\
+            {\"catch_up\":[],\"conf_change\":{\"changes\":[{\"node_id\":1,\"type\":\"ConfChangeRemoveNode\"},{\"node_id\":2,\"type\":\"ConfChangeRemoveNode\"},{\"node_id\":6,\"type\":\"ConfChangeAddNode\"},{\"node_id\":7,\"type\":\"ConfChangeAddNode\"}],\"transition\":\"ConfChangeTransitionJointExplicit\"},\"conf_state\":{\"auto_leave\":false,\"learners\":[],\"learners_next\":[],\"voters\":[3,4,5,6,7],\"voters_outgoing\":[1,2,3,4,5]},\"may_be_down\":2,\"plan\":1,\"step\":3,\"steps\":4,\"until_then\":2}\n\
+            {\"catch_up\":[],\"conf_change\":{\"changes\":[],\"transition\":\"ConfChangeTransitionAuto\"},\"conf_state\":{\"auto_leave\":false,\"learners\":[],\"learners_next\":[],\"voters\":[3,4,5,6,7],\"voters_outgoing\":[]},\"may_be_down\":2,\"plan\":1,\"step\":4,\"steps\":4,\"until_then\":2}\n",
         ),
         stalls: false,
     },
@@ -173,7 +180,7 @@ static ROWS: [Row; 13] = [
         strategy: Strategy::Shortest,
         down: &[9],
         printed: Printed::Json(
-            "{\"catch_up\":[4,5],\"commits\":false,\"conf_change\":{\"changes\":[{\"node_id\":1,\"type\":\"ConfChangeRemoveNode\"},{\"node_id\":2,\"type\":\"ConfChangeRemoveNode\"},{\"node_id\":4,\"type\":\"ConfChangeAddNode\"},{\"node_id\":5,\"type\":\"ConfChangeAddNode\"}],\"transition\":\"ConfChangeTransitionJointImplicit\"},\"conf_state\":{\"auto_leave\":true,\"learners\":[],\"learners_next\":[],\"voters\":[3,4,5],\"voters_outgoing\":[1,2,3]},\"may_be_down\":1,\"plan\":1,\"step\":1,\"steps\":1,\"until_then\":null}\n",
+            "{\"catch_up\":[4,5],\"conf_change\":{\"changes\":[{\"node_id\":1,\"type\":\"ConfChangeRemoveNode\"},{\"node_id\":2,\"type\":\"ConfChangeRemoveNode\"},{\"node_id\":4,\"type\":\"ConfChangeAddNode\"},{\"node_id\":5,\"type\":\"ConfChangeAddNode\"}],\"transition\":\"ConfChangeTransitionJointImplicit\"},\"conf_state\":{\"auto_leave\":true,\"learners\":[],\"learners_next\":[],\"voters\":[3,4,5],\"voters_outgoing\":[1,2,3]},\"may_be_down\":1,\"may_be_down_besides\":null,\"plan\":1,\"stalls\":true,\"step\":1,\"steps\":1,\"until_then\":null}\n",
         ),
         stalls: true,
     },
@@ -184,7 +191,7 @@ static ROWS: [Row; 13] = [
         strategy: Strategy::Shortest,
         down: &[3],
         printed: Printed::Json(
-            "{\"catch_up\":[],\"commits\":false,\"conf_change\":{\"changes\":[{\"node_id\":2,\"type\":\"ConfChangeUpdateNode\"}],\"transition\":\"ConfChangeTransitionJointExplicit\"},\"conf_state\":{\"auto_leave\":false,\"learners\":[],\"learners_next\":[],\"voters\":[2,3],\"voters_outgoing\":[2,3]},\"may_be_down\":0,\"plan\":1,\"step\":1,\"steps\":1,\"until_then\":0}\n",
+            "{\"catch_up\":[],\"conf_change\":{\"changes\":[{\"node_id\":2,\"type\":\"ConfChangeUpdateNode\"}],\"transition\":\"ConfChangeTransitionJointExplicit\"},\"conf_state\":{\"auto_leave\":false,\"learners\":[],\"learners_next\":[],\"voters\":[2,3],\"voters_outgoing\":[2,3]},\"may_be_down\":0,\"may_be_down_besides\":null,\"plan\":1,\"stalls\":true,\"step\":1,\"steps\":1,\"until_then\":0}\n",
         ),
         stalls: true,
     },
@@ -195,6 +202,46 @@ static ROWS: [Row; 13] = [
         down: &[],
         printed: Printed::Json("{\"plan\":1,\"steps\":0}\n"),
         stalls: false,
+    },
+    Row {
+        now: FIVE,
+        target: OTHERS_OF_FIVE,
+        strategy: Strategy::OneAtATime,
+        down: &[4, 5],
+        printed: Printed::Table(
+            "step         1 2 3 4 5 6 7  majority  may be down  catch up  until then  besides 4 5\n\
+            now          V V V V V . .  3 of 5    2                                  0\n\
+            1 simple r4  V V V . V . .  3 of 4    1                                  0\n\
+            2 simple r5  V V V . . . .  2 of 3    1                                  1\n\
+            3 simple l6  V V V . . L .  2 of 3    1            6         1           1\n\
+            4 simple v6  V V V . . V .  3 of 4    1                                  1\n\
+            5 simple l7  V V V . . V L  3 of 4    1            7         1           1\n\
+            6 simple v7  V V V . . V V  3 of 5    2                                  2\n",
+        ),
+        stalls: false,
+    },
+    Row {
+        now: FIVE,
+        target: OTHERS_OF_FIVE,
+        strategy: Strategy::LearnersFirst,
+        down: &[4, 5],
+        printed: Printed::Table(
+            "step                                       1 2 3 4 5 6 7  majority           may be down  catch up  until then  besides 4 5\n\
+            now                                        V V V V V . .  3 of 5             2                                  0\n\
+            1 simple l6 l7                             V V V V V L L  3 of 5             2            6 7       2           0\n\
+            2 enter-joint autoleave=false r4 r5 v6 v7  V V V - - + +  3 of 5 and 3 of 5  2                                  0\n\
+            3 leave-joint                              V V V . . V V  3 of 5             2                                  2\n",
+        ),
+        stalls: false,
+    },
+    // The current configuration stalls, and the path has no step.
+    Row {
+        now: THREE,
+        target: THREE,
+        strategy: Strategy::Shortest,
+        down: &[1, 2],
+        printed: Printed::Json("{\"plan\":1,\"stalls\":true,\"steps\":0}\n"),
+        stalls: true,
     },
 ];
 
@@ -261,7 +308,7 @@ fn is_row<S: MemberSet>(
 ) -> bool
     requires { is_restorable now.now ≡ true }
 {
-    match path_between(alloc, row.strategy, now, target) {
+    match path_between(alloc, row.strategy, now, target, down) {
         Some(path) => is_printed(alloc, row, now, &path, down),
         None => false,
     }

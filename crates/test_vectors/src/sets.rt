@@ -1,6 +1,7 @@
 //! Sets of ids, and the committed indexes and votes of sets of voters.
+use crate::equal::has_ids;
 use crate::texts::appends;
-use crate::twice::twice;
+use crate::twice;
 use quorum_sets::{
     InlineIds, MemberSet, NoMemory, TreeIds, VoteResult, chart, committed, common_member,
     is_quorum, joint_chart, joint_committed, joint_vote, symdiff, vote,
@@ -22,15 +23,6 @@ pub(crate) fn ids<S: MemberSet>(alloc: Global, ids: &[u64]) -> S {
         Ok(set) => set,
         Err(_) => S::empty(alloc),
     }
-}
-
-/// Whether a set has exactly these ids, which are in ascending order. It does not allocate.
-pub(crate) fn has_ids<S: MemberSet>(set: &S, ids: &[u64]) -> bool {
-    let mut is_so = set.len() == ids.len();
-    for (index, id) in ids.iter().enumerate() {
-        is_so &= (set.at(index) == Some(*id)) & set.contains(*id);
-    }
-    is_so
 }
 
 // Whether the copy of a set equals it.

@@ -1,5 +1,5 @@
 //! Appending to texts, and reading changes.
-use crate::twice::twice;
+use crate::twice;
 use ascii_text::append::append_number;
 use conf_change::Kind::{Learner, Remove, Update, Voter};
 use conf_change::{Change, TokenFault, read_changes, read_changes_into};

@@ -1,5 +1,5 @@
 //! Lists of changes, and steps that hold them.
-use crate::ample::runtime::Runtime;
+use crate::runtime::Runtime;
 use conf_change::{Change, Changes, Kind, Step};
 
 static LIST: [Change; 4] = [

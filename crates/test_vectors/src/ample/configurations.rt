@@ -1,6 +1,6 @@
 //! Configurations, valid and broken ones.
-use crate::ample::runtime::Runtime;
 use crate::ample::sets_and_quorums::set_of;
+use crate::runtime::Runtime;
 use conf_change::{Config, Invariant, Violation, check, first_violation};
 use quorum_sets::TreeIds;
 

@@ -4,7 +4,8 @@ ghost use Rattle.std.specs.Prelude.{◌≡◌, ◌≤◌, true};
 ghost use Rattle.conf_change.specs.Configuration.{is_valid};
 
 use crate::ample::configurations::config_of;
-use crate::ample::runtime::Runtime;
+use crate::ample::sets_and_quorums::set_of;
+use crate::runtime::Runtime;
 use conf_change::{Change, Changer, Config, Kind, Step, StepKind, check, conf_state};
 use conf_plan::{NoPath, Path, Strategy, plan_by};
 use quorum_sets::{MemberSet, TreeIds};
@@ -239,7 +240,7 @@ fn steps_by(
     requires now { is_valid now.now ≡ true }
     requires target { is_valid target.now ≡ true }
 {
-    let path = plan_by(rt.alloc(), strategy, now, target)?;
+    let path = plan_by(rt.alloc(), strategy, now, target, &set_of(rt, &[]))?;
     Ok(if leads(rt, now, target, &path) {
         path.len()
     } else {

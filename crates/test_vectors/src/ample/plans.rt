@@ -3,8 +3,8 @@ ghost use Rattle.std.specs.Prelude.{◌≡◌, true};
 ghost use Rattle.conf_change.specs.Configuration.{is_valid};
 
 use crate::ample::configurations::{Sets, config_of};
-use crate::ample::runtime::Runtime;
 use crate::ample::sets_and_quorums::set_of;
+use crate::runtime::Runtime;
 use conf_change::{Change, Changer, Config, Kind, Refused, check};
 use conf_plan::{
     NoPath, Plan, StepRefused, Strategy, apply_plan, catching_up, plan_by, print_plan, read_plan,
@@ -162,7 +162,7 @@ fn no_path(
     requires now { is_valid now.now ≡ true }
     requires target { is_valid target.now ≡ true }
 {
-    plan_by(rt.alloc(), strategy, now, target).err()
+    plan_by(rt.alloc(), strategy, now, target, &set_of(rt, &[])).err()
 }
 
 fn is_without_path(

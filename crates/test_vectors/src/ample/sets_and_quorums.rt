@@ -1,5 +1,5 @@
 //! Sets of ids, and test vectors of majorities, quorums and lookups.
-use crate::ample::runtime::Runtime;
+use crate::runtime::Runtime;
 use crate::sets::with_acks;
 use quorum_sets::{
     AckSource, MemberSet, TreeIds, commits_without, common_member, contains_from, is_quorum,

@@ -1,15 +1,21 @@
 //! The stages of a path.
 use crate::ample::configurations::{Sets, config_of};
-use crate::ample::runtime::Runtime;
 use crate::ample::sets_and_quorums::set_of;
+use crate::runtime::Runtime;
 use conf_change::{Changer, conf_state};
 use conf_plan::{Strategy, plan_by};
 use plan_output::{Stage, stages};
 use quorum_sets::{TreeIds, symdiff};
 
-// The configuration of a stage, who has to catch up, how many ids may be down, and how many until then, and whether it
-// commits with 3 down.
-type Row = (Sets, &'static [u64], Option<usize>, Option<usize>, bool);
+// The configuration of a stage, who has to catch up, how many ids may be down, how many until then, and how many besides
+// 3.
+type Row = (
+    Sets,
+    &'static [u64],
+    Option<usize>,
+    Option<usize>,
+    Option<usize>,
+);
 
 const NOW: Sets = [&[1, 2, 3], &[], &[], &[]];
 
@@ -19,18 +25,18 @@ const TARGET: Sets = [&[3, 4, 5], &[], &[], &[]];
 
 // The stages of the shortest path.
 static ROWS: [Row; 3] = [
-    (NOW, &[], Some(1), Some(1), true),
-    (JOINT, &[4, 5], Some(1), None, false),
-    (TARGET, &[], Some(1), Some(1), true),
+    (NOW, &[], Some(1), Some(1), Some(0)),
+    (JOINT, &[4, 5], Some(1), None, None),
+    (TARGET, &[], Some(1), Some(1), Some(0)),
 ];
 
 fn is_stage(rt: &impl Runtime, stage: &Stage<TreeIds>, row: &Row) -> bool {
-    let (sets, catching_up, may_be_down, until_then, commits) = row;
+    let (sets, catching_up, may_be_down, until_then, besides) = row;
     stage.config().same(&config_of(rt, *sets, false))
         & (symdiff(stage.catching_up(), &set_of(rt, *catching_up)) == 0)
         & (stage.may_be_down() == *may_be_down)
         & (stage.until_then() == *until_then)
-        & (stage.commits(&set_of(rt, &[3])) == Ok(*commits))
+        & (stage.may_be_down_besides(&set_of(rt, &[3])) == Ok(*besides))
 }
 
 fn changer_at(rt: &impl Runtime, sets: Sets) -> Changer<TreeIds> {
@@ -47,6 +53,7 @@ fn has_the_stages_of_a_path(rt: HostRuntime) {
         Strategy::Shortest,
         now,
         target.tracker().config(),
+        &set_of(&rt, &[]),
     );
     let path = path.expect(&rt, "a path");
     let stages = stages(rt.alloc(), now, &path).expect(&rt, "the stages");

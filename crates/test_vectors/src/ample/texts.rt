@@ -1,5 +1,5 @@
 //! Changes that are parsed from tokens.
-use crate::ample::runtime::Runtime;
+use crate::runtime::Runtime;
 use conf_change::Kind::Learner;
 use conf_change::{Change, TokenFault, read_change, read_changes_into};
 

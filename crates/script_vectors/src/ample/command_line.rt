@@ -1,11 +1,11 @@
 //! The arguments of the command line.
-use crate::ample::runtime::Runtime;
-use crate::sets::has_ids;
 use conf_change::Floor;
 use conf_plan::Strategy;
 use conf_session::SessionIds;
 use conf_tool::command_line::command_line;
 use conf_tool::{ArgumentFault, Mode, PlanOutput};
+use test_vectors::equal::has_ids;
+use test_vectors::runtime::Runtime;
 
 // Arguments that are accepted, and their mode, file and history.
 static ACCEPTED: [(&[&str], Mode, Option<&str>, usize); 12] = [

@@ -4,7 +4,6 @@ ghost use Rattle.dd_file.specs.Gathered.{NothingBuffered};
 ghost use Rattle.conf_tool.specs.Ranges.{IsInRange};
 
 use crate::matching::Matching;
-use crate::twice::twice;
 use conf_change::{ConfigurationFault, Floor, Violation};
 use conf_plan::Strategy;
 use conf_session::SessionIds;
@@ -14,6 +13,7 @@ use dd_file::blocks::Blocks;
 use dd_file::device::{FromRead, Sink, Source, ToWrite};
 use quorum_sets::{MemberSet, NoMemory};
 use std::alloc::{AllocError, Global};
+use test_vectors::twice;
 
 const CHANGES: &[u8] = b"v1\nv2\nl3\nr1\nr2\n";
 
@@ -141,20 +141,19 @@ const TABLES: &[u8] =
 const REMOVED: &[u8] =
     b"Voters:[1 2] VotersOutgoing:[] Learners:[] LearnersNext:[] AutoLeave:false\n{\"voters\":[1]}";
 
-const STALLED: &[u8] =
-    b"step         1 2  majority  may be down  catch up  until then  with 1 down\n\
+const STALLED: &[u8] = b"step         1 2  majority  may be down  catch up  until then  besides 1\n\
     now          V V  2 of 2    0                                  stalls\n\
     1 simple r2  V .  1 of 1    0                                  stalls\n";
 
 const STALLED_AT_FIRST: &[u8] =
-    b"step         1 2  majority  may be down  catch up  until then  with 2 down\n\
+    b"step         1 2  majority  may be down  catch up  until then  besides 2\n\
     now          V V  2 of 2    0                                  stalls\n\
-    1 simple r2  V .  1 of 1    0                                  commits\n";
+    1 simple r2  V .  1 of 1    0                                  0\n";
 
-const OBJECT: &[u8] = b"{\"catch_up\":[],\"commits\":true,\
+const OBJECT: &[u8] = b"{\"catch_up\":[],\
     \"conf_change\":{\"changes\":[{\"node_id\":2,\"type\":\"ConfChangeRemoveNode\"}],\"transition\":\"ConfChangeTransitionAuto\"},\
     \"conf_state\":{\"auto_leave\":false,\"learners\":[],\"learners_next\":[],\"voters\":[1],\"voters_outgoing\":[]},\
-    \"may_be_down\":0,\"plan\":1,\"step\":1,\"steps\":1,\"until_then\":0}\n";
+    \"may_be_down\":0,\"may_be_down_besides\":0,\"plan\":1,\"stalls\":true,\"step\":1,\"steps\":1,\"until_then\":0}\n";
 
 // A pair with a path, one with nothing to do, and two that have no path by the strategy one-at-a-time.
 const FOUR_PAIRS: &[u8] = b"{\"voters\":[1,2]}\n{\"voters\":[1]}\n\
@@ -273,7 +272,7 @@ pub(crate) static PLANNED: [Case; 12] = [
     (
         Command::Plan(Strategy::Shortest, PlanOutput::Steps, &[2]),
         REMOVED,
-        b"simple r2\n",
+        b"# stalls with 2 down\nsimple r2\n",
         DIFFERENT,
     ),
     (

@@ -1,15 +1,14 @@
 //! What sessions answer to directives, and the plans that undo their changes.
-use crate::changers::is_same;
 use crate::files::first_item;
-use crate::plans::plan_of;
-use crate::twice::twice;
 use conf_change::Floor;
-use conf_plan::Plan;
+use conf_plan::{Plan, PlanTextFault, read_plan};
 use conf_session::{Session, UndoFault, undo_fault_text};
 use dd_file::fault::FileFault;
 use dd_file::item::{Directive, Item};
 use quorum_sets::NoMemory;
 use std::alloc::Global;
+use test_vectors::equal::is_same;
+use test_vectors::twice;
 
 // A directive as it is in a script, and its actual output.
 type Row = (&'static [u8], &'static [u8]);
@@ -231,7 +230,7 @@ fn have_outputs(alloc: Global, session: &mut Session, copy: &mut Session, rows: 
 }
 
 fn is_plan(alloc: Global, plan: &Plan, text: &str) -> bool {
-    match plan_of(alloc, text) {
+    match twice!(PlanTextFault::NoMemory, read_plan(alloc, text.as_bytes())) {
         Ok(expected) => *plan == expected,
         Err(_) => false,
     }

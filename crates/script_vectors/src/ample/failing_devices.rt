@@ -1,11 +1,11 @@
 //! Runs of the rows of `crate::modes` over readers and writers that fail, at each byte in turn.
 use crate::ample::devices::{Stop, byte_by_byte, limited};
-use crate::ample::runtime::Runtime;
 use crate::modes::{Case, MODES, PLANNED, run_and_flush_command, run_command};
 use conf_tool::{Status, ToolFault};
 use dd_file::blocks::Blocks;
 use dd_file::device::{FromRead, Sink, Source, ToWrite};
 use std::alloc::Global;
+use test_vectors::runtime::Runtime;
 
 // The result of a run that fails, or that of its row.
 fn expected(case: Case, fails: bool, fault: ToolFault) -> Result<Status, ToolFault> {

@@ -3,6 +3,6 @@ use std::alloc::AllocGlobal;
 use std::process::Abort;
 
 /// Ends a test that cannot go on, and gives an allocator.
-pub(crate) trait Runtime: Abort + AllocGlobal {}
+pub trait Runtime: Abort + AllocGlobal {}
 
 impl<R: Abort + AllocGlobal> Runtime for R {}

@@ -1,6 +1,5 @@
 //! Script files: their lines and items, and items that are rewritten.
 use crate::matching::Matching;
-use crate::twice::twice;
 use dd_file::device::{FromRead, Source, ToWrite};
 use dd_file::fault::FileFault;
 use dd_file::item::Item;
@@ -9,6 +8,7 @@ use dd_file::lines::Lines;
 use dd_file::reader::Reader;
 use dd_file::rewriter::Rewriter;
 use std::alloc::{AllocError, Global};
+use test_vectors::twice;
 
 // A script; each line of this literal is an item.
 const SCRIPT: &[u8] = b"# c\n\

@@ -1,5 +1,4 @@
 //! The messages of the error types, each value once, and that no two of one type are equal.
-use crate::ample::runtime::Runtime;
 use conf_change::{
     AckFault, ConfStateFault, ConfigurationFault, Invariant, Refused, RestoreFault, TokenFault,
     Violation,
@@ -10,6 +9,7 @@ use conf_tool::{PlanInputFault, ToolFault};
 use dd_file::fault::{DeviceFault, FileFault, WriteFault};
 use quorum_sets::NoMemory;
 use std::fmt::Display;
+use test_vectors::runtime::Runtime;
 
 fn shows<T: Display>(rt: &impl Runtime, value: &T, message: &str) -> bool {
     let shown = format!(in rt.alloc(); "{value}").expect(rt, "a message");

@@ -1,11 +1,11 @@
 //! Lines that are read from inputs, items that are read from scripts, and items that are made.
 use crate::ample::devices::byte_by_byte;
-use crate::ample::runtime::Runtime;
 use dd_file::device::{FromRead, Source};
 use dd_file::fault::FileFault;
 use dd_file::item::{Argument, Directive, Item};
 use dd_file::lines::Lines;
 use dd_file::reader::Reader;
+use test_vectors::runtime::Runtime;
 
 fn show(rt: &impl Runtime, shown: &mut Vec<u8>, bytes: &[u8]) {
     shown.extend_from_slice(bytes).expect(rt, "room");

@@ -1,0 +1,26 @@
+//! Comparisons that do not allocate.
+use conf_change::Changer;
+use quorum_sets::MemberSet;
+
+/// Whether a set has exactly these ids, which are in ascending order.
+pub fn has_ids<S: MemberSet>(set: &S, ids: &[u64]) -> bool {
+    let mut is_so = set.len() == ids.len();
+    for (index, id) in ids.iter().enumerate() {
+        is_so &= (set.at(index) == Some(*id)) & set.contains(*id);
+    }
+    is_so
+}
+
+/// Whether two changers are equal.
+pub fn is_same<S: MemberSet>(changer: &Changer<S>, other: &Changer<S>) -> bool {
+    let tracker = changer.tracker();
+    let others = other.tracker();
+    let mut is_so = tracker.config().same(others.config())
+        & (tracker.member_count() == others.member_count())
+        & (changer.last_index() == other.last_index())
+        & (changer.floor() == other.floor());
+    for index in 0..tracker.member_count() {
+        is_so &= tracker.member_at(index) == others.member_at(index);
+    }
+    is_so
+}
