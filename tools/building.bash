@@ -50,15 +50,20 @@ is_built() {
   [ -z "$(find "${sources[@]}" -newer "$built" -print -quit 2>/dev/null)" ]
 }
 
-# jobs_for_machine: how many jobs a proof may use: one for each processor, but no more than free memory allows, with 5 GB
-# for the first job and 2 GB for each other one.
+# jobs_for_machine [JOBS]: how many jobs a proof may use: one for each processor, but no more than free memory allows,
+# with 5 GB for the first job and 2 GB for each other one. At least one; but beside a proof that uses JOBS, for which 2 GB
+# each are set aside, at most half as many as that one, and 0 if too little memory is left.
 jobs_for_machine() {
-  local processors memory most
-  processors=$(nproc)
+  local beside=${1:-0} memory most
   memory=$(awk '$1 == "MemAvailable:" { print int($2 / 1000) }' /proc/meminfo)
-  most=$(((memory - 5000) / 2000 + 1))
+  memory=$((memory - 2000 * beside))
+  most=$((memory < 5000 ? 0 : (memory - 5000) / 2000 + 1))
+  if [ "$beside" -gt 0 ]; then
+    echo $((most < (beside + 1) / 2 ? most : (beside + 1) / 2))
+    return
+  fi
   [ "$most" -ge 1 ] || most=1
-  echo $((processors < most ? processors : most))
+  echo $(($(nproc) < most ? $(nproc) : most))
 }
 
 # rattle_build JOBS CRATE ROOT ARGUMENTS..: proves a crate from nothing, and builds it. The crates that it depends on
@@ -92,13 +97,85 @@ build_library() {
   rattle_build "$1" "$2" src/lib.rt --links "$2=" --statements -o "$(rlib_of "$2")"
 }
 
-# logged LOGS CRATE COMMAND..: runs a command that proves a crate. The prover's output goes to a log in the folder LOGS.
-logged() {
-  local log=$1/$2.log crate=$2 began=$SECONDS
-  shift 2
-  if ! "$@" </dev/null >"$log" 2>&1; then
-    echo "confscript: $crate could not be built; what the prover said is in $log" >&2
+# report LOG CRATE STATUS SECONDS LEFT: prints that a crate is proved, and how many are left, or that it could not be.
+report() {
+  if [ "$3" -ne 0 ]; then
+    echo "confscript: $2 could not be built; what the prover said is in $1" >&2
     return 1
   fi
-  echo "confscript: $crate is proved ($((SECONDS - began)) s)" >&2
+  echo "confscript: $2 is proved ($4 s), $5 left" >&2
+}
+
+# logged LOGS CRATE COMMAND..: runs a command that proves the last crate. The prover's output goes to a log in the folder
+# LOGS.
+logged() {
+  local log=$1/$2.log crate=$2 began=$SECONDS status=0
+  shift 2
+  "$@" </dev/null >"$log" 2>&1 || status=$?
+  report "$log" "$crate" "$status" $((SECONDS - began)) 0
+}
+
+# The proofs that run, by the ids of their processes. Each has a session of its own, so that all its processes can be
+# ended together.
+declare -A proofs
+
+# end_proofs: ends all proofs that run.
+end_proofs() {
+  local proof
+  for proof in "${!proofs[@]}"; do
+    kill -- "-$proof" 2>/dev/null
+  done
+}
+
+# begin_proof LOGS CRATE JOBS NICENESS: proves a crate and builds its library in the background. Its process is $!.
+begin_proof() {
+  setsid nice -n "$4" bash -c 'top=$1; . "$top/tools/building.bash"; build_library "$2" "$3"' - "$top" "$3" "$2" </dev/null >"$1/$2.log" 2>&1 &
+  proofs[$!]=$2
+}
+
+# next_proof LEFT..: the first of these crates that depends on none of the others and is not being proved.
+next_proof() {
+  local crate library
+  for crate; do
+    [[ " ${proofs[*]} " != *" $crate "* ]] || continue
+    for library in $(crates_below "$crate"); do
+      [[ " $* " != *" $library "* ]] || continue 2
+    done
+    echo "$crate"
+    return
+  done
+}
+
+# prove_below LOGS CRATE JOBS: proves all crates that a crate depends on and that are not up to date, each after those
+# that it depends on itself. Prints a line for each. A proof begins and ends on one processor, so if there is memory,
+# another one runs beside it, with fewer jobs and at low priority.
+prove_below() {
+  local logs=$1 jobs=$3 jobs_beside crate left=() first='' beside='' ended status
+  local -A began
+  jobs_beside=$(jobs_for_machine "$jobs")
+  for crate in $(crates_below "$2" | awk '!seen[$0]++'); do
+    is_built "$crate" || left+=("$crate")
+  done
+  trap end_proofs EXIT
+  while [ "${#left[@]}" -gt 0 ]; do
+    crate=$(next_proof "${left[@]}")
+    if [ -n "$crate" ] && [ -z "$first" ]; then
+      begin_proof "$logs" "$crate" "$jobs" 0
+      first=$! began[$crate]=$SECONDS
+      continue
+    fi
+    if [ -n "$crate" ] && [ -z "$beside" ] && [ "$jobs_beside" -gt 0 ]; then
+      begin_proof "$logs" "$crate" "$jobs_beside" 10
+      beside=$! began[$crate]=$SECONDS
+      continue
+    fi
+    status=0
+    wait -n -p ended "${!proofs[@]}" || status=$?
+    crate=${proofs[$ended]}
+    unset "proofs[$ended]"
+    [ "$ended" != "$first" ] || first=
+    [ "$ended" != "$beside" ] || beside=
+    mapfile -t left < <(printf '%s\n' "${left[@]}" | grep -vx "$crate")
+    report "$logs/$crate.log" "$crate" "$status" $((SECONDS - began[$crate])) $((${#left[@]} + 1)) || return
+  done
 }
