@@ -52,27 +52,6 @@ ends_in_newline-append x [] = refl
 ends_in_newline-append x (y ∷ []) = refl
 ends_in_newline-append x (y ∷ z ∷ xs) = ends_in_newline-append x (z ∷ xs)
 
--- one full line, and more after it
-one-more : (c : Bool) (n : ℕ) → c ≡ false → cond c 1 (suc n) ≡ 1 + n
-one-more true n e = cc
-one-more false n e = omega arith
-
-pub cond-longer : (c : Bool) (n k : ℕ) → cond c 1 (suc n) ≡ suc (suc k) → c ≡ false
-cond-longer true n k e = absurd (omega (arith, e))
-cond-longer false n k e = refl
-
-pub cond-shorter : (c : Bool) (n k : ℕ) → c ≡ false → cond c 1 (suc n) ≡ suc k → n ≡ k
-cond-shorter true n k f e = cc
-cond-shorter false n k f e = omega (arith, e)
-
-pub first_len-append : (xs ys : List ℕ) → first_len xs ≡ length xs → ends_in_newline xs ≡ false → first_len (xs ++ ys) ≡ length xs + first_len ys
-first_len-append [] ys e h = omega arith
-first_len-append (b ∷ []) ys e h = one-more (b == 10) (first_len ys) h
-first_len-append (b ∷ c ∷ xs) ys e h =
-    let other : (b == 10) ≡ false = cond-longer (b == 10) (first_len (c ∷ xs)) (length xs) e in
-    let ih = first_len-append (c ∷ xs) ys (cond-shorter (b == 10) (first_len (c ∷ xs)) (suc (length xs)) other e) h in
-    one-more (b == 10) (first_len (c ∷ xs ++ ys)) other ∙ omega (arith, ih)
-
 -- a first full line is one full line
 first-step : (c : Bool) (b : ℕ) (bytes : List ℕ) → (b == 10) ≡ c → first_len (take (first_len bytes) bytes) ≡ first_len bytes →
     first_len (take (cond c 1 (suc (first_len bytes))) (b ∷ bytes)) ≡ cond c 1 (suc (first_len bytes))
@@ -85,13 +64,3 @@ first_len-take (b ∷ bytes) = first-step (b == 10) b bytes refl (first_len-take
 
 pub length-first : (bytes : List ℕ) → length (take (first_len bytes) bytes) ≡ first_len bytes
 length-first bytes = let h = first_len-bound bytes in simp length-take (omega (arith, h))
-
--- bytes that go on without a newline have no byte after them
-rest-step : (c : Bool) (b : ℕ) (part bytes : List ℕ) → (b == 10) ≡ c → (ends_in_newline ((part ++ b ∷ []) ++ take (first_len bytes) bytes) ≡ false → drop (first_len bytes) bytes ≡ []) →
-    ends_in_newline (part ++ take (cond c 1 (suc (first_len bytes))) (b ∷ bytes)) ≡ false → drop (cond c 1 (suc (first_len bytes))) (b ∷ bytes) ≡ []
-rest-step true b part bytes e ih h = let bad : true ≡ false = sym e ∙ sym (ends_in_newline-append b part) ∙ h in cc
-rest-step false b part bytes e ih h = ih (ap ends_in_newline (append_assoc part (b ∷ []) (take (first_len bytes) bytes)) ∙ h)
-
-pub unfinished-rest : (part rest : List ℕ) → ends_in_newline (part ++ take (first_len rest) rest) ≡ false → drop (first_len rest) rest ≡ []
-unfinished-rest part [] h = refl
-unfinished-rest part (b ∷ bytes) h = rest-step (b == 10) b part bytes refl (unfinished-rest (part ++ b ∷ []) bytes) h

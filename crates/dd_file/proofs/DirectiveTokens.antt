@@ -1,9 +1,6 @@
--- The tokens of a directive: its command, its arguments and their values.
+-- The parts of a directive: its arguments and their values, and its input.
 
-pub mod FirstToken
 pub mod TrimmedEnd
-pub mod LoneKey
 pub mod ListedValues
-pub mod KeptArgument
-pub mod TokenPrefix
+pub mod ArgumentsSoFar
 pub mod Keys

@@ -1,9 +1,7 @@
--- The next item of an input, from the lines that are read.
+-- The next item of an input, from the lines that are buffered.
 
-pub mod OneMoreLine
+pub mod BytesTaken
 pub mod StateByState
 pub mod NoMoreLine
-pub mod LinesSoFar
-pub mod UntilDone
-pub mod BufferedBytes
-pub mod BytesTaken
+pub mod LinesOfDraft
+pub mod ItemBuffered

@@ -1,7 +1,7 @@
--- The next line of an input, from the full lines that are read.
+-- The next line of an input, from the bytes that are buffered.
 
 pub mod FirstFullLine
-pub mod PartsOfFullLine
-pub mod FullLineGiven
-pub mod LineAfterLine
 pub mod InputEnd
+pub mod NoNewline
+pub mod BufferFilled
+pub mod LineBuffered

@@ -1,8 +1,7 @@
 -- The lemmas of this crate that the proofs of the crates above cite. No other module of its proofs is public.
 
 pub use Rattle.dd_file.proofs.ItemReading.BytesTaken.{next_item-takes, next_line-takes}
-pub use Rattle.dd_file.proofs.LineReading.PartsOfFullLine.{consumes-append}
 pub use Rattle.dd_file.proofs.Rewriting.KnownBytes.{append-part, appends-append, part-append, part-part}
 pub use Rattle.dd_file.proofs.Rewriting.PartByPart.{begun-more, breaks-first, breaks-second, continues-append}
 pub use Rattle.dd_file.proofs.TextLines.LastNewlines.{double_end-after, double_end-pushed, ends_with-append}
-pub use Rattle.dd_file.proofs.ScriptGrammar.CallAfterCall.{agrees-in_turn, script_from-followed}
+pub use Rattle.dd_file.proofs.ScriptGrammar.CallAfterCall.{agrees-in_turn, consumes-append, script_from-followed}

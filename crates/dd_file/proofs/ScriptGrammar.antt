@@ -1,9 +1,7 @@
 -- What the grammar of scripts makes of lines: the first item, and all items.
 
-pub mod ItemLength
-pub mod EndedItem
-pub mod OpenItem
-pub mod FoundInLines
+pub mod Cuts
+pub mod MoreLines
 pub mod LinesOfItem
 pub mod GivenItems
 pub mod AllItems

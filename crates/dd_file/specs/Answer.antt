@@ -7,7 +7,8 @@ use Rattle.dd_file.specs.Grammar.{Next, Over, Parsed, Faulty}
 use Rattle.dd_file.specs.ReaderState.{ReaderState, IsOver}
 use Rattle.dd_file.specs.Device.{LosesPrefix}
 use Rattle.dd_file.specs.declared.fault.FileFault.{FileFault}
-use Rattle.dd_file.specs.declared.fault.FileFault.TheVariants.{Read, NoMemory, BadDirective, AfterDouble, UnclosedDouble, InputTooLong}
+use Rattle.dd_file.specs.declared.fault.FileFault.TheVariants.{Read, NoMemory, Syntax, InputTooLong}
+use Rattle.dd_file.specs.declared.fault.SyntaxFault.TheVariants.{AfterDouble}
 
 -- The input, from the position of a state on, agrees with the bytes that a call read: it is the buffered bytes, then
 -- the bytes that the call read, and then more. There is no more if the reader has no bytes left. If the end was reached
@@ -26,10 +27,10 @@ Agrees state (Some before) None input more = ⊥
 Agrees state None after input more = ⊥
 
 -- what comes next according to the result of a call; after an item come the buffered bytes, and then more
-abbrev pub next_in_answer : {X A : Type 0} → (X → A) → ReaderState → List ℕ → Result (Option X) FileFault → Next A
-next_in_answer view new more (Ok None) = Over
-next_in_answer view new more (Ok (Some value)) = Parsed (view value) new.position (new.buffered ++ more)
-next_in_answer view new more (Err fault) = Faulty fault
+abbrev pub next_in_answer : {A : Type 0} → ReaderState → List ℕ → Result (Option A) FileFault → Next A
+next_in_answer new more (Ok None) = Over
+next_in_answer new more (Ok (Some value)) = Parsed value new.position (new.buffered ++ more)
+next_in_answer new more (Err fault) = Faulty fault
 
 -- reading was interrupted by a failed read, or because memory ran out, so the result does not depend on the input alone
 abbrev pub IsInterrupted : {X : Type 0} → Result X FileFault → Type 0
@@ -37,19 +38,14 @@ IsInterrupted result = (result ≡ Err Read) ⊎ (result ≡ Err NoMemory)
 
 -- The result is the next item or line of each input that agrees with what was read, or reading was interrupted. It is
 -- not specified for a reader whose bytes are unknown.
-abbrev pub IsNextOfInput : {X A : Type 0} → (X → A) → (Position → List ℕ → Next A) → ReaderState → ReaderState → Option (List ℕ) → Option (List ℕ) → Result (Option X) FileFault → Type 0
-IsNextOfInput view next old new before after result =
-    (input more : List ℕ) → Agrees old before after input more → IsInterrupted result ⊎ (next old.position input ≡ next_in_answer view new more result)
+abbrev pub IsNextOfInput : {A : Type 0} → (Position → List ℕ → Next A) → ReaderState → ReaderState → Option (List ℕ) → Option (List ℕ) → Result (Option A) FileFault → Type 0
+IsNextOfInput next old new before after result =
+    (input more : List ℕ) → Agrees old before after input more → IsInterrupted result ⊎ (next old.position input ≡ next_in_answer new more result)
 
 -- whether the result is that a read failed
 abbrev pub is_read_fault : {X : Type 0} → Result X FileFault → Bool
-is_read_fault (Ok value) = false
 is_read_fault (Err Read) = true
-is_read_fault (Err NoMemory) = false
-is_read_fault (Err (BadDirective line)) = false
-is_read_fault (Err (AfterDouble line)) = false
-is_read_fault (Err (UnclosedDouble line)) = false
-is_read_fault (Err (InputTooLong line)) = false
+is_read_fault result = false
 
 -- the error of a result, if it is one
 abbrev pub fault_of : {X : Type 0} → Result X FileFault → Option FileFault
@@ -61,18 +57,13 @@ abbrev pub IsLineFault : Position → FileFault → Type 0
 IsLineFault position Read = ⊤
 IsLineFault position NoMemory = ⊤
 IsLineFault position (InputTooLong line) = line ≡ position.lines + 1
-IsLineFault position (BadDirective line) = ⊥
-IsLineFault position (AfterDouble line) = ⊥
-IsLineFault position (UnclosedDouble line) = ⊥
+IsLineFault position (Syntax line fault) = ⊥
 
 -- the errors that reading an item at this position may return, with the line that each names
 abbrev pub IsItemFault : Position → FileFault → Type 0
-IsItemFault position Read = ⊤
-IsItemFault position NoMemory = ⊤
-IsItemFault position (InputTooLong line) = line ≡ position.lines + 1
-IsItemFault position (BadDirective line) = line ≡ position.lines + 1
-IsItemFault position (AfterDouble line) = position.lines + 1 < line
-IsItemFault position (UnclosedDouble line) = line ≡ position.lines + 1
+IsItemFault position (Syntax line AfterDouble) = position.lines + 1 < line
+IsItemFault position (Syntax line fault) = line ≡ position.lines + 1
+IsItemFault position fault = IsLineFault position fault
 
 -- A call that reads: known bytes of the reader lose a prefix, the end is reported only if the reader has none left, and
 -- once the end was reached the reader is not called again.
@@ -83,10 +74,10 @@ pub record MovesOn {R : Type 0} (remaining : R → Option (List ℕ)) (old new :
 
 -- A call that reads the next item or line. A reader is modelled by the bytes that are left, if they are known, and by
 -- whether a read has failed.
-pub record ReadsOn {R X A : Type 0} (remaining : R → Option (List ℕ)) (has_failed : R → Bool) (view : X → A) (next : Position → List ℕ → Next A) (IsFault : Position → FileFault → Type 0)
-    (old new : ReaderState) (before after : R) (result : Result (Option X) FileFault) : Type 0 where
+pub record ReadsOn {R A : Type 0} (remaining : R → Option (List ℕ)) (has_failed : R → Bool) (next : Position → List ℕ → Next A) (IsFault : Position → FileFault → Type 0)
+    (old new : ReaderState) (before after : R) (result : Result (Option A) FileFault) : Type 0 where
   -- the result is the next item or line of each input that agrees with what was read
-  pub answers : old.fault ≡ None → IsNextOfInput view next old new (remaining before) (remaining after) result
+  pub answers : old.fault ≡ None → IsNextOfInput next old new (remaining before) (remaining after) result
   pub moves : MovesOn remaining old new before after
   -- each item has at least one line, and there are no more lines than bytes in the longest input
   pub forward : IfOk result (λ value. IfSome value (λ _. old.position.lines < new.position.lines))

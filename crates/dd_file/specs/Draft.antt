@@ -1,30 +1,38 @@
 -- An item of a script while its lines are read. A state means the item that the lines so far begin, given any lines
 -- that follow (first_item_in).
-use Rattle.std.specs.Prelude.{◌≡◌, ◌<◌, ◌+◌, ◌-◌, ℕ, Bool, true, false, not, ◌&&◌, List, [], ◌∷◌, ◌++◌, length, drop, Option, Some, None, Result, Ok, Err, ⊤, if◌then◌else◌}
-use Rattle.std.specs.List.{list_all, list_any}
+use Rattle.std.specs.Prelude.{◌≡◌, ℕ, Bool, true, false, ◌&&◌, ◌||◌, List, [], ◌∷◌, ◌++◌, Option, Some, None, Result, Ok, Err, ⊤, if◌then◌else◌, codes}
+use Rattle.std.specs.List.{list_any}
 use Rattle.ascii_text.specs.WhiteSpace.{is_blank}
+use Rattle.dd_file.specs.Cut.{cut}
 use Rattle.dd_file.specs.DirectiveLine.{CommandText, command_of}
-use Rattle.dd_file.specs.Script.{FirstItem, first_item, first_of, is_comment, is_continued, is_separator, is_dashes, begins_with_dashes, has_pair, directive, after_pair, in_double, in_single, body}
+use Rattle.dd_file.specs.Script.{FirstItem, Ended, first_of, is_last_line, is_separator, is_dashes, cut_at_pair, directive, after_pair, in_double, in_single, after_separator, body, at_directive, at_line}
+use Rattle.dd_file.specs.Grammar.{fault_between}
 use Rattle.dd_file.specs.declared.draft_state.DraftState.{DraftState}
-use Rattle.dd_file.specs.declared.draft_state.DraftState.TheVariants.{Begin, CommentLine, BlankLines, DirectiveLines, NoCommand, Input, Separator, Single, Double, Pair, Complete, AfterPair}
+use Rattle.dd_file.specs.declared.draft_state.DraftState.TheVariants.{Begin, CommentLine, BlankLines, DirectiveLines, NoCommand, Input, Separator, Single, Double, Dashes, Pair, Complete, AfterPair}
 use Rattle.dd_file.specs.declared.item.Item.{Item}
 use Rattle.dd_file.specs.declared.item.Item.TheVariants.{Comment, Blank}
 use Rattle.dd_file.specs.declared.fault.FileFault.{FileFault}
-use Rattle.dd_file.specs.declared.fault.FileFault.TheVariants.{Read, NoMemory, BadDirective, AfterDouble, UnclosedDouble, InputTooLong}
+use Rattle.dd_file.specs.declared.fault.SyntaxFault.{SyntaxFault}
+use Rattle.dd_file.specs.declared.fault.SyntaxFault.TheVariants.{BadDirective, AfterDouble, UnclosedDouble}
 
--- An item so far: the number of its first line, its parts, how many lines it has, separators included, and its state,
--- which carries the command of a directive.
-pub record DraftText : Type 0 where
-  pub line : ℕ
+-- the lines of an item so far, by the parts that they belong to
+pub record DraftParts : Type 0 where
   pub directive_lines : List (List ℕ)
   pub input : List (List ℕ)
   pub expected : List (List ℕ)
-  pub count : ℕ
+
+-- no line
+abbrev pub no_parts : DraftParts
+no_parts = record { directive_lines = []; input = []; expected = [] }
+
+-- an item so far: its parts, and its state, which has the command of a directive
+pub record DraftText : Type 0 where
+  pub parts : DraftParts
   pub state : DraftState
 
 -- an item that has no lines yet
-abbrev pub blank_draft : ℕ → DraftText
-blank_draft line = record { line = line; directive_lines = []; input = []; expected = []; count = 0; state = Begin }
+abbrev pub blank_draft : DraftText
+blank_draft = record { parts = no_parts; state = Begin }
 
 -- the state after directive lines, by their command
 abbrev pub state_of_command : Option CommandText → DraftState
@@ -35,115 +43,82 @@ state_of_command (Some command) = Input command
 abbrev pub state_after_directive_line : List ℕ → DraftState
 state_after_directive_line text = if is_blank text then BlankLines else state_of_command (command_of text)
 
--- a draft with one more line, in this state
-abbrev pub counted : DraftText → DraftState → DraftText
-counted draft state = record draft { count = draft.count + 1; state = state }
-
 -- whether the item is complete: the next line begins another
 abbrev pub is_done : DraftState → Bool
-is_done Begin = false
 is_done CommentLine = true
 is_done BlankLines = true
-is_done DirectiveLines = false
 is_done NoCommand = true
-is_done (Input command) = false
-is_done (Separator command) = false
-is_done (Single command) = false
-is_done (Double command) = false
-is_done (Pair command) = false
 is_done (Complete command) = true
 is_done AfterPair = true
+is_done state = false
 
--- the item after its separator, which is double if another line of dashes follows
-abbrev pub after_separator : DraftText → List (List ℕ) → CommandText → FirstItem
-after_separator draft more command =
-    if begins_with_dashes more then in_double draft.line command draft.directive_lines draft.input (drop 1 more) else in_single draft.line command draft.directive_lines draft.input more
+-- a line of four dashes
+abbrev pub dashes_line : List ℕ
+dashes_line = codes "----"
 
 -- the directive of the parts so far
-abbrev pub drafted : DraftText → CommandText → Item
-drafted draft command = directive draft.line command draft.directive_lines draft.input draft.expected
+abbrev pub drafted : DraftParts → CommandText → Item
+drafted parts command = directive 1 command parts.directive_lines parts.input parts.expected
 
 -- the item of the lines so far if these lines follow, by state
-abbrev pub first_item_in : DraftState → DraftText → List (List ℕ) → Option FirstItem
-first_item_in Begin draft more = first_of draft.line more
-first_item_in CommentLine draft more = Some (first_item (Ok (Comment draft.directive_lines)) draft.count true)
-first_item_in BlankLines draft more = Some (first_item (Ok (Blank draft.directive_lines)) draft.count true)
-first_item_in DirectiveLines draft more = first_of draft.line (draft.directive_lines ++ more)
-first_item_in NoCommand draft more = Some (first_item (Err (BadDirective draft.line)) draft.count true)
-first_item_in (Input command) draft more = Some (body draft.line command draft.directive_lines (draft.input ++ more))
-first_item_in (Separator command) draft more = Some (after_separator draft more command)
-first_item_in (Single command) draft more = Some (in_single draft.line command draft.directive_lines draft.input (draft.expected ++ more))
-first_item_in (Double command) draft more = Some (in_double draft.line command draft.directive_lines draft.input (draft.expected ++ more))
-first_item_in (Pair command) draft more = Some (after_pair draft.line draft.count (drafted draft command) more)
-first_item_in (Complete command) draft more = Some (first_item (Ok (drafted draft command)) draft.count true)
-first_item_in AfterPair draft more = Some (first_item (Err (AfterDouble (draft.line + (draft.count - 1)))) draft.count true)
+abbrev pub first_item_in : DraftState → DraftParts → List (List ℕ) → FirstItem
+first_item_in Begin parts more = first_of more
+first_item_in CommentLine parts more = Ended (Ok (Comment parts.directive_lines)) more
+first_item_in BlankLines parts more = Ended (Ok (Blank parts.directive_lines)) more
+first_item_in DirectiveLines parts more = at_directive (cut is_last_line (parts.directive_lines ++ more))
+first_item_in NoCommand parts more = Ended (Err BadDirective) more
+first_item_in (Input command) parts more = body command parts.directive_lines (cut is_separator (parts.input ++ more))
+first_item_in (Separator command) parts more = after_separator command parts.directive_lines parts.input more
+first_item_in (Single command) parts more = in_single command parts.directive_lines parts.input (cut is_blank (parts.expected ++ more))
+first_item_in (Double command) parts more = in_double command parts.directive_lines parts.input (cut_at_pair (parts.expected ++ more))
+first_item_in (Dashes command) parts more = in_double command parts.directive_lines parts.input (cut_at_pair (parts.expected ++ dashes_line ∷ more))
+first_item_in (Pair command) parts more = after_pair (drafted parts command) more
+first_item_in (Complete command) parts more = Ended (Ok (drafted parts command)) more
+first_item_in AfterPair parts more = Ended (Err AfterDouble) more
 
--- the item of the lines so far if these lines follow
-abbrev pub first_item_of : DraftText → List (List ℕ) → Option FirstItem
-first_item_of draft more = first_item_in draft.state draft more
+-- the item of the lines so far, or its error, if no line follows; none if there is no line
+abbrev pub result_in : DraftState → DraftParts → Option (Result Item SyntaxFault)
+result_in Begin parts = None
+result_in CommentLine parts = Some (Ok (Comment (parts.directive_lines ++ parts.input)))
+result_in BlankLines parts = Some (Ok (Blank (parts.directive_lines ++ parts.input)))
+result_in DirectiveLines parts = Some (Err BadDirective)
+result_in NoCommand parts = Some (Err BadDirective)
+result_in (Input command) parts = Some (Ok (drafted parts command))
+result_in (Separator command) parts = Some (Ok (drafted parts command))
+result_in (Single command) parts = Some (Ok (drafted parts command))
+result_in (Double command) parts = Some (Err UnclosedDouble)
+result_in (Dashes command) parts = Some (Err UnclosedDouble)
+result_in (Pair command) parts = Some (Ok (drafted parts command))
+result_in (Complete command) parts = Some (Ok (drafted parts command))
+result_in AfterPair parts = Some (Err AfterDouble)
 
--- whether the first line begins a directive: it is neither a comment nor blank
-abbrev pub begins_directive : List (List ℕ) → Bool
-begins_directive [] = false
-begins_directive (line ∷ lines) = not (is_comment line) && not (is_blank line)
+-- whether there is a pair of dashes
+abbrev pub has_pair : List (List ℕ) → Bool
+has_pair [] = false
+has_pair (line ∷ []) = false
+has_pair (line ∷ next ∷ lines) = (is_dashes line && is_dashes next) || has_pair (next ∷ lines)
 
--- whether the last line is four dashes
-abbrev pub ends_in_dashes : List (List ℕ) → Bool
-ends_in_dashes [] = false
-ends_in_dashes (line ∷ []) = is_dashes line
-ends_in_dashes (line ∷ next ∷ lines) = ends_in_dashes (next ∷ lines)
+-- the parts so far fit a state: no line in them ends the part that it is in
+abbrev pub FitsIn : DraftState → DraftParts → Type 0
+FitsIn Begin parts = parts ≡ no_parts
+FitsIn CommentLine parts = parts.input ≡ []
+FitsIn BlankLines parts = parts.input ≡ []
+FitsIn DirectiveLines parts = (list_any is_last_line parts.directive_lines ≡ false) × (parts.input ≡ []) × (parts.expected ≡ [])
+FitsIn (Input command) parts = (list_any is_separator parts.input ≡ false) × (parts.expected ≡ [])
+FitsIn (Separator command) parts = parts.expected ≡ []
+FitsIn (Single command) parts = list_any is_blank parts.expected ≡ false
+FitsIn (Double command) parts = has_pair (parts.expected ++ dashes_line ∷ []) ≡ false
+FitsIn (Dashes command) parts = has_pair (parts.expected ++ dashes_line ∷ []) ≡ false
+FitsIn state parts = ⊤
 
--- the parts so far fit a state: no line in them ends the part that it is in, and each line is counted
-abbrev pub FitsIn : DraftState → DraftText → Type 0
-FitsIn Begin draft = (draft.directive_lines ≡ []) × (draft.input ≡ []) × (draft.expected ≡ []) × (draft.count ≡ 0)
-FitsIn CommentLine draft = draft.input ≡ []
-FitsIn BlankLines draft = draft.input ≡ []
-FitsIn DirectiveLines draft = (begins_directive draft.directive_lines ≡ true) × (list_all is_continued draft.directive_lines ≡ true) × (draft.input ≡ []) × (draft.expected ≡ []) × (draft.count ≡ length draft.directive_lines)
-FitsIn NoCommand draft = ⊤
-FitsIn (Input command) draft = (list_any is_separator draft.input ≡ false) × (draft.expected ≡ []) × (draft.count ≡ length draft.directive_lines + length draft.input)
-FitsIn (Separator command) draft = (draft.expected ≡ []) × (draft.count ≡ length draft.directive_lines + length draft.input + 1)
-FitsIn (Single command) draft = (list_any is_blank draft.expected ≡ false) × (draft.count ≡ length draft.directive_lines + length draft.input + 1 + length draft.expected)
-FitsIn (Double command) draft = (has_pair draft.expected ≡ false) × (draft.count ≡ length draft.directive_lines + length draft.input + length draft.expected + 2)
-FitsIn (Pair command) draft = draft.count ≡ length draft.directive_lines + length draft.input + length draft.expected + 4
-FitsIn (Complete command) draft = ⊤
-FitsIn AfterPair draft = 1 < draft.count
+-- One more line was added: with any lines that follow, the new state and parts give the item that the old ones give with
+-- this line and then those.
+pub record AddsIn (state : DraftState) (old : DraftParts) (next : DraftState) (new : DraftParts) (line : List ℕ) : Type 0 where
+  pub fits : FitsIn next new
+  pub first_item : (more : List (List ℕ)) → first_item_in next new more ≡ first_item_in state old (line ∷ more)
 
--- the parts so far fit the state of the draft
-abbrev pub Fits : DraftText → Type 0
-Fits draft = FitsIn draft.state draft
-
--- One more line was added: with any lines that follow, the new draft gives the item that the old one gives with this
--- line and then those.
-pub record AddsIn (state : DraftState) (old new : DraftText) (line : List ℕ) : Type 0 where
-  pub fits : Fits new
-  pub first_item : (more : List (List ℕ)) → first_item_of new more ≡ first_item_in state old (line ∷ more)
-  pub count : new.count ≡ old.count + 1
-  pub first : new.line ≡ old.line
-
--- the result of a read: an item, or its error
-abbrev pub item_result : Result Item FileFault → Result (Option Item) FileFault
-item_result (Ok item) = Ok (Some item)
-item_result (Err fault) = Err fault
-
--- the result of a read: the first item of some lines or its error, if there is a line
-abbrev pub result_of_first : Option FirstItem → Result (Option Item) FileFault
-result_of_first None = Ok None
-result_of_first (Some item) = item_result item.result
-
--- the errors of an item that begins at line n, with the line that each names
-abbrev pub IsDraftFault : ℕ → FileFault → Type 0
-IsDraftFault n Read = ⊥
-IsDraftFault n NoMemory = ⊤
-IsDraftFault n (InputTooLong line) = ⊥
-IsDraftFault n (BadDirective line) = line ≡ n
-IsDraftFault n (AfterDouble line) = n < line
-IsDraftFault n (UnclosedDouble line) = line ≡ n
-
--- an error in reading a line, reported for the item that begins at line n
-abbrev pub fault_at_line : ℕ → FileFault → FileFault
-fault_at_line n Read = Read
-fault_at_line n NoMemory = NoMemory
-fault_at_line n (InputTooLong line) = InputTooLong n
-fault_at_line n (BadDirective line) = BadDirective line
-fault_at_line n (AfterDouble line) = AfterDouble line
-fault_at_line n (UnclosedDouble line) = UnclosedDouble line
+-- the result of a read: the item at its line, or its error; none if there is no line
+abbrev pub item_result : ℕ → ℕ → Option (Result Item SyntaxFault) → Result (Option Item) FileFault
+item_result first last None = Ok None
+item_result first last (Some (Ok item)) = Ok (Some (at_line first item))
+item_result first last (Some (Err fault)) = Err (fault_between first last fault)

@@ -1,13 +1,15 @@
 -- What an input denotes: its items or its lines, one after the other, up to an error. An input beyond the limit denotes
 -- those that end within it, and then the error that it is too long.
-use Rattle.std.specs.Prelude.{ℕ, ◌+◌, ◌-◌, zero, suc, Bool, true, false, not, ◌&&◌, List, [], ◌∷◌, nat_lt, length, take, drop, map, filter, Option, Some, None, Result, Ok, Err, if◌then◌else◌}
+use Rattle.std.specs.Prelude.{ℕ, ◌+◌, ◌-◌, zero, suc, Bool, true, false, List, [], ◌∷◌, nat_lt, length, take, drop, map, filter, Option, Some, None, Result, Ok, Err, if◌then◌else◌}
 use Rattle.std.specs.List.{concat}
 use Rattle.dd_file.specs.Position.{Position, start, longest_input}
 use Rattle.ascii_text.specs.Lines.{full_lines, line_of, ends_in_newline}
-use Rattle.dd_file.specs.Script.{FirstItem, first_of}
+use Rattle.dd_file.specs.Script.{FirstItem, NoItem, Ended, Open, first_of, at_line}
 use Rattle.dd_file.specs.declared.item.Item.{Item}
+use Rattle.dd_file.specs.declared.fault.SyntaxFault.{SyntaxFault}
+use Rattle.dd_file.specs.declared.fault.SyntaxFault.TheVariants.{AfterDouble}
 use Rattle.dd_file.specs.declared.fault.FileFault.{FileFault}
-use Rattle.dd_file.specs.declared.fault.FileFault.TheVariants.{InputTooLong}
+use Rattle.dd_file.specs.declared.fault.FileFault.TheVariants.{Syntax, InputTooLong}
 
 -- What comes next in an input: nothing, since it is over; an item or line, the position after it and the bytes from
 -- there on; or an error.
@@ -36,21 +38,29 @@ abbrev pub at_end : {A : Type 0} → Bool → Position → Next A
 at_end true position = Faulty (InputTooLong (position.lines + 1))
 at_end false position = Over
 
--- what comes next, given a first item of count lines, or its error
-abbrev pub with_count : ℕ → Result Item FileFault → Position → List ℕ → Next Item
-with_count count (Ok item) position bytes = next_of_lines count item position bytes
-with_count count (Err fault) position bytes = Faulty fault
+-- the error of an item whose first and last line have these numbers; it names the last line, or else the first
+abbrev pub fault_between : ℕ → ℕ → SyntaxFault → FileFault
+fault_between first last AfterDouble = Syntax last AfterDouble
+fault_between first last fault = Syntax first fault
 
--- what comes next, given the first item of the lines; if the input is too long, an item that is not ended is an error
-abbrev pub from_first_item : Bool → Option FirstItem → Position → List ℕ → Next Item
-from_first_item too_long None position bytes = at_end too_long position
-from_first_item too_long (Some item) position bytes =
-    if too_long && not item.is_ended then at_end true position else with_count item.count item.result position bytes
+-- what comes next, given an item of count lines, or its error
+abbrev pub with_count : ℕ → Result Item SyntaxFault → Position → List ℕ → Next Item
+with_count count (Ok item) position bytes = next_of_lines count (at_line (position.lines + 1) item) position bytes
+with_count count (Err fault) position bytes = Faulty (fault_between (position.lines + 1) (position.lines + count) fault)
+
+-- What comes next, given this many lines and their first item. If the input is too long, an item that is not ended is
+-- an error.
+abbrev pub from_first_item : Bool → ℕ → FirstItem → Position → List ℕ → Next Item
+from_first_item too_long count NoItem position bytes = at_end too_long position
+from_first_item too_long count (Ended result left) position bytes = with_count (count - length left) result position bytes
+from_first_item true count (Open result) position bytes = at_end true position
+from_first_item false count (Open result) position bytes = with_count count result position bytes
 
 -- what item comes next, in an input with these bytes from this position on
 abbrev pub next_item : ℕ → Position → List ℕ → Next Item
 next_item limit position bytes =
-    from_first_item (is_too_long limit position bytes) (first_of (position.lines + 1) (map line_of (full_lines_within limit position bytes))) position bytes
+    let lines = map line_of (full_lines_within limit position bytes) in
+    from_first_item (is_too_long limit position bytes) (length lines) (first_of lines) position bytes
 
 -- what line comes next, given the full lines that are left
 abbrev pub from_full_lines : Bool → List (List ℕ) → Position → List ℕ → Next (List ℕ)

@@ -1,19 +1,20 @@
 -- Laws of scripts: what comes next in them, rewriting them, and joining them. The contracts of the module `laws` cite
 -- these statements.
-use Rattle.std.specs.Prelude.{◌≡◌, ℕ, ◌+◌, ◌≤◌, Bool, true, false, not, ◌==◌, nat_lt, List, [], ◌∷◌, ◌++◌, length, drop, map, flat_map, Option, Some, option_map, None, Result, Ok, Err, ⊤, if◌then◌else◌}
+use Rattle.std.specs.Prelude.{◌≡◌, ℕ, ◌+◌, ◌≤◌, Bool, true, false, not, ◌==◌, nat_lt, List, [], ◌∷◌, ◌++◌, length, map, flat_map, Option, Some, option_map, None, Result, Ok, Err, ⊤, if◌then◌else◌}
 use Rattle.std.specs.List.{list_all, list_any}
 use Rattle.ascii_text.specs.Lines.{newline, lines_of}
 use Rattle.ascii_text.specs.WhiteSpace.{is_blank, trimmed, without_trailing_space}
 use Rattle.dd_file.specs.DirectiveText.{DirectiveText}
 use Rattle.dd_file.specs.DirectiveLine.{CommandText, command_of, has_keys}
-use Rattle.dd_file.specs.Script.{FirstItem, first_item, first_of, directive, is_comment, is_continued, is_separator}
+use Rattle.dd_file.specs.Script.{FirstItem, Ended, result_of, lines_left, first_of, at_line, directive, is_comment, is_continued, is_separator}
 use Rattle.dd_file.specs.Position.{Position, longest_input}
 use Rattle.dd_file.specs.Grammar.{followed, next_item, next_line, items_from, lines_from, script_of}
 use Rattle.dd_file.specs.Rewritten.{Entry, entry, entry_text, rewritten_text, is_output, is_directive, raw_lines_of}
 use Rattle.dd_file.specs.declared.item.Item.{Item}
 use Rattle.dd_file.specs.declared.item.Item.TheVariants.{Comment, Blank, Directive}
 use Rattle.dd_file.specs.declared.fault.FileFault.{FileFault}
-use Rattle.dd_file.specs.declared.fault.FileFault.TheVariants.{Read, NoMemory, BadDirective, AfterDouble, UnclosedDouble, InputTooLong}
+use Rattle.dd_file.specs.declared.fault.FileFault.TheVariants.{Syntax, InputTooLong}
+use Rattle.dd_file.specs.declared.fault.SyntaxFault.{SyntaxFault}
 
 -- the items from a position on are none at the end, the next item and those after it, or an error
 abbrev pub ItemsByNext : Type 0
@@ -52,9 +53,9 @@ IsSameItem n output (Directive directive) again = (other : DirectiveText) × (ag
 -- lines are left.
 abbrev pub WrittenItem : Type 0
 WrittenItem =
-    (n m count : ℕ) (is_ended : Bool) (lines more : List (List ℕ)) (item : Item) (output : List ℕ) →
-    list_all is_line lines ≡ true → is_output output ≡ true → first_of n lines ≡ Some (first_item (Ok item) count is_ended) →
-    (again : Item) × (first_of m (lines_of (entry_text item output) ++ more) ≡ Some (first_item (Ok again) (length (lines_of (entry_text item output))) true)) × IsSameItem m output item again
+    (n m : ℕ) (lines more : List (List ℕ)) (item : Item) (output : List ℕ) →
+    list_all is_line lines ≡ true → is_output output ≡ true → result_of (first_of lines) ≡ Some (Ok item) →
+    (again : Item) × (first_of (lines_of (entry_text (at_line n item) output) ++ more) ≡ Ended (Ok again) more) × IsSameItem m output (at_line n item) (at_line m again)
 
 -- The entries are read back item by item, each with its actual output as the expected one. A blank of one empty line at
 -- the end may be missing.
@@ -72,14 +73,14 @@ ends_in_long_blank (Blank lines ∷ []) = nat_lt 1 (length lines)
 ends_in_long_blank (Directive directive ∷ []) = false
 ends_in_long_blank (item ∷ next ∷ items) = ends_in_long_blank (next ∷ items)
 
--- an item of the grammar: the first item of some lines, without an error
+-- an item of the grammar: the first item of some lines, at some line
 pub record IsWellFormed (item : Item) : Type 0 where
   pub number : ℕ
   pub lines : List (List ℕ)
   pub are_lines : list_all is_line lines ≡ true
-  pub count : ℕ
-  pub is_ended : Bool
-  pub first : first_of number lines ≡ Some (first_item (Ok item) count is_ended)
+  pub first : Item
+  pub is_first : result_of (first_of lines) ≡ Some (Ok first)
+  pub is : item ≡ at_line number first
 
 -- items, each of which is one of the grammar
 abbrev pub AreWellFormed : List Item → Type 0
@@ -117,33 +118,32 @@ item_has_keys (Directive directive) = has_keys directive.arguments
 abbrev pub ItemsHaveKeys : Type 0
 ItemsHaveKeys = (input : List ℕ) → list_all item_has_keys (script_of input).items ≡ true
 
--- whether the first count lines are a comment, a blank, or a directive with its separator
-abbrev pub has_separator : ℕ → Result Item FileFault → Bool
-has_separator count (Ok item) = if is_directive item then nat_lt (length (raw_lines_of item)) count else true
-has_separator count (Err fault) = false
+-- whether an item is a comment, a blank, or a directive with its separator: of this many lines, so many of which are
+-- left, one is neither left nor a raw line
+abbrev pub has_separator : Item → ℕ → ℕ → Bool
+has_separator item left count = if is_directive item then nat_lt (length (raw_lines_of item) + left) count else true
 
--- Lines from number n on are complete: they are items without an error, and each directive has its separator. Without
--- one, a text that is appended would become input of the last directive.
-pub data IsComplete : ℕ → List (List ℕ) → Type 0 where
-  Done : (n : ℕ) → IsComplete n []
-  More : (n : ℕ) (lines : List (List ℕ)) (item : FirstItem) → first_of n lines ≡ Some item → has_separator item.count item.result ≡ true →
-      IsComplete (n + item.count) (drop item.count lines) → IsComplete n lines
+-- Lines are complete: they are items without an error, and each directive has its separator. Without one, a text that is
+-- appended would become input of the last directive.
+pub data IsComplete : List (List ℕ) → Type 0 where
+  Done : IsComplete []
+  More : (lines : List (List ℕ)) (item : Item) → result_of (first_of lines) ≡ Some (Ok item) → has_separator item (length (lines_left (first_of lines))) (length lines) ≡ true →
+      IsComplete (lines_left (first_of lines)) → IsComplete lines
 
--- Complete by a first item of count lines: there is no error, a directive has its separator, and the lines after the
--- item are complete.
-abbrev pub IsCompleteWith : ℕ → List (List ℕ) → ℕ → Result Item FileFault → Type 0
-IsCompleteWith n lines count (Ok item) = (has_separator count (Ok item) ≡ true) × IsComplete (n + count) (drop count lines)
-IsCompleteWith n lines count (Err fault) = ⊥
+-- Complete by a first item and the lines that are left: there is no error, a directive has its separator, and the lines
+-- after the item are complete.
+abbrev pub IsCompleteWith : List (List ℕ) → List (List ℕ) → Option (Result Item SyntaxFault) → Type 0
+IsCompleteWith lines left None = ⊤
+IsCompleteWith lines left (Some (Ok item)) = (has_separator item (length left) (length lines) ≡ true) × IsComplete left
+IsCompleteWith lines left (Some (Err fault)) = ⊥
 
 -- complete by the first item of the lines, if there is one
-abbrev pub IsCompleteBy : ℕ → List (List ℕ) → Option FirstItem → Type 0
-IsCompleteBy n lines None = ⊤
-IsCompleteBy n lines (Some item) = IsCompleteWith n lines item.count item.result
+abbrev pub IsCompleteBy : List (List ℕ) → FirstItem → Type 0
+IsCompleteBy lines first = IsCompleteWith lines (lines_left first) (result_of first)
 
 -- lines are complete exactly when they are complete by their first item
 abbrev pub CompleteByFirst : Type 0
-CompleteByFirst = (n : ℕ) (lines : List (List ℕ)) →
-    (IsComplete n lines → IsCompleteBy n lines (first_of n lines)) × (IsCompleteBy n lines (first_of n lines) → IsComplete n lines)
+CompleteByFirst = (lines : List (List ℕ)) → (IsComplete lines → IsCompleteBy lines (first_of lines)) × (IsCompleteBy lines (first_of lines) → IsComplete lines)
 
 -- a directive as it is with this many lines before it
 abbrev pub moved : ℕ → DirectiveText → DirectiveText
@@ -161,18 +161,15 @@ directives_of items = flat_map directive_in items
 
 -- an error as it is with this many lines before it
 abbrev pub moved_fault : ℕ → FileFault → FileFault
-moved_fault lines Read = Read
-moved_fault lines NoMemory = NoMemory
-moved_fault lines (BadDirective line) = BadDirective (lines + line)
-moved_fault lines (AfterDouble line) = AfterDouble (lines + line)
-moved_fault lines (UnclosedDouble line) = UnclosedDouble (lines + line)
+moved_fault lines (Syntax line fault) = Syntax (lines + line) fault
 moved_fault lines (InputTooLong line) = InputTooLong (lines + line)
+moved_fault lines fault = fault
 
 -- The directives of a complete script, two newlines and any text are those of the script and then those of the text,
 -- and the error is that of the text.
 abbrev pub JoinedItems : Type 0
 JoinedItems =
-    (script text : List ℕ) → IsComplete 1 (lines_of script) → length ((script ++ newline ++ newline) ++ text) ≤ longest_input →
+    (script text : List ℕ) → IsComplete (lines_of script) → length ((script ++ newline ++ newline) ++ text) ≤ longest_input →
     let before = length (lines_of (script ++ newline ++ newline)) in
     let joined = script_of ((script ++ newline ++ newline) ++ text) in
     (directives_of joined.items ≡ directives_of (script_of script).items ++ map (moved before) (directives_of (script_of text).items))

@@ -1,4 +1,4 @@
-pub mod Parts
+pub mod Cut
 pub mod DirectiveLine
 pub mod DirectiveText
 pub mod Script
@@ -8,15 +8,14 @@ pub mod ReaderState
 pub mod Draft
 pub mod Answer
 pub mod Buffered
+pub mod DraftOf
 pub mod InOrder
 pub mod Rewritten
 pub mod RewriterState
 pub mod Device
-pub mod FullLineRead
 pub mod Laws
 pub mod Wrapped
 pub mod Gathered
 pub mod InTurn
 pub mod LineEnds
 pub mod ArgumentValues
-pub mod TokenParts

@@ -21,9 +21,12 @@ pub record IsOver (state : ReaderState) : Type 0 where
   pub buffered : state.buffered ≡ []
   pub ended : state.is_ended ≡ true
 
--- the buffer is bounded and empty at the end, each line has at least one byte, and the limit is not exceeded
+-- the buffer is empty at the end, each line has at least one byte, and the limit is not exceeded
 pub record IsWithin (buffered : List ℕ) (is_ended : Bool) (lines bytes : ℕ) : Type 0 where
-  pub ahead : length buffered ≤ longest_lookahead
   pub ended : is_ended ≡ true → buffered ≡ []
   pub counted : lines ≤ bytes
   pub limit : bytes ≤ longest_input
+
+-- unless an error was returned, the bytes that were read ahead are bounded
+abbrev pub IsBounded : ReaderState → Type 0
+IsBounded state = state.fault ≡ None → length state.buffered ≤ longest_lookahead

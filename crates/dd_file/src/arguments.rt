@@ -11,14 +11,14 @@
 //! cfg=(1)(2)          not valid: the token does not end with the list
 //! cfg=f(1)            not valid: a plain value has no parentheses
 //! ```
-ghost use Rattle.std.specs.Prelude.{◌≡◌, ◌+◌, ◌≤◌, ◌∷◌, true, false, length, drop, is_some, None, IfSome, MatchOption};
+ghost use Rattle.std.specs.Prelude.{◌≡◌, ◌<◌, ◌≤◌, length, IfSome};
 ghost use Rattle.std.specs.List.{prefix_len};
-ghost use Rattle.dd_file.specs.ArgumentValues.{is_argument};
-ghost use Rattle.dd_file.specs.TokenParts.{ends_token, first_token};
-ghost use Rattle.dd_file.specs.DirectiveLine.{is_key_byte, token_len, values_of, parsed_argument, is_plain_byte};
+ghost use Rattle.dd_file.specs.DirectiveLine.{is_key_byte, is_plain_byte, ends_token, listed_at, values_at, after_key, argument_at};
 
+use crate::values::Values;
 use ascii_text::position::far_position_of;
 use ascii_text::white_space::is_space;
+use std::marker::Model;
 
 /// Whether a key may contain the byte: an ASCII letter, a digit, or one of `-_/,.`.
 fn is_key_byte(b: u8) -> bool
@@ -27,12 +27,12 @@ fn is_key_byte(b: u8) -> bool
     b.is_ascii_alphanumeric() || matches!(b, b'-' | b'_' | b'/' | b',' | b'.')
 }
 
-/// The length of the longest prefix of key bytes, which is the key if the token begins with one.
-pub(crate) fn key_len(token: &[u8]) -> usize
-    ensures len { result ≡ prefix_len is_key_byte token.now }
-    ensures within { result ≤ length token.now }
+/// The length of the longest prefix of key bytes.
+pub(crate) fn key_len(text: &[u8]) -> usize
+    ensures len { result ≡ prefix_len is_key_byte text.now }
+    ensures within { result ≤ length text.now }
 {
-    token.iter().take_while(|b| is_key_byte(**b)).count()
+    text.iter().take_while(|b| is_key_byte(**b)).count()
 }
 
 /// The length of the longest prefix of bytes that a plain value may contain.
@@ -50,66 +50,106 @@ fn is_plain_byte(b: u8) -> bool
     !(is_space(b) || b == b'(' || b == b')')
 }
 
-/// Whether a token ends at this position: the text ends there, or white space follows.
-pub(crate) fn ends_token(text: &[u8], position: usize) -> bool
-    requires { position ≤ length text.now }
-    ensures { result ≡ ends_token (drop position text.now) }
+/// Whether a token ends before this text: it is empty or begins with white space.
+pub(crate) fn ends_token(text: &[u8]) -> bool
+    ensures { result ≡ ends_token text.now }
 {
-    match text.get(position) {
+    match text.first() {
         Some(b) => is_space(*b),
         None => true,
     }
 }
 
-/// The length of a list in parentheses, counted after the opening one. `None` if the list is not closed, or its token
-/// does not end after it. White space between the parentheses does not end the token.
-fn listed_len(inside: &[u8]) -> Option<usize>
-    ensures { MatchOption result (is_some (values_of (first_token (40 ∷ inside.now))) ≡ false)
-        (λ len. (len + 1 ≡ token_len false (40 ∷ inside.now)) × (is_some (values_of (first_token (40 ∷ inside.now))) ≡ true)) }
-{
-    let position = far_position_of(inside, b')');
-    if position == inside.len() {
-        return None;
-    }
-    if !ends_token(inside, position + 1) {
-        return None;
-    }
-    Some(position + 1)
+/// Values that a text begins with, and the text after them.
+#[derive(Drop)]
+struct LeadingValues<'a> {
+    values: Values<'a>,
+    rest: &'a [u8],
 }
 
-/// The length of the values at the start of a text after `=`: a list in parentheses, or one plain value. `None` if the
-/// first token is neither.
-fn values_len(text: &[u8]) -> Option<usize>
-    ensures { MatchOption result (is_some (values_of (first_token text.now)) ≡ false)
-        (λ len. (len ≡ token_len false text.now) × (is_some (values_of (first_token text.now)) ≡ true)) }
-{
-    let Some((first, inside)) = text.split_first() else {
-        return Some(0);
-    };
-    if *first == b'(' {
-        return Some(listed_len(inside)? + 1);
-    }
-    let len = plain_len(text);
-    if !ends_token(text, len) {
-        return None;
-    }
-    Some(len)
+impl<'a> Model for LeadingValues<'a> {
+    ghost use Rattle.std.specs.Prelude.{List, ℕ};
+    ghost use Rattle.dd_file.specs.DirectiveLine.{Leading, leading};
+
+    ghost Value = { Leading (List (List ℕ)) };
+
+    ghost view = { λ a. leading a.values a.rest.now };
 }
 
-/// The length of the leading argument, if it is valid: a key alone, or a key, `=` and values. `key_len` is the length
-/// of its key.
-pub(crate) fn argument_len(text: &[u8], key_len: usize) -> Option<usize>
-    requires { key_len ≡ prefix_len is_key_byte text.now }
-    ensures argument { MatchOption result (parsed_argument (first_token text.now) ≡ None)
-        (λ len. (len ≡ token_len false text.now) × (is_argument (first_token text.now) ≡ true)) }
-    ensures key { IfSome result (λ len. key_len ≡ prefix_len is_key_byte (first_token text.now)) }
+/// The values of a list, after its opening parenthesis. `None` if it is not closed. White space between the parentheses
+/// does not end the token.
+fn listed_at(text: &[u8]) -> Option<LeadingValues<'_>>
+    ensures values { result ≡ listed_at text.now }
+    ensures within { IfSome result (λ found. length found.rest ≤ length text.now) }
 {
-    if key_len == 0 {
+    let (inside, closed) = text.split_at(far_position_of(text, b')'));
+    let (_, rest) = closed.split_first()?;
+    Some(LeadingValues {
+        values: Values::listed(inside),
+        rest,
+    })
+}
+
+/// The values that a text after `=` begins with: a list in parentheses, or one plain value.
+fn values_at(text: &[u8]) -> Option<LeadingValues<'_>>
+    ensures values { result ≡ values_at text.now }
+    ensures within { IfSome result (λ found. length found.rest ≤ length text.now) }
+{
+    if let Some((b'(', inside)) = text.split_first() {
+        return listed_at(inside);
+    }
+    let (plain, rest) = text.split_at(plain_len(text));
+    Some(LeadingValues {
+        values: Values::plain(plain),
+        rest,
+    })
+}
+
+/// The argument that a text begins with, and the text after it.
+#[derive(Drop)]
+pub(crate) struct LeadingArgument<'a> {
+    pub(crate) key: &'a [u8],
+    pub(crate) values: Values<'a>,
+    pub(crate) rest: &'a [u8],
+}
+
+impl<'a> Model for LeadingArgument<'a> {
+    ghost use Rattle.dd_file.specs.DirectiveLine.{ArgumentText, Leading, leading, with_key};
+
+    ghost Value = { Leading ArgumentText };
+
+    ghost view = { λ a. leading (with_key a.key.now a.values) a.rest.now };
+}
+
+/// The argument with this key, and the text after it: `=` and values follow the key, or there are none.
+fn after_key<'a>(key: &'a [u8], text: &'a [u8]) -> Option<LeadingArgument<'a>>
+    ensures argument { result ≡ after_key key.now text.now }
+    ensures within { IfSome result (λ found. length found.rest ≤ length text.now) }
+{
+    if let Some((b'=', text)) = text.split_first() {
+        let LeadingValues { values, rest } = values_at(text)?;
+        return Some(LeadingArgument { key, values, rest });
+    }
+    Some(LeadingArgument {
+        key,
+        values: Values::none(text),
+        rest: text,
+    })
+}
+
+/// The argument that a text begins with: a key alone, or a key, `=` and values. `None` if there is none, or it is not
+/// the whole token.
+pub(crate) fn argument_at(text: &[u8]) -> Option<LeadingArgument<'_>>
+    ensures argument { result ≡ argument_at text.now }
+    ensures shorter { IfSome result (λ found. length found.rest < length text.now) }
+{
+    let (key, rest) = text.split_at(key_len(text));
+    if key.is_empty() {
         return None;
     }
-    match text.get(key_len) {
-        None => Some(key_len),
-        Some(b'=') => Some(key_len + 1 + values_len(&text[key_len + 1..])?),
-        Some(b) => { if is_space(*b) { Some(key_len) } else { None } }
+    let found = after_key(key, rest)?;
+    if !ends_token(found.rest) {
+        return None;
     }
+    Some(found)
 }

@@ -1,39 +1,40 @@
 //! The buffer of bytes that are read ahead.
 //!
 //! ```text
-//! bytes    returned already | buffered | unused
-//!          0                start      end      4096
+//! bytes    returned already | buffered
+//!          0                start
 //! ```
-ghost use Rattle.std.specs.Prelude.{◌≡◌, ◌≤◌, ◌==◌, ◌++◌, ◌||◌, [], length, take, drop, is_ok, is_err, if◌then◌else◌, IfOk, OnOk, MatchResult};
-ghost use Rattle.std.specs.Io.KnownBytes.{Consumes, IsAtEnd, Keeps};
-ghost use Rattle.dd_file.specs.Position.{longest_lookahead};
-ghost use Rattle.ascii_text.specs.Lines.{first_len};
+ghost use Rattle.std.specs.Prelude.{◌≡◌, ◌≤◌, ◌||◌, [], length, drop, IfOk, IfErr, OnErr};
+ghost use Rattle.dd_file.specs.Answer.{is_read_fault};
+ghost use Rattle.dd_file.specs.Buffered.{FilledBy, IsInterruption};
+ghost use Rattle.dd_file.specs.Device.{LosesPrefix};
 
 use crate::device::Source;
-use crate::fault::DeviceFault;
-use ascii_text::lines::first_line_len;
+use crate::fault::FileFault;
 use std::alloc::{AllocError, Global};
 use std::marker::Model;
 
-/// The greatest number of bytes that are read ahead of what was returned.
+/// The greatest number of bytes that one read may return.
 const LOOKAHEAD: usize = 4096;
 
-/// The bytes that were read from a source and not yet returned.
+/// The bytes that were read from a source and not yet returned. They grow while an item is read.
 #[derive(Drop)]
 pub(crate) struct Buffer {
+    alloc: Global,
     bytes: Vec<u8>,
     start: usize,
-    end: usize,
+    /// What one read returns.
+    block: Vec<u8>,
 }
 
 impl Model for Buffer {
-    ghost use Rattle.std.specs.Prelude.{◌≡◌, ◌≤◌, ◌-◌, List, ℕ, take, drop, vec_len};
+    ghost use Rattle.std.specs.Prelude.{◌≡◌, ◌≤◌, List, ℕ, drop, vec_len};
 
     ghost Value = { List ℕ };
 
-    ghost view = { λ a. take (a.end - a.start) (drop a.start a.bytes.items) };
+    ghost view = { λ a. drop a.start a.bytes.items };
 
-    ghost invariant = { λ a. (a.start ≤ a.end) × (a.end ≤ vec_len a.bytes) × (vec_len a.bytes ≡ 4096) };
+    ghost invariant = { λ a. (a.start ≤ vec_len a.bytes) × (vec_len a.block ≡ 4096) };
 }
 
 impl Buffer {
@@ -41,22 +42,17 @@ impl Buffer {
         ensures { IfOk result (λ buffer. buffer ≡ []) }
     {
         Ok(Buffer {
-            bytes: vec![in alloc; 0; LOOKAHEAD]?,
+            alloc,
+            bytes: Vec::new(alloc),
             start: 0,
-            end: 0,
+            block: vec![in alloc; 0; LOOKAHEAD]?,
         })
-    }
-
-    pub(crate) fn is_empty(&self) -> bool
-        ensures { result ≡ (length self.now == 0) }
-    {
-        self.start == self.end
     }
 
     pub(crate) fn buffered(&self) -> &[u8]
         ensures { result.now ≡ self.now }
     {
-        &self.bytes[self.start..self.end]
+        self.bytes.as_slice().split_at(self.start).1
     }
 
     /// Drops the first `count` buffered bytes, since they were returned.
@@ -67,30 +63,34 @@ impl Buffer {
         self.start += count;
     }
 
-    /// Replaces the buffered bytes by those of one read. If there are none, the input has ended.
-    pub(crate) fn fill<R: Source>(&mut self, reader: &mut R) -> Result<(), DeviceFault>
-        ensures bound { length self.new ≤ longest_lookahead }
-        ensures bytes { MatchResult result
-            (λ _. Consumes (R.remaining reader.old) (R.remaining reader.new) self.new × (self.new ≡ [] → IsAtEnd (R.remaining reader.new)))
-            (λ _. Keeps (R.remaining reader.old) (R.remaining reader.new)) }
-        ensures failed { R.has_failed reader.new ≡ (R.has_failed reader.old || is_err result) }
+    /// Reads once, and appends the bytes to the buffered ones. Returns whether there were any; if not, the input has
+    /// ended.
+    pub(crate) fn fill<R: Source>(&mut self, reader: &mut R) -> Result<bool, FileFault>
+        ensures filled { IfOk result (FilledBy self.old self.new (R.remaining reader.old) (R.remaining reader.new)) }
+        ensures interrupted { IfErr result IsInterruption }
+        ensures lost { OnErr result (LosesPrefix (R.remaining reader.old) (R.remaining reader.new)) }
+        ensures failed { R.has_failed reader.new ≡ (R.has_failed reader.old || is_read_fault result) }
     {
-        self.start = 0;
-        self.end = 0;
-        self.end = reader.read(self.bytes.as_mut_slice())?;
-        Ok(())
+        self.drop_returned().map_err(|_| FileFault::NoMemory)?;
+        let count = reader
+            .read(self.block.as_mut_slice())
+            .map_err(|_| FileFault::Read)?;
+        let block = self.block.as_slice().split_at(count).0;
+        self.bytes
+            .extend_from_slice(block)
+            .map_err(|_| FileFault::NoMemory)?;
+        Ok(count > 0)
     }
 
-    /// Moves the buffered bytes up to the first newline, inclusive, or all if there is none, to the end of `line`. If
-    /// memory runs out, nothing is moved.
-    pub(crate) fn move_line(&mut self, line: &mut Vec<u8>) -> Result<(), AllocError>
-        ensures line { OnOk result (line.new.items ≡ line.old.items ++ take (first_len self.old) self.old) }
-        ensures rest { self.new ≡ (if is_ok result then drop (first_len self.old) self.old else self.old) }
+    /// Frees the memory of the bytes that were returned.
+    fn drop_returned(&mut self) -> Result<(), AllocError>
+        ensures { self.new ≡ self.old }
     {
-        let buffered = &self.bytes[self.start..self.end];
-        let count = first_line_len(buffered);
-        line.extend_from_slice(&buffered[..count])?;
-        self.start += count;
+        if self.start > 0 {
+            let buffered = self.bytes.as_slice().split_at(self.start).1;
+            self.bytes = Vec::from_slice(self.alloc, buffered)?;
+            self.start = 0;
+        }
         Ok(())
     }
 }

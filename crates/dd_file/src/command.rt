@@ -4,13 +4,12 @@
 //! enter-joint autoleave=true      the command enter-joint, and the argument autoleave with one value
 //! subtest one                     not a command: datadriven groups tests with it, which is not supported here
 //! ```
-ghost use Rattle.std.specs.Prelude.{◌≡◌, true, false, IfOk, MatchOption, option_map};
-ghost use Rattle.dd_file.specs.TokenParts.{first_token};
-ghost use Rattle.dd_file.specs.DirectiveLine.{token_len, is_command_name, tokens_of, arguments_of, command_of};
+ghost use Rattle.std.specs.Prelude.{◌≡◌, IfOk, option_map};
+ghost use Rattle.dd_file.specs.DirectiveLine.{arguments_of, command_of};
 
-use crate::arguments::{argument_len, ends_token, key_len};
+use crate::arguments::{argument_at, ends_token, key_len};
 use crate::item::Argument;
-use crate::tokens::from_token;
+use ascii_text::white_space::without_leading_space;
 use smallvec::SmallVec;
 use std::alloc::{AllocError, Global};
 use std::marker::Model;
@@ -36,55 +35,36 @@ impl Model for Command {
     ghost invariant = { λ a. has_keys a.arguments.items ≡ true };
 }
 
-/// The length of the leading command name, if it is valid: a key other than `subtest` that is a whole token (own).
-fn name_len(text: &[u8]) -> Option<usize>
-    ensures { MatchOption result (is_command_name (first_token text.now) ≡ false)
-        (λ len. (len ≡ token_len false text.now) × (is_command_name (first_token text.now) ≡ true)) }
-{
-    let len = key_len(text);
-    if len == 0 {
-        return None;
-    }
-    if !ends_token(text, len) {
-        return None;
-    }
-    if &text[..len] == b"subtest".as_slice() {
-        return None;
-    }
-    Some(len)
-}
-
-/// Parses the tokens of a text as arguments. `None` if one of them is not an argument, so that a mistake is never
-/// skipped.
+/// Parses a text as arguments. `None` if one of its tokens is not an argument, so that a mistake is never skipped.
 fn parse_arguments(alloc: Global, text: &[u8]) -> Result<Option<Vec<Argument>>, AllocError>
-    ensures { IfOk result (λ read. option_map (λ arguments. arguments.items) read ≡ arguments_of (tokens_of text.now)) }
+    ensures { IfOk result (λ read. option_map (λ arguments. arguments.items) read ≡ arguments_of text.now) }
 {
     let mut arguments = Vec::new(alloc);
     let mut rest = text;
-    while let Some(begun) = from_token(rest) {
-        let key_len = key_len(begun);
-        let Some(len) = argument_len(begun, key_len) else {
+    'parse: loop {
+        let begun = without_leading_space(rest);
+        if begun.is_empty() {
+            return Ok(Some(arguments));
+        }
+        let Some(found) = argument_at(begun) else {
             return Ok(None);
         };
-        let (token, suffix) = begun.split_at(len);
-        arguments.push(Argument::new(alloc, token, key_len)?)?;
-        rest = suffix;
+        arguments.push(Argument::new(alloc, found.key, found.values)?)?;
+        rest = found.rest;
     }
-    Ok(Some(arguments))
 }
 
-/// Parses a directive line. `None` if it has no command, or one of the tokens after it is not an argument.
+/// Parses a directive line. `None` if it has no command, or one of the tokens after it is not an argument. The name of a
+/// command is a key other than `subtest` that is a whole token.
 pub(crate) fn parse_command(alloc: Global, text: &[u8]) -> Result<Option<Command>, AllocError>
     ensures { IfOk result (λ read. read ≡ command_of text.now) }
 {
-    let Some(begun) = from_token(text) else {
+    let begun = without_leading_space(text);
+    let (name, rest) = begun.split_at(key_len(begun));
+    if name.is_empty() || !ends_token(rest) || name == b"subtest".as_slice() {
         return Ok(None);
-    };
-    let Some(len) = name_len(begun) else {
-        return Ok(None);
-    };
-    let (name, suffix) = begun.split_at(len);
-    match parse_arguments(alloc, suffix)? {
+    }
+    match parse_arguments(alloc, rest)? {
         Some(arguments) => Ok(Some(Command {
             name: Name::from_slice(alloc, name)?,
             arguments,

@@ -7,7 +7,7 @@
 //! ----               Separator
 //! ----               Double
 //! voters=(1 2)       Double
-//! ----               Double, since one line of dashes may be output
+//! ----               Dashes, since one line of dashes may be output
 //! ----               Pair
 //!                    Complete
 //! ```
@@ -38,6 +38,8 @@ pub(crate) enum DraftState {
     Single(Command),
     /// Lines of expected output follow, up to a pair of dashes.
     Double(Command),
+    /// The same, after a line of dashes: it is the first of the closing pair, or output.
+    Dashes(Command),
     /// The last two lines were the closing pair of dashes.
     Pair(Command),
     /// It is a complete directive.

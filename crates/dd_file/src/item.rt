@@ -11,6 +11,7 @@ ghost use Rattle.dd_file.specs.DirectiveLine.{has_keys, command_of};
 use crate::command::{Command, Name, parse_command};
 pub use crate::raw_lines::RawLines;
 pub use crate::values::Values;
+use crate::values::ValuesKind;
 use ascii_text::white_space::{without_leading_space, without_trailing_space};
 use smallvec::SmallVec;
 use std::alloc::{AllocError, Global};
@@ -20,40 +21,36 @@ use std::marker::Model;
 /// (datadriven's `CmdArg`).
 #[derive(Drop)]
 pub struct Argument {
-    /// The token that it was parsed from.
-    token: SmallVec<u8, 32>,
-    /// The length of the key, at the start of the token.
+    /// The key, and then the text of the values.
+    text: SmallVec<u8, 32>,
     key_len: usize,
+    kind: ValuesKind,
 }
 
 impl Model for Argument {
-    ghost use Rattle.std.specs.Prelude.{◌≡◌, true};
-    ghost use Rattle.std.specs.List.{prefix_len};
-    ghost use Rattle.dd_file.specs.ArgumentValues.{is_argument, argument_in};
-    ghost use Rattle.dd_file.specs.DirectiveLine.{ArgumentText, is_key_byte};
+    ghost use Rattle.std.specs.Prelude.{◌≤◌, length, take, drop};
+    ghost use Rattle.dd_file.specs.ArgumentValues.{values_left};
+    ghost use Rattle.dd_file.specs.DirectiveLine.{ArgumentText, with_key};
 
     ghost Value = { ArgumentText };
 
-    ghost view = { λ a. argument_in a.token.items };
+    ghost view = { λ a. with_key (take a.key_len a.text.items) (values_left a.kind (drop a.key_len a.text.items)) };
 
-    ghost invariant = { λ a. (is_argument a.token.items ≡ true) × (a.key_len ≡ prefix_len is_key_byte a.token.items) };
+    ghost invariant = { λ a. a.key_len ≤ length a.text.items };
 }
 
 impl Argument {
-    ghost use Rattle.std.specs.Prelude.{◌≡◌, true, length};
-    ghost use Rattle.std.specs.List.{prefix_len};
-    ghost use Rattle.dd_file.specs.ArgumentValues.{is_argument, argument_in};
-    ghost use Rattle.dd_file.specs.DirectiveLine.{is_key_byte};
+    ghost use Rattle.dd_file.specs.DirectiveLine.{with_key};
 
-    /// The argument that a token denotes. `key_len` is the length of the key at its start.
-    pub(crate) fn new(alloc: Global, token: &[u8], key_len: usize) -> Result<Argument, AllocError>
-        requires parses { is_argument token.now ≡ true }
-        requires key { key_len ≡ prefix_len is_key_byte token.now }
-        ensures { IfOk result (λ argument. argument ≡ argument_in token.now) }
+    pub(crate) fn new(alloc: Global, key: &[u8], values: Values<'_>) -> Result<Argument, AllocError>
+        ensures { IfOk result (λ argument. argument ≡ with_key key.now values.entry) }
     {
+        let mut text = SmallVec::from_slice(alloc, key)?;
+        text.extend_from_slice(values.text)?;
         Ok(Argument {
-            token: SmallVec::from_slice(alloc, token)?,
-            key_len,
+            text,
+            key_len: key.len(),
+            kind: values.kind,
         })
     }
 
@@ -62,14 +59,17 @@ impl Argument {
     pub fn key(&self) -> &[u8]
         ensures { result.now ≡ self.now.key }
     {
-        &self.token.as_slice()[..self.key_len]
+        &self.text.as_slice()[..self.key_len]
     }
 
     /// The values in order; there may be none (datadriven's `CmdArg.Vals`).
     pub fn values(&self) -> Values<'_>
         ensures { result ≡ self.now.values }
     {
-        Values::after_key(self.token.as_slice().split_at(self.key_len).1)
+        Values {
+            text: &self.text.as_slice()[self.key_len..],
+            kind: self.kind,
+        }
     }
 
     /// The value at an index, counted from 0; `None` after the last (datadriven's `CmdArg.Vals`).

@@ -1,6 +1,9 @@
 //! A line of an input.
-ghost use Rattle.std.specs.Prelude.{◌≡◌};
+ghost use Rattle.std.specs.Prelude.{◌≡◌, IfOk};
+ghost use Rattle.ascii_text.specs.Lines.{line_of};
 
+use ascii_text::lines::line_of;
+use std::alloc::{AllocError, Global};
 use std::marker::Model;
 
 /// A line without its newline. It need not be UTF-8 (own).
@@ -18,11 +21,13 @@ impl Model for Line {
 }
 
 impl Line {
-    /// A line of these bytes, none of which is a newline.
-    pub(crate) fn new(bytes: Vec<u8>) -> Line
-        ensures { result ≡ bytes.items }
+    /// The line of a full line.
+    pub(crate) fn of_full_line(alloc: Global, full_line: &[u8]) -> Result<Line, AllocError>
+        ensures { IfOk result (λ line. line ≡ line_of full_line.now) }
     {
-        Line { bytes }
+        Ok(Line {
+            bytes: Vec::from_slice(alloc, line_of(full_line))?,
+        })
     }
 
     /// The bytes of the line (own).

@@ -107,12 +107,6 @@ impl RawLines {
         Some(self.text_after(i).split_at(len).0)
     }
 
-    pub(crate) fn last(&self) -> Option<&[u8]>
-        ensures { option_map (λ line. line.now) result ≡ slice_get self.now (length self.now - 1) }
-    {
-        self.get(self.count().saturating_sub(1))
-    }
-
     /// All lines as one text, each with a newline.
     pub(crate) fn text(&self) -> &[u8]
         ensures { result.now ≡ text_of self.now }
@@ -126,15 +120,6 @@ impl RawLines {
         ensures { result.now ≡ text_of (drop count self.now) }
     {
         self.text().split_at(self.start(count)).1
-    }
-
-    pub(crate) fn truncate(&mut self, count: usize)
-        requires { count ≤ length self.old }
-        ensures { self.new ≡ take count self.old }
-    {
-        let start = self.start(count);
-        self.text.truncate(start);
-        self.ends.truncate(count);
     }
 
     /// The lines as one text, each with a newline.

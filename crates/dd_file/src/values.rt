@@ -1,20 +1,21 @@
 //! An iterator over the values of an argument, which splits them off its text one at a time:
 //!
 //! ```text
-//! =(1, 2,3)    gives 1, then 2, then 3
-//! =true        gives true
-//! =            gives one empty value
-//! =( )         gives nothing
+//! (1, 2,3)    gives 1, then 2, then 3
+//! true        gives true
+//! ( )         gives nothing
 //! ```
+ghost use Rattle.std.specs.Prelude.{◌≡◌, [], ◌∷◌, MatchOption};
+ghost use Rattle.dd_file.specs.DirectiveLine.{list_values};
 
 use ascii_text::position::position_of;
 use ascii_text::white_space::{is_blank, trimmed};
 use std::marker::Model;
 
-/// What the rest of an argument is. The rest is empty after the last value of a list, and also before a last value that
-/// is empty: the kind distinguishes the two.
+/// What a text of values is. It is empty after the last value of a list, and also before a last value that is empty: the
+/// kind distinguishes the two.
 #[derive(Clone, Copy, Debug)]
-enum RestKind {
+pub(crate) enum ValuesKind {
     /// No value.
     Nothing,
     /// One plain value.
@@ -26,8 +27,8 @@ enum RestKind {
 /// The remaining values of an argument, in order (datadriven's `CmdArg.Vals`).
 #[derive(Drop)]
 pub struct Values<'a> {
-    rest: &'a [u8],
-    kind: RestKind,
+    pub(crate) text: &'a [u8],
+    pub(crate) kind: ValuesKind,
 }
 
 impl<'a> Model for Values<'a> {
@@ -36,37 +37,40 @@ impl<'a> Model for Values<'a> {
 
     ghost Value = { List (List ℕ) };
 
-    ghost view = { λ v. values_left v.kind v.rest.now };
+    ghost view = { λ v. values_left v.kind v.text.now };
 }
 
 impl<'a> Values<'a> {
-    ghost use Rattle.std.specs.Prelude.{◌≡◌, true, [], ◌∷◌, MatchOption};
-    ghost use Rattle.dd_file.specs.ArgumentValues.{has_values, values_after};
-
-    /// The values in the text after a key, which is empty, or `=` and then one plain value or a list in parentheses.
-    pub(crate) fn after_key(text: &'a [u8]) -> Values<'a>
-        requires { has_values text.now ≡ true }
-        ensures { result ≡ values_after text.now }
+    /// No values, with any text.
+    pub(crate) fn none(text: &'a [u8]) -> Values<'a>
+        ensures { result ≡ [] }
     {
-        let Some((_, value)) = text.split_first() else {
-            return Values {
-                rest: text,
-                kind: RestKind::Nothing,
-            };
-        };
-        let Some((b'(', list)) = value.split_first() else {
-            return Values {
-                rest: value,
-                kind: RestKind::Plain,
-            };
-        };
-        let rest = &list[..list.len() - 1];
-        let kind = if is_blank(rest) {
-            RestKind::Nothing
+        Values {
+            text,
+            kind: ValuesKind::Nothing,
+        }
+    }
+
+    /// One plain value.
+    pub(crate) fn plain(text: &'a [u8]) -> Values<'a>
+        ensures { result ≡ text.now ∷ [] }
+    {
+        Values {
+            text,
+            kind: ValuesKind::Plain,
+        }
+    }
+
+    /// The values of a list, from the text between its parentheses.
+    pub(crate) fn listed(text: &'a [u8]) -> Values<'a>
+        ensures { result ≡ list_values text.now }
+    {
+        let kind = if is_blank(text) {
+            ValuesKind::Nothing
         } else {
-            RestKind::Listed
+            ValuesKind::Listed
         };
-        Values { rest, kind }
+        Values { text, kind }
     }
 
     /// The next value, without the white space around it; `None` at the end and from then on (own).
@@ -74,16 +78,16 @@ impl<'a> Values<'a> {
         ensures { MatchOption result ((self.old ≡ []) × (self.new ≡ [])) (λ value. self.old ≡ value.now ∷ self.new) }
     {
         match self.kind {
-            RestKind::Nothing => None,
-            RestKind::Plain => {
-                self.kind = RestKind::Nothing;
-                Some(self.rest)
+            ValuesKind::Nothing => None,
+            ValuesKind::Plain => {
+                self.kind = ValuesKind::Nothing;
+                Some(self.text)
             }
-            RestKind::Listed => {
-                let (value, suffix) = self.rest.split_at(position_of(self.rest, b','));
+            ValuesKind::Listed => {
+                let (value, suffix) = self.text.split_at(position_of(self.text, b','));
                 match suffix.split_first() {
-                    Some((_, rest)) => self.rest = rest,
-                    None => self.kind = RestKind::Nothing,
+                    Some((_, rest)) => self.text = rest,
+                    None => self.kind = ValuesKind::Nothing,
                 }
                 Some(trimmed(value))
             }

@@ -1,57 +1,82 @@
--- The keys of the arguments that a text and the items of a script say.
-use Rattle.std.proofs.Common.{◌≡◌, ℕ, Bool, true, false, cond, ◌&&◌, List, [], ◌∷◌, refl, sym, ◌∙◌, ap}
-use Rattle.std.specs.Prelude.{Option, Some, None, option_map}
-use Rattle.std.specs.List.{list_all}
-use Rattle.dd_file.specs.Parts.{up_to, suffix}
-use Rattle.dd_file.specs.DirectiveLine.{ArgumentText, CommandText, with_key, is_key, is_equals, values_of, parsed_argument, before_others, arguments_of, has_keys, is_command_name, command_of_tokens, tokens_of}
+-- The keys of the arguments that a text and the items of a script have.
+use Rattle.std.proofs.Common.{◌≡◌, ℕ, zero, suc, ◌+◌, Bool, true, false, not, cond, ◌&&◌, List, [], ◌∷◌, length, take, refl, sym, ◌∙◌, ap, arith}
+use Rattle.std.specs.Prelude.{◌==◌, Option, Some, None, option_map}
+use Rattle.std.specs.List.{list_all, prefix_len}
+use Rattle.ascii_text.specs.WhiteSpace.{without_leading_space}
+use Rattle.dd_file.specs.DirectiveLine.{ArgumentText, CommandText, Leading, leading, bytes_while, with_key, is_key_byte, is_key, is_equals, values_at, after_key, ends_token, as_token, argument_at, before_others, from_token, arguments_within, arguments_of, has_keys, is_name, command_of}
 use Rattle.dd_file.specs.Script.{joined}
 use Rattle.dd_file.specs.Laws.{AreWellFormed, item_has_keys}
 use Rattle.dd_file.specs.declared.item.Item.{Item}
 use Rattle.dd_file.proofs.ScriptGrammar.LinesOfItem.{ReadItem, ReadComment, ReadBlank, ReadBlankHead, ReadDirective, given-read}
 
--- an argument whose key is a key, where there is one
-abbrev HasKey : Option ArgumentText → Type 0
-HasKey None = Unit {0}
-HasKey (Some argument) = is_key argument.key ≡ true
+-- the leading bytes pass
+leading-all : (test : ℕ → Bool) (text : List ℕ) → list_all test (bytes_while test text).value ≡ true
+leading-all test [] = refl
+leading-all test (x ∷ xs) = at (test x) refl (leading-all test xs) where
+  n : ℕ
+  n = prefix_len test xs
 
-argument_of-key : (token : List ℕ) → HasKey (parsed_argument token)
-argument_of-key token = at (is_key token) refl (is_key (up_to is_equals token)) refl (values_of (suffix is_equals token)) where
-  at : (c : Bool) → is_key token ≡ c → (d : Bool) → is_key (up_to is_equals token) ≡ d → (values : Option (List (List ℕ))) →
-      HasKey (cond c (Some (with_key token [])) (cond d (option_map (with_key (up_to is_equals token)) values) None))
-  at true one d two values = one
-  at false one true two None = tt
-  at false one true two (Some values) = two
-  at false one false two values = tt
+  at : (c : Bool) → test x ≡ c → list_all test (take n xs) ≡ true → list_all test (take (cond c (1 + n) 0) (x ∷ xs)) ≡ true
+  at true is ih = let one : 1 + n ≡ suc n = omega arith in ap (λ k. list_all test (take k (x ∷ xs))) one ∙ ap (λ c. c && list_all test (take n xs)) is ∙ ih
+  at false is ih = refl
 
-abbrev HaveKeys : Option (List ArgumentText) → Type 0
-HaveKeys None = Unit {0}
-HaveKeys (Some arguments) = has_keys arguments ≡ true
+-- an argument has the key that was read
+as_token-is : {A : Type 0} (found : Leading A) (whole : Leading A) → as_token (Some found) ≡ Some whole → found ≡ whole
+as_token-is found whole is = at (ends_token found.rest) is where
+  at : (c : Bool) → cond c (Some found) None ≡ Some whole → found ≡ whole
+  at true e = cc
+  at false e = cc
 
-before-others : (first : Option ArgumentText) (others : Option (List ArgumentText)) → HasKey first → HaveKeys others → HaveKeys (before_others first others)
-before-others None others one more = tt
-before-others (Some argument) None one more = tt
-before-others (Some argument) (Some others) one more = ap (λ b. b && has_keys others) one ∙ more
+after_key-key : (key rest : List ℕ) (found : Leading ArgumentText) → as_token (after_key key rest) ≡ Some found → found.value.key ≡ key
+after_key-key key [] found is = ap (λ (l : Leading ArgumentText). l.value.key) (sym (as_token-is (leading (with_key key []) []) found is))
+after_key-key key (b ∷ rest) found is = at (is_equals b) (values_at rest) is where
+  at : (c : Bool) (values : Option (Leading (List (List ℕ)))) →
+      as_token (cond c (option_map (λ v. leading (with_key key v.value) v.rest) values) (Some (leading (with_key key []) (b ∷ rest)))) ≡ Some found → found.value.key ≡ key
+  at true None e = cc
+  at true (Some v) e = ap (λ (l : Leading ArgumentText). l.value.key) (sym (as_token-is (leading (with_key key v.value) v.rest) found e))
+  at false values e = ap (λ (l : Leading ArgumentText). l.value.key) (sym (as_token-is (leading (with_key key []) (b ∷ rest)) found e))
 
-have-keys : (tokens : List (List ℕ)) → HaveKeys (arguments_of tokens)
-have-keys [] = refl
-have-keys (token ∷ tokens) = before-others (parsed_argument token) (arguments_of tokens) (argument_of-key token) (have-keys tokens)
+argument_at-key : (text : List ℕ) (found : Leading ArgumentText) → argument_at text ≡ Some found → is_key found.value.key ≡ true
+argument_at-key text found is = at (length key.value == 0) refl is where
+  key : Leading (List ℕ)
+  key = bytes_while is_key_byte text
 
--- the arguments that tokens denote
-pub arguments_of-keys : (tokens : List (List ℕ)) (arguments : List ArgumentText) → arguments_of tokens ≡ Some arguments → has_keys arguments ≡ true
-arguments_of-keys tokens arguments is = at (arguments_of tokens) (have-keys tokens) is where
-  at : (found : Option (List ArgumentText)) → HaveKeys found → found ≡ Some arguments → has_keys arguments ≡ true
-  at None keys e = cc
-  at (Some others) keys e = let same : others ≡ arguments = cc in ap has_keys (sym same) ∙ keys
+  at : (c : Bool) → (length key.value == 0) ≡ c → cond c None (as_token (after_key key.value key.rest)) ≡ Some found → is_key found.value.key ≡ true
+  at true none e = cc
+  at false some e = ap is_key (after_key-key key.value key.rest found e) ∙ ap (λ c. not c && list_all is_key_byte key.value) some ∙ leading-all is_key_byte text
+
+-- the arguments of a text
+before_others-keys : (others : List ℕ → Option (List ArgumentText)) (begun : List ℕ) (found : Option (Leading ArgumentText)) (arguments : List ArgumentText) → ((text : List ℕ) (rest : List ArgumentText) → others text ≡ Some rest → has_keys rest ≡ true) →
+    argument_at begun ≡ found → before_others others found ≡ Some arguments → has_keys arguments ≡ true
+before_others-keys others begun None arguments keys one is = cc
+before_others-keys others begun (Some found) arguments keys one is = at (others found.rest) refl is where
+  at : (more : Option (List ArgumentText)) → others found.rest ≡ more → option_map (λ rest. found.value ∷ rest) more ≡ Some arguments → has_keys arguments ≡ true
+  at None e k = cc
+  at (Some rest) e k = let same : found.value ∷ rest ≡ arguments = cc in ap has_keys (sym same) ∙ ap (λ b. b && has_keys rest) (argument_at-key begun found one) ∙ keys found.rest rest e
+
+from_token-keys : (others : List ℕ → Option (List ArgumentText)) (begun : List ℕ) (arguments : List ArgumentText) → ((text : List ℕ) (rest : List ArgumentText) → others text ≡ Some rest → has_keys rest ≡ true) →
+    from_token others begun ≡ Some arguments → has_keys arguments ≡ true
+from_token-keys others [] arguments keys is = let same : [] ≡ arguments = cc in ap has_keys (sym same)
+from_token-keys others (b ∷ bs) arguments keys is = before_others-keys others (b ∷ bs) (argument_at (b ∷ bs)) arguments keys refl is
+
+arguments_within-keys : (count : ℕ) (text : List ℕ) (arguments : List ArgumentText) → arguments_within count text ≡ Some arguments → has_keys arguments ≡ true
+arguments_within-keys zero text arguments is = let same : [] ≡ arguments = cc in ap has_keys (sym same)
+arguments_within-keys (suc count) text arguments is = from_token-keys (arguments_within count) (without_leading_space text) arguments (arguments_within-keys count) is
+
+pub arguments_of-keys : (text : List ℕ) (arguments : List ArgumentText) → arguments_of text ≡ Some arguments → has_keys arguments ≡ true
+arguments_of-keys text = arguments_within-keys (length text) text
 
 -- the arguments of a command
-command_of-keys : (tokens : List (List ℕ)) (command : CommandText) → command_of_tokens tokens ≡ Some command → has_keys command.arguments ≡ true
-command_of-keys [] command is = cc
-command_of-keys (token ∷ tokens) command is = at (is_command_name token) (arguments_of tokens) refl is where
-  at : (c : Bool) (found : Option (List ArgumentText)) → arguments_of tokens ≡ found →
-      cond c (option_map (λ arguments. record { name = token; arguments = arguments }) found) None ≡ Some command → has_keys command.arguments ≡ true
+command_of-keys : (text : List ℕ) (command : CommandText) → command_of text ≡ Some command → has_keys command.arguments ≡ true
+command_of-keys text command is = at (is_name name) (arguments_of name.rest) refl is where
+  name : Leading (List ℕ)
+  name = bytes_while is_key_byte (without_leading_space text)
+
+  at : (c : Bool) (found : Option (List ArgumentText)) → arguments_of name.rest ≡ found →
+      cond c (option_map (λ arguments. record { name = name.value; arguments = arguments }) found) None ≡ Some command → has_keys command.arguments ≡ true
   at true (Some arguments) e k =
-      let same : record { name = token; arguments = arguments } ≡ command = cc in
-      ap (λ (c : CommandText). has_keys c.arguments) (sym same) ∙ arguments_of-keys tokens arguments e
+      let same : record { name = name.value; arguments = arguments } ≡ command = cc in
+      ap (λ (c : CommandText). has_keys c.arguments) (sym same) ∙ arguments_of-keys name.rest arguments e
   at true None e k = cc
   at false found e k = cc
 
@@ -60,7 +85,7 @@ read-keys : (item : Item) → ReadItem item → item_has_keys item ≡ true
 read-keys item (ReadComment line are comment) = refl
 read-keys item (ReadBlank line are comment blank) = refl
 read-keys item (ReadBlankHead line rest is are blank) = refl
-read-keys item (ReadDirective n command line rest input expected is parses command_is none are) = command_of-keys (tokens_of (joined (line ∷ rest))) command command_is
+read-keys item (ReadDirective n command line rest input expected is parses command_is none are) = command_of-keys (joined (line ∷ rest)) command command_is
 
 pub items-keys : (items : List Item) → AreWellFormed items → list_all item_has_keys items ≡ true
 items-keys [] are = refl

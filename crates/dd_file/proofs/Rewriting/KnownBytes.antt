@@ -1,5 +1,6 @@
 -- Known bytes that grow part by part.
-use Rattle.std.proofs.Common.{◌≡◌, ℕ, zero, suc, List, [], ◌∷◌, ◌++◌, length, take, drop, refl, sym, ◌∙◌, ap, subst}
+use Rattle.std.proofs.Common.{◌≡◌, ℕ, List, [], ◌++◌, length, take, drop, refl, sym, ◌∙◌, ap, subst}
+use Rattle.std.proofs.Math.Seq.{take-add}
 use Rattle.std.specs.Prelude.{Option, Some, None}
 use Rattle.std.proofs.Common.{◌≤◌, ◌-◌, ◌+◌, arith, rules}
 use Rattle.std.proofs.lemmas.Grind.{common_steps}
@@ -39,12 +40,6 @@ append-part (Some o) (Some m) (Some n) xs ys a b =
 pub not-failed : (before : Bool) (count : ℕ) → (count ≡ 0 → ⊥) → (before || (count == 0)) ≡ before
 not-failed before count h = search (rules, common_steps)
 
--- some of the bytes from a position on, after those before it
-pub take-more : (n k : ℕ) (bytes : List ℕ) → take (n + k) bytes ≡ take n bytes ++ take k (drop n bytes)
-take-more n k [] = search (rules, common_steps)
-take-more zero k (b ∷ bytes) = search (rules, common_steps)
-take-more (suc n) k (b ∷ bytes) = let e : suc n + k ≡ suc (n + k) = omega arith in rw e (ap (λ t. b ∷ t) (take-more n k bytes))
-
 -- all bytes from a position on
 pub rest-whole : (n : ℕ) (bytes : List ℕ) → take (length bytes - n) (drop n bytes) ≡ drop n bytes
 rest-whole n bytes = take_all _ _ (subst (λ m. m ≤ length bytes - n) (sym (length-drop n bytes)) (omega arith))
@@ -53,7 +48,7 @@ rest-whole n bytes = take_all _ _ (subst (λ m. m ≤ length bytes - n) (sym (le
 pub prefix-more : (old mid new : Option (List ℕ)) (n k : ℕ) (bytes : List ℕ) → n ≤ length bytes →
     Appends old mid (take n bytes) → Appends mid new (take k (take (length bytes - n) (drop n bytes))) → Appends old new (take (n + k) bytes)
 prefix-more old mid new n k bytes le a b =
-    subst (λ t. Appends old new t) (sym (take-more n k bytes)) (appends-append old mid new _ _ a (subst (λ t. Appends mid new (take k t)) (rest-whole n bytes) b))
+    subst (λ t. Appends old new t) (sym (take-add n k bytes)) (appends-append old mid new _ _ a (subst (λ t. Appends mid new (take k t)) (rest-whole n bytes) b))
 
 -- a prefix of some bytes is a part of them
 pub prefix-part : (old new : Option (List ℕ)) (n : ℕ) (bytes : List ℕ) → Appends old new (take n bytes) → AppendsPart old new bytes

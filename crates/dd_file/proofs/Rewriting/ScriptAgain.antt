@@ -1,14 +1,15 @@
 -- A script that is written again, with outputs that were found, is read again item by item.
 use Rattle.std.proofs.Common.{◌≡◌, ℕ, ◌+◌, ◌≤◌, Bool, true, false, not, cond, ◌&&◌, List, [], ◌∷◌, ◌++◌, inl, inr, length, map, refl, sym, ◌∙◌, ap, subst, arith, rules}
-use Rattle.std.specs.Prelude.{◌==◌, nat_eq, Some, None, Ok, flat_map}
+use Rattle.std.proofs.lemmas.Bool.{and_parts}
+use Rattle.std.specs.Prelude.{◌==◌, nat_eq, Some, None, flat_map}
 use Rattle.std.specs.List.{list_all, list_any}
-use Rattle.std.proofs.Math.Seq.{drop-append_seam}
 use Rattle.std.proofs.lemmas.List.{append_assoc, append-nil}
 use Rattle.std.proofs.lemmas.List.Folds.{list_all-append}
 use Rattle.ascii_text.specs.Lines.{newline, line_of, lines_of, text_of}
 use Rattle.ascii_text.specs.WhiteSpace.{is_blank}
 use Rattle.dd_file.specs.DirectiveLine.{CommandText, command_of}
-use Rattle.dd_file.specs.Script.{first_item, first_of, joined, is_comment, is_separator, directive}
+use Rattle.dd_file.specs.Script.{first_of, joined, is_comment, is_separator, directive, at_line}
+use Rattle.dd_file.specs.Draft.{dashes_line}
 use Rattle.dd_file.specs.Position.{longest_input}
 use Rattle.dd_file.specs.Grammar.{Script, script_of, with_first}
 use Rattle.dd_file.specs.Rewritten.{Entry, entry, entry_text, has_blank_line, is_output, rewritten_text, without_double_end}
@@ -17,10 +18,9 @@ use Rattle.dd_file.specs.declared.item.Item.{Item}
 use Rattle.dd_file.specs.declared.item.Item.TheVariants.{Comment, Blank, Directive}
 use Rattle.ascii_text.proofs.Offered.{list-by_last}
 use Rattle.dd_file.proofs.TextLines.LastNewlines.{double_end-pushed}
-use Rattle.dd_file.proofs.TextLines.CutAgain.{and-parts, lines-lines, full_lines-text_of, text_of-append, output-lines}
-use Rattle.dd_file.proofs.ScriptGrammar.FoundInLines.{dashes_line}
+use Rattle.dd_file.proofs.TextLines.CutAgain.{lines-lines, full_lines-text_of, text_of-append, output-lines}
 use Rattle.dd_file.proofs.ScriptGrammar.LinesOfItem.{IsHead, ReadItem, ReadComment, ReadBlank, ReadBlankHead, ReadDirective, given-read}
-use Rattle.dd_file.proofs.ScriptGrammar.AllItems.{items_of, items_of-first, script_of-lines}
+use Rattle.dd_file.proofs.ScriptGrammar.AllItems.{items_of, items_of-ended, items_of-open, script_of-lines}
 use Rattle.dd_file.proofs.Rewriting.ItemAgain.{read-again, directive-again, directive-text, lines_of_written, lines_of_written-are, output_after}
 
 -- the entries are read again as the items of this script, which has no fault
@@ -35,7 +35,7 @@ AreWritten (e ∷ entries) = ReadItem e.item × (is_output e.output ≡ true) ×
 are-written : (entries : List Entry) → AreWellFormed (map (λ e. e.item) entries) → list_all (λ e. is_output e.output) entries ≡ true → AreWritten entries
 are-written [] given output = tt
 are-written (e ∷ entries) given output =
-    let k = and-parts (is_output e.output) (list_all (λ e. is_output e.output) entries) output in (given-read e.item given.0, k.0, are-written entries given.1 k.1)
+    let k = and_parts (is_output e.output) (list_all (λ e. is_output e.output) entries) output in (given-read e.item given.0, k.0, are-written entries given.1 k.1)
 
 -- a text of whole lines
 abbrev HasLines : List ℕ → Type 0
@@ -59,34 +59,32 @@ lines-append text more has =
     ap (λ t. lines_of (t ++ more)) has.1 ∙ lines-lines has.0 more has.2 ∙ sym (ap (λ t. lines_of t ++ lines_of more) has.1 ∙ ap (λ ps. map line_of ps ++ lines_of more) (full_lines-text_of has.0 has.2))
 
 -- an entry that is read again first, and others after it
-read-first : (m : ℕ) (lines more : List (List ℕ)) (is_ended : Bool) (e : Entry) (entries : List Entry) (again : Item) → first_of m (lines ++ more) ≡ Some (first_item (Ok again) (length lines) is_ended) →
-    IsSameItem m e.output e.item again → IsAgain entries (items_of (m + length lines) more) → IsAgain (e ∷ entries) (items_of m (lines ++ more))
-read-first m lines more is_ended e entries again read same rest =
-    let whole : items_of m (lines ++ more) ≡ with_first again (items_of (m + length lines) more) =
-    items_of-first m (lines ++ more) (first_item (Ok again) (length lines) is_ended) again read refl
-    ∙ ap (λ (t : List (List ℕ)). with_first again (items_of (m + length lines) t)) (drop-append_seam lines more) in
-    subst (IsAgain (e ∷ entries)) (sym whole) (rest.0, ReadAgain m e.item again e.output entries _ same rest.1)
+read-first : (before m : ℕ) (lines left : List (List ℕ)) (e : Entry) (entries : List Entry) (again : Item) → items_of before lines ≡ with_first (at_line (before + 1) again) (items_of m left) →
+    IsSameItem (before + 1) e.output e.item (at_line (before + 1) again) → IsAgain entries (items_of m left) → IsAgain (e ∷ entries) (items_of before lines)
+read-first before m lines left e entries again whole same rest =
+    subst (IsAgain (e ∷ entries)) (sym whole) (rest.0, ReadAgain (before + 1) e.item (at_line (before + 1) again) e.output entries _ same rest.1)
 
-again-first : (m : ℕ) (e : Entry) (entries : List Entry) (more : List ℕ) → ReadItem e.item → is_output e.output ≡ true →
-    ((k : ℕ) → IsAgain entries (items_of k (lines_of more))) → IsAgain (e ∷ entries) (items_of m (lines_of (entry_text e.item e.output ++ more)))
-again-first m e entries more read output rest =
+again-first : (before : ℕ) (e : Entry) (entries : List Entry) (more : List ℕ) → ReadItem e.item → is_output e.output ≡ true →
+    ((k : ℕ) → IsAgain entries (items_of k (lines_of more))) → IsAgain (e ∷ entries) (items_of before (lines_of (entry_text e.item e.output ++ more)))
+again-first before e entries more read output rest =
     let text = entry_text e.item e.output in
-    let again = read-again m (lines_of more) e.item e.output output read in
-    subst (λ (ls : List (List ℕ)). IsAgain (e ∷ entries) (items_of m ls)) (sym (lines-append text more (entry-lines e.item e.output output read)))
-    (read-first m (lines_of text) (lines_of more) true e entries again.0 again.1 again.2 (rest (m + length (lines_of text))))
+    let again = read-again (before + 1) (lines_of more) e.item e.output output read in
+    let lines = lines-append text more (entry-lines e.item e.output output read) in
+    read-first before _ (lines_of (text ++ more)) (lines_of more) e entries again.0
+    (items_of-ended before (lines_of (text ++ more)) (lines_of more) again.0 (ap first_of lines ∙ again.1)) again.2 (rest _)
 
-no-entries : (k : ℕ) → IsAgain [] (items_of k (lines_of []))
+no-entries : (k : ℕ) → IsAgain [] (items_of k [])
 no-entries k = (refl, AreOver)
 
 abbrev texts_of : List Entry → List ℕ
 texts_of entries = flat_map (λ e. entry_text e.item e.output) entries
 
 -- after this text: what is left of the entries at the end of a script is read as they are
-abbrev IsLeft : List ℕ → List Entry → Type 0
-IsLeft before entries = (left : List ℕ) × (without_double_end (before ++ texts_of entries) ≡ before ++ left) × ((m : ℕ) → IsAgain entries (items_of m (lines_of left)))
+abbrev IsRest : List ℕ → List Entry → Type 0
+IsRest before entries = (left : List ℕ) × (without_double_end (before ++ texts_of entries) ≡ before ++ left) × ((m : ℕ) → IsAgain entries (items_of m (lines_of left)))
 
 -- nothing is dropped
-all-left : (before : List ℕ) (e : Entry) → ReadItem e.item → is_output e.output ≡ true → without_double_end (before ++ texts_of (e ∷ [])) ≡ before ++ texts_of (e ∷ []) → IsLeft before (e ∷ [])
+all-left : (before : List ℕ) (e : Entry) → ReadItem e.item → is_output e.output ≡ true → without_double_end (before ++ texts_of (e ∷ [])) ≡ before ++ texts_of (e ∷ []) → IsRest before (e ∷ [])
 all-left before e read output same = (texts_of (e ∷ []), same, λ m. again-first m e [] [] read output no-entries)
 
 -- a text of lines has a newline at its end
@@ -108,7 +106,7 @@ line-kept before line are some = elim (list-by_last line) [
   | inr p ↦
       let whole : before ++ (line ++ newline) ≡ ((before ++ p.0) ++ p.1 ∷ []) ++ newline =
       ap (λ t. before ++ (t ++ newline)) p.2 ∙ sym (append_assoc before (p.0 ++ p.1 ∷ []) newline) ∙ ap (λ t. t ++ newline) (sym (append_assoc before p.0 (p.1 ∷ []))) in
-      let other : (not (p.1 == 10) && true) ≡ true = (and-parts (is_line p.0) _ (sym (list_all-append (λ b. not (b == 10)) p.0 (p.1 ∷ [])) ∙ ap is_line (sym p.2) ∙ are)).1 in
+      let other : (not (p.1 == 10) && true) ≡ true = (and_parts (is_line p.0) _ (sym (list_all-append (λ b. not (b == 10)) p.0 (p.1 ∷ [])) ∙ ap is_line (sym p.2) ∙ are)).1 in
       ap without_double_end whole ∙ double_end-pushed (before ++ p.0) p.1 ∙ ap (λ c. cond c ((before ++ p.0) ++ p.1 ∷ []) (((before ++ p.0) ++ p.1 ∷ []) ++ newline)) (no-newline p.1 other) ∙ sym whole
 ] where
   no-newline : (b : ℕ) → (not (b == 10) && true) ≡ true → nat_eq 10 b ≡ false
@@ -121,13 +119,13 @@ line-kept before line are some = elim (list-by_last line) [
 one-line : (line : List ℕ) → (((line ++ newline) ++ []) ++ []) ++ [] ≡ line ++ newline
 one-line line = append-nil _ ∙ append-nil _ ∙ append-nil (line ++ newline)
 
-line-left : (before line : List ℕ) (e : Entry) → ReadItem e.item → is_output e.output ≡ true → texts_of (e ∷ []) ≡ line ++ newline → is_line line ≡ true → (line ≡ [] → ⊥) → IsLeft before (e ∷ [])
+line-left : (before line : List ℕ) (e : Entry) → ReadItem e.item → is_output e.output ≡ true → texts_of (e ∷ []) ≡ line ++ newline → is_line line ≡ true → (line ≡ [] → ⊥) → IsRest before (e ∷ [])
 line-left before line e read output text are some =
     all-left before e read output (ap (λ t. without_double_end (before ++ t)) text ∙ line-kept before line are some ∙ ap (λ t. before ++ t) (sym text))
 
 -- a line that is empty is dropped after others, and stays where it is alone
 blank-left : (before line : List ℕ) (lines : List (List ℕ)) (found : List ℕ) → before ≡ text_of lines → is_output found ≡ true → is_line line ≡ true → is_comment line ≡ false → is_blank line ≡ true →
-    IsLeft before (entry (Blank (line ∷ [])) found ∷ [])
+    IsRest before (entry (Blank (line ∷ [])) found ∷ [])
 blank-left before (b ∷ line) lines found is output are comment blank =
     line-left before (b ∷ line) (entry (Blank ((b ∷ line) ∷ [])) found) (ReadBlank (b ∷ line) are comment blank) output (one-line (b ∷ line)) are (λ e. cc)
 blank-left before [] [] found is output are comment blank =
@@ -148,7 +146,7 @@ suffix-blank raw double lines = ap (λ t. raw ++ dashes_line ∷ t) (at double) 
 -- the empty line after a directive is dropped
 directive-left : (before : List ℕ) (n : ℕ) (command : CommandText) (line : List ℕ) (rest input expected : List (List ℕ)) (found : List ℕ) → is_output found ≡ true → IsHead line rest →
     is_blank (joined (line ∷ rest)) ≡ false → command_of (joined (line ∷ rest)) ≡ Some command → list_any is_separator input ≡ false → list_all is_line ((line ∷ rest) ++ input) ≡ true →
-    IsLeft before (entry (directive n command (line ∷ rest) input expected) found ∷ [])
+    IsRest before (entry (directive n command (line ∷ rest) input expected) found ∷ [])
 directive-left before n command line rest input expected found output is parses command_is none are =
     let found_is = output-lines found output in
     let lines = found_is.0 in
@@ -158,20 +156,19 @@ directive-left before n command line rest input expected found output is parses 
     let e = entry (directive n command (line ∷ rest) input expected) found in
     let whole : texts_of (e ∷ []) ≡ text_of left ++ newline =
     append-nil (entry_text e.item found) ∙ directive-text raw lines found found_is.1 ∙ ap text_of (suffix-blank raw double lines) ∙ text_of-append left ([] ∷ []) in
-    let again = λ (m : ℕ). directive-again false n m command line rest input expected [] lines found is parses command_is none are found_is.1 in (
+    let again = λ (m : ℕ). directive-again false n (m + 1) command line rest input expected [] lines found is parses command_is none are found_is.1 in (
       text_of left,
       ap (λ t. without_double_end (before ++ t)) whole ∙ empty-dropped before line (lines_of_written false (rest ++ input) double lines),
-      λ m. subst (λ (ls : List (List ℕ)). IsAgain (e ∷ []) (items_of m ls)) (append-nil (lines_of (text_of left)))
-          (read-first m (lines_of (text_of left)) [] false e [] (again m).0 (again m).1 (again m).2 (no-entries (m + length (lines_of (text_of left))))),
+      λ m. read-first m m (lines_of (text_of left)) [] e [] (again m).0 (items_of-open m (lines_of (text_of left)) (again m).0 (ap first_of (sym (append-nil (lines_of (text_of left)))) ∙ (again m).1)) (again m).2 (no-entries m),
     )
 
 last-left : (before : List ℕ) (lines : List (List ℕ)) (item : Item) (found : List ℕ) → before ≡ text_of lines → ReadItem item → is_output found ≡ true → ends_in_long_blank (item ∷ []) ≡ false →
-    IsLeft before (entry item found ∷ [])
+    IsRest before (entry item found ∷ [])
 last-left before lines item found is (ReadComment line are comment) output short =
     line-left before line (entry (Comment (line ∷ [])) found) (ReadComment line are comment) output (one-line line) are (λ e. let bad : false ≡ true = ap is_comment (sym e) ∙ comment in cc)
 last-left before lines item found is (ReadBlank line are comment blank) output short = blank-left before line lines found is output are comment blank
 last-left before lines item found is (ReadBlankHead line [] directive_lines are blank) output short =
-    line-left before line (entry (Blank (line ∷ [])) found) (ReadBlankHead line [] directive_lines are blank) output (one-line line) (and-parts (is_line line) true are).0 (λ e. let bad : true ≡ false = ap is_blank (sym e) ∙ directive_lines.blank in cc)
+    line-left before line (entry (Blank (line ∷ [])) found) (ReadBlankHead line [] directive_lines are blank) output (one-line line) (and_parts (is_line line) true are).0 (λ e. let bad : true ≡ false = ap is_blank (sym e) ∙ directive_lines.blank in cc)
 last-left before lines item found is (ReadBlankHead line (next ∷ rest) directive_lines are blank) output short = absurd (search (rules, arith))
 last-left before lines item found is (ReadDirective n command line rest input expected directive_lines parses command_is none are) output short =
     directive-left before n command line rest input expected found output directive_lines parses command_is none are
@@ -184,7 +181,7 @@ ends-next (Directive directive) next items = refl
 
 -- after lines: the rest of a script
 rest-left : (before : List ℕ) (lines : List (List ℕ)) → before ≡ text_of lines → (e : Entry) (entries : List Entry) → AreWritten (e ∷ entries) → ends_in_long_blank (map (λ e. e.item) (e ∷ entries)) ≡ false →
-    IsLeft before (e ∷ entries)
+    IsRest before (e ∷ entries)
 rest-left before lines is e [] written short = last-left before lines e.item e.output is written.0 written.1 short
 rest-left before lines is e (next ∷ entries) written short =
     let text = entry_text e.item e.output in
@@ -199,7 +196,7 @@ rest-left before lines is e (next ∷ entries) written short =
 -- all of it
 pub written-again : (entries : List Entry) → AreWellFormed (map (λ e. e.item) entries) → list_all (λ e. is_output e.output) entries ≡ true → ends_in_long_blank (map (λ e. e.item) entries) ≡ false →
     length (rewritten_text entries) ≤ longest_input → IsAgain entries (script_of (rewritten_text entries))
-written-again [] given output short fits = subst (IsAgain []) (sym (script_of-lines [] fits)) (no-entries 1)
+written-again [] given output short fits = subst (IsAgain []) (sym (script_of-lines [] fits)) (no-entries 0)
 written-again (e ∷ entries) given output short fits =
     let left = rest-left [] [] refl e entries (are-written (e ∷ entries) given output) short in
-    subst (IsAgain (e ∷ entries)) (sym (script_of-lines (rewritten_text (e ∷ entries)) fits ∙ ap (λ (t : List ℕ). items_of 1 (lines_of t)) left.1)) (left.2 1)
+    subst (IsAgain (e ∷ entries)) (sym (script_of-lines (rewritten_text (e ∷ entries)) fits ∙ ap (λ (t : List ℕ). items_of 0 (lines_of t)) left.1)) (left.2 0)

@@ -1,16 +1,31 @@
 -- Each item of a script is given by the grammar for some lines.
 use Rattle.std.proofs.Common.{◌≡◌, ℕ, zero, suc, Bool, true, false, not, cond, ◌&&◌, ◌+◌, ◌-◌, List, [], ◌∷◌, length, take, map, refl, ◌∙◌, ap}
-use Rattle.std.specs.Prelude.{◌==◌, Option, Some, None, Result, Ok, Err, filter}
+use Rattle.std.proofs.lemmas.Bool.{and_parts}
+use Rattle.std.specs.Prelude.{◌==◌, Some, Result, Ok, Err, filter}
 use Rattle.std.specs.List.{list_all}
 use Rattle.ascii_text.specs.Lines.{newline, full_lines, before_first_line, without_last, line_of, ends_in_newline}
-use Rattle.dd_file.specs.Script.{FirstItem, first_item, first_of}
+use Rattle.dd_file.specs.Script.{FirstItem, NoItem, Ended, Open, result_of, first_of}
 use Rattle.dd_file.specs.Position.{Position, start, longest_input}
-use Rattle.dd_file.specs.Grammar.{followed, first_items, at_end, with_count, from_first_item, next_item, script_of, is_too_long, full_lines_within}
+use Rattle.dd_file.specs.Grammar.{followed, first_items, with_count, from_first_item, next_item, script_of, is_too_long, full_lines_within}
 use Rattle.dd_file.specs.Laws.{is_line, AreWellFormed}
 use Rattle.dd_file.specs.declared.item.Item.{Item}
-use Rattle.dd_file.specs.declared.fault.FileFault.{FileFault}
-use Rattle.dd_file.proofs.TextLines.CutAgain.{and-parts}
-use Rattle.dd_file.proofs.ScriptGrammar.FoundInLines.{all-filter, all-without_last}
+use Rattle.dd_file.specs.declared.fault.SyntaxFault.{SyntaxFault}
+
+-- what all elements are, those of a part are
+all-filter : {X : Type 0} (test kept : X → Bool) (xs : List X) → list_all test xs ≡ true → list_all test (filter kept xs) ≡ true
+all-filter test kept [] h = refl
+all-filter test kept (x ∷ xs) h = let k = and_parts (test x) (list_all test xs) h in at (kept x) k.0 (all-filter test kept xs k.1) where
+  at : (c : Bool) → test x ≡ true → list_all test (filter kept xs) ≡ true → list_all test (cond c (x ∷ filter kept xs) (filter kept xs)) ≡ true
+  at true here ih = ap (λ b. b && list_all test (filter kept xs)) here ∙ ih
+  at false here ih = ih
+
+all-without_last : (test : ℕ → Bool) (b : ℕ) (xs : List ℕ) → list_all test xs ≡ true → list_all test (without_last b xs) ≡ true
+all-without_last test b [] h = refl
+all-without_last test b (x ∷ []) h = at (x == b) where
+  at : (c : Bool) → list_all test (cond c [] (x ∷ [])) ≡ true
+  at true = refl
+  at false = h
+all-without_last test b (x ∷ y ∷ xs) h = let k = and_parts (test x) (list_all test (y ∷ xs)) h in ap (λ c. c && list_all test (without_last b (y ∷ xs))) k.0 ∙ all-without_last test b (y ∷ xs) k.1
 
 -- a full line has no newline but at its end
 abbrev is_full_line : List ℕ → Bool
@@ -26,13 +41,13 @@ full_lines-are (b ∷ bytes) = at (b == 10) refl (full_lines bytes) (full_lines-
   at : (c : Bool) → (b == 10) ≡ c → (ps : List (List ℕ)) → list_all is_full_line ps ≡ true → list_all is_full_line (cond c (newline ∷ ps) (before_first_line b ps)) ≡ true
   at true e ps h = h
   at false e [] h = ap (λ c. c && true) (more e [] refl)
-  at false e (full_line ∷ ps) h = let k = and-parts (is_full_line full_line) (list_all is_full_line ps) h in ap (λ c. c && list_all is_full_line ps) (more e full_line k.0) ∙ k.1
+  at false e (full_line ∷ ps) h = let k = and_parts (is_full_line full_line) (list_all is_full_line ps) h in ap (λ c. c && list_all is_full_line ps) (more e full_line k.0) ∙ k.1
 
 -- the lines of some full lines have no newline
 lines-are : (ps : List (List ℕ)) → list_all is_full_line ps ≡ true → list_all is_line (map line_of ps) ≡ true
 lines-are [] h = refl
 lines-are (full_line ∷ ps) h =
-    let k = and-parts (is_full_line full_line) (list_all is_full_line ps) h in
+    let k = and_parts (is_full_line full_line) (list_all is_full_line ps) h in
     ap (λ c. c && list_all is_line (map line_of ps)) (all-without_last (λ b. not (b == 10)) 13 (without_last 10 full_line) k.0) ∙ lines-are ps k.1
 
 full_lines_within-are : (limit : ℕ) (position : Position) (bytes : List ℕ) → list_all is_line (map line_of (full_lines_within limit position bytes)) ≡ true
@@ -47,24 +62,22 @@ full_lines_within-are limit position bytes = at (is_too_long limit position byte
 -- at most this many items
 first_items-given : (limit fuel : ℕ) (position : Position) (bytes : List ℕ) → AreWellFormed (first_items (next_item limit) fuel position bytes).items
 first_items-given limit zero position bytes = tt
-first_items-given limit (suc fuel) position bytes = at (is_too_long limit position bytes) (first_of (position.lines + 1) lines) refl (first_items-given limit fuel) where
+first_items-given limit (suc fuel) position bytes = at (is_too_long limit position bytes) (first_of lines) refl (first_items-given limit fuel) where
   lines : List (List ℕ)
   lines = map line_of (full_lines_within limit position bytes)
 
-  found : (c : Bool) (count : ℕ) (is_ended : Bool) (r : Result Item FileFault) → first_of (position.lines + 1) lines ≡ Some (first_item r count is_ended) →
-      ((p : Position) (bs : List ℕ) → AreWellFormed (first_items (next_item limit) fuel p bs).items) → AreWellFormed (followed (first_items (next_item limit) fuel) (cond c (at_end true position) (with_count count r position bytes))).items
-  found true count is_ended r e ih = tt
-  found false count is_ended (Ok item) e ih = (
-    record { number = position.lines + 1; lines = lines; are_lines = full_lines_within-are limit position bytes; count = count; is_ended = is_ended; first = e },
-    ih _ _,
-  )
-  found false count is_ended (Err fault) e ih = tt
+  found : (count : ℕ) (r : Result Item SyntaxFault) → result_of (first_of lines) ≡ Some r → ((p : Position) (bs : List ℕ) → AreWellFormed (first_items (next_item limit) fuel p bs).items) →
+      AreWellFormed (followed (first_items (next_item limit) fuel) (with_count count r position bytes)).items
+  found count (Ok item) e ih = (record { number = position.lines + 1; lines = lines; are_lines = full_lines_within-are limit position bytes; first = item; is_first = e; is = refl }, ih _ _)
+  found count (Err fault) e ih = tt
 
-  at : (too_long : Bool) (f : Option FirstItem) → first_of (position.lines + 1) lines ≡ f → ((p : Position) (bs : List ℕ) → AreWellFormed (first_items (next_item limit) fuel p bs).items) →
-      AreWellFormed (followed (first_items (next_item limit) fuel) (from_first_item too_long f position bytes)).items
-  at true None e ih = tt
-  at false None e ih = tt
-  at too_long (Some f) e ih = found (too_long && not f.is_ended) f.count f.is_ended f.result e ih
+  at : (too_long : Bool) (f : FirstItem) → first_of lines ≡ f → ((p : Position) (bs : List ℕ) → AreWellFormed (first_items (next_item limit) fuel p bs).items) →
+      AreWellFormed (followed (first_items (next_item limit) fuel) (from_first_item too_long (length lines) f position bytes)).items
+  at true NoItem e ih = tt
+  at false NoItem e ih = tt
+  at too_long (Ended r left) e ih = found (length lines - length left) r (ap result_of e) ih
+  at true (Open r) e ih = tt
+  at false (Open r) e ih = found (length lines) r (ap result_of e) ih
 
 pub script_of-given : (input : List ℕ) → AreWellFormed (script_of input).items
 script_of-given input = first_items-given longest_input (length input + 1) start input

@@ -1,25 +1,22 @@
 -- The items of a complete script, two newlines and any text.
-use Rattle.std.proofs.Common.{◌≡◌, ℕ, ◌+◌, ◌≤◌, Bool, true, false, not, cond, ◌&&◌, List, [], ◌∷◌, ◌++◌, ◌⊎◌, inl, inr, length, drop, map, refl, sym, ◌∙◌, ap, subst, length-append, length-drop, arith, rules}
-use Rattle.std.specs.Prelude.{◌==◌, Some, option_map, Result, Ok, Err}
+use Rattle.std.proofs.Common.{◌≡◌, ℕ, ◌+◌, ◌-◌, ◌≤◌, Bool, true, false, not, cond, ◌&&◌, List, [], ◌∷◌, ◌++◌, ◌⊎◌, inl, inr, length, map, refl, sym, ◌∙◌, ap, subst, length-append, arith, rules}
+use Rattle.std.proofs.lemmas.Bool.{and_parts}
+use Rattle.std.specs.Prelude.{◌==◌, Some, option_map, Ok}
 use Rattle.std.specs.List.{list_all}
-use Rattle.std.proofs.Math.Seq.{drop-append-add}
-use Rattle.std.proofs.lemmas.List.{append_assoc, append-nil, map-append, drop-append-le, nil_from_length}
+use Rattle.std.proofs.lemmas.List.{append_assoc, append-nil, map-append}
 use Rattle.std.proofs.lemmas.List.Folds.{list_all-append}
 use Rattle.ascii_text.specs.Lines.{newline, full_lines, before_first_line, line_of, lines_of, text_of, without_last}
-use Rattle.dd_file.specs.Script.{first_item, first_of}
+use Rattle.dd_file.specs.Script.{FirstItem, NoItem, Ended, Open, result_of, lines_left, first_of, at_line}
 use Rattle.dd_file.specs.Position.{longest_input}
 use Rattle.dd_file.specs.Grammar.{Script, script_of, with_first}
 use Rattle.dd_file.specs.Laws.{is_line, has_separator, IsComplete, Done, More, directive_in, directives_of, moved, moved_fault}
 use Rattle.dd_file.specs.declared.item.Item.{Item}
 use Rattle.dd_file.specs.declared.item.Item.TheVariants.{Comment, Blank, Directive}
-use Rattle.dd_file.specs.declared.fault.FileFault.{FileFault}
-use Rattle.dd_file.proofs.ScriptGrammar.EndedItem.{first_of-local, ended_first_item}
 use Rattle.dd_file.proofs.TextLines.CarriageReturns.{without_return}
-use Rattle.dd_file.proofs.TextLines.CutAgain.{and-parts, ended, lines-lines, text_of-append}
+use Rattle.dd_file.proofs.TextLines.CutAgain.{ended, lines-lines, text_of-append}
 use Rattle.ascii_text.proofs.Offered.{without_last-push}
-use Rattle.dd_file.proofs.ScriptGrammar.ItemLength.{first_of-fits, moved_item}
-use Rattle.dd_file.proofs.ScriptGrammar.OpenItem.{open-prefix}
-use Rattle.dd_file.proofs.ScriptGrammar.AllItems.{no_items, items_of, items_of-first, items_at-moved, moved_script, script_of-lines}
+use Rattle.dd_file.proofs.ScriptGrammar.MoreLines.{first_of-local, first_of-left, first_of-closes}
+use Rattle.dd_file.proofs.ScriptGrammar.AllItems.{no_items, items_of, items_of-ended, items_of-open, moved_item, items_of-moved, moved_script, script_of-lines}
 
 -- any text is lines, each with its newline, and one more line, which may be empty
 record Cut (text : List ℕ) : Type 0 where
@@ -62,7 +59,7 @@ line_of-last b line h = ap without_return (none b line h ∙ sym (without_last-p
 
   none : (b : ℕ) (line : List ℕ) → is_line (b ∷ line) ≡ true → without_last 10 (b ∷ line) ≡ b ∷ line
   none b [] k = single b (b == 10) k
-  none b (x ∷ line) k = ap (λ t. b ∷ t) (none x line (and-parts (not (b == 10)) (is_line (x ∷ line)) k).1)
+  none b (x ∷ line) k = ap (λ t. b ∷ t) (none x line (and_parts (not (b == 10)) (is_line (x ∷ line)) k).1)
 
 -- the lines of a script and two newlines are its lines, an empty one, and perhaps another
 record IsFollowed (script : List ℕ) : Type 0 where
@@ -101,15 +98,11 @@ record AreJoined (joined before suffix : Script Item) : Type 0 where
   fault : joined.fault ≡ suffix.fault
 
 -- an empty line is a blank item
-items_of-blank : (n : ℕ) (lines : List (List ℕ)) → AreJoined (items_of n ([] ∷ lines)) (items_of n []) (items_of (n + 1) lines)
-items_of-blank n lines =
-    let first = items_of-first n ([] ∷ lines) (first_item (Ok (Blank ([] ∷ []))) 1 true) (Blank ([] ∷ [])) refl refl in
+items_of-blank : (before : ℕ) (lines : List (List ℕ)) → AreJoined (items_of before ([] ∷ lines)) no_items (items_of (before + 1) lines)
+items_of-blank before lines =
+    let count : length ([] ∷ lines) - length lines ≡ 1 = omega arith in
+    let first = items_of-ended before ([] ∷ lines) lines (Blank ([] ∷ [])) refl ∙ ap (λ (k : ℕ). with_first (Blank ([] ∷ [])) (items_of (before + k) lines)) count in
     record { directives = ap (λ (s : Script Item). directives_of s.items) first; fault = ap (λ (s : Script Item). s.fault) first }
-
--- the item of a first item with its separator
-item-of : (count : ℕ) (found : Result Item FileFault) → has_separator count found ≡ true → (item : Item) × (found ≡ Ok item)
-item-of count (Ok item) h = (item, refl)
-item-of count (Err fault) h = cc
 
 -- one item more before the others
 joined-first : (joined before suffix joined' before' : Script Item) (item : Item) → joined' ≡ with_first item joined → before' ≡ with_first item before →
@@ -121,36 +114,38 @@ joined-first joined before suffix joined' before' item ej eb are = record {
 }
 
 -- the items of complete lines, an empty line and any lines
-items_of-joined : (n : ℕ) (lines more : List (List ℕ)) → IsComplete n lines → AreJoined (items_of n (lines ++ [] ∷ more)) (items_of n lines) (items_of (n + length lines + 1) more)
-items_of-joined n lines more (Done m) =
-    let sum : m + 1 ≡ m + 0 + 1 = omega arith in subst (λ (k : ℕ). AreJoined (items_of m ([] ∷ more)) (items_of m []) (items_of k more)) sum (items_of-blank m more)
-items_of-joined n lines more (More m ls f e sep rest) = at f.is_ended refl (items_of-joined (m + f.count) (drop f.count ls) more rest) where
-  at : (c : Bool) → f.is_ended ≡ c → AreJoined (items_of (m + f.count) (drop f.count ls ++ [] ∷ more)) (items_of (m + f.count) (drop f.count ls)) (items_of (m + f.count + length (drop f.count ls) + 1) more) →
-      AreJoined (items_of m (ls ++ [] ∷ more)) (items_of m ls) (items_of (m + length ls + 1) more)
-  at true ended ih =
-      let item = item-of f.count f.result sep in
-      let bound = (first_of-fits m ls f e).1 in
-      let left = length-drop f.count ls in
-      let still : first_of m (ls ++ [] ∷ more) ≡ Some f = first_of-local m ls ([] ∷ more) (ap ended_first_item e ∙ ended) ∙ e in
-      let whole : items_of m (ls ++ [] ∷ more) ≡ with_first item.0 (items_of (m + f.count) (drop f.count ls ++ [] ∷ more)) =
-      items_of-first m (ls ++ [] ∷ more) f item.0 still item.1 ∙ ap (λ (t : List (List ℕ)). with_first item.0 (items_of (m + f.count) t)) (drop-append-le f.count ls ([] ∷ more) bound) in
-      let sum : m + f.count + length (drop f.count ls) + 1 ≡ m + length ls + 1 = omega (arith, bound, left) in
-      subst (λ (k : ℕ). AreJoined (items_of m (ls ++ [] ∷ more)) (items_of m ls) (items_of k more)) sum
-      (joined-first _ _ _ _ _ item.0 whole (items_of-first m ls f item.0 e item.1) ih)
-  at false ended ih =
-      let item = item-of f.count f.result sep in
-      let open_end = open-prefix m ls f e ended sep in
-      let count = open_end.0 in
-      let left = length-drop f.count ls in
-      let none : drop f.count ls ≡ [] = nil_from_length (drop f.count ls) (omega (arith, count, left)) in
-      let suffix : drop (f.count + 1) (ls ++ [] ∷ more) ≡ more = ap (λ (k : ℕ). drop (k + 1) (ls ++ [] ∷ more)) count ∙ drop-append-add ls ([] ∷ more) 1 in
-      let sum : m + (f.count + 1) ≡ m + length ls + 1 = omega (arith, count) in
-      let whole : items_of m (ls ++ [] ∷ more) ≡ with_first item.0 (items_of (m + length ls + 1) more) =
-      items_of-first m (ls ++ [] ∷ more) (first_item f.result (f.count + 1) true) item.0 (open_end.1 more) item.1
-      ∙ ap (λ (t : List (List ℕ)). with_first item.0 (items_of (m + (f.count + 1)) t)) suffix ∙ ap (λ (k : ℕ). with_first item.0 (items_of k more)) sum in
-      let before : items_of m ls ≡ with_first item.0 (items_of (m + f.count) []) =
-      items_of-first m ls f item.0 e item.1 ∙ ap (λ (t : List (List ℕ)). with_first item.0 (items_of (m + f.count) t)) none in
-      joined-first (items_of (m + length ls + 1) more) (items_of (m + f.count) []) _ _ _ item.0 whole before (record { directives = refl; fault = refl })
+items_of-joined : (before : ℕ) (lines more : List (List ℕ)) → IsComplete lines → AreJoined (items_of before (lines ++ [] ∷ more)) (items_of before lines) (items_of (before + length lines + 1) more)
+items_of-joined before lines more Done =
+    let sum : before + 1 ≡ before + 0 + 1 = omega arith in subst (λ (k : ℕ). AreJoined (items_of before ([] ∷ more)) no_items (items_of k more)) sum (items_of-blank before more)
+items_of-joined before lines more (More ls item first separated rest) = at (first_of ls) refl first separated (λ m. items_of-joined m (lines_left (first_of ls)) more rest) where
+  at : (f : FirstItem) → first_of ls ≡ f → result_of f ≡ Some (Ok item) → has_separator item (length (lines_left f)) (length ls) ≡ true →
+      ((m : ℕ) → AreJoined (items_of m (lines_left f ++ [] ∷ more)) (items_of m (lines_left f)) (items_of (m + length (lines_left f) + 1) more)) →
+      AreJoined (items_of before (ls ++ [] ∷ more)) (items_of before ls) (items_of (before + length ls + 1) more)
+  at NoItem e is sep ih = cc
+  at (Ended r left) e is sep ih =
+      let same : r ≡ Ok item = cc in
+      let ended = e ∙ ap (λ x. Ended x left) same in
+      let own = first_of-left ls left (Ok item) ended in
+      let all = ap length own.is in
+      let len = length-append own.own left in
+      let m = before + (length ls - length left) in
+      let longer = length-append ls ([] ∷ more) in
+      let after = length-append left ([] ∷ more) in
+      let count : length (ls ++ [] ∷ more) - length (left ++ [] ∷ more) ≡ length ls - length left = omega (arith, longer, after, all, len) in
+      let sum : m + length left + 1 ≡ before + length ls + 1 = omega (arith, all, len) in
+      let whole : items_of before (ls ++ [] ∷ more) ≡ with_first (at_line (before + 1) item) (items_of m (left ++ [] ∷ more)) =
+      items_of-ended before (ls ++ [] ∷ more) (left ++ [] ∷ more) item (first_of-local ls left ([] ∷ more) (Ok item) ended)
+      ∙ ap (λ (k : ℕ). with_first (at_line (before + 1) item) (items_of (before + k) (left ++ [] ∷ more))) count in
+      subst (λ (k : ℕ). AreJoined (items_of before (ls ++ [] ∷ more)) (items_of before ls) (items_of k more)) sum
+      (joined-first _ _ _ _ _ (at_line (before + 1) item) whole (items_of-ended before ls left item ended) (ih m))
+  at (Open r) e is sep ih =
+      let same : r ≡ Ok item = cc in
+      let open_end = e ∙ ap Open same in
+      let longer = length-append ls ([] ∷ more) in
+      let sum : before + (length (ls ++ [] ∷ more) - length more) ≡ before + length ls + 1 = omega (arith, longer) in
+      let whole : items_of before (ls ++ [] ∷ more) ≡ with_first (at_line (before + 1) item) (items_of (before + length ls + 1) more) =
+      items_of-ended before (ls ++ [] ∷ more) more item (first_of-closes ls more item open_end sep) ∙ ap (λ (k : ℕ). with_first (at_line (before + 1) item) (items_of k more)) sum in
+      joined-first (items_of (before + length ls + 1) more) no_items _ _ _ (at_line (before + 1) item) whole (items_of-open before ls item open_end) (record { directives = refl; fault = refl })
 
 -- the directives of the same items further down
 directives_of-moved : (k : ℕ) (items : List Item) → directives_of (map (moved_item k) items) ≡ map (moved k) (directives_of items)
@@ -167,7 +162,7 @@ second-line n more lines (inl e) =
 second-line n more lines (inr e) = rw e (items_of-blank n lines)
 
 -- all of it
-pub script-joined : (script text : List ℕ) → IsComplete 1 (lines_of script) → length (((script ++ newline) ++ newline) ++ text) ≤ longest_input →
+pub script-joined : (script text : List ℕ) → IsComplete (lines_of script) → length (((script ++ newline) ++ newline) ++ text) ≤ longest_input →
     (directives_of (script_of (((script ++ newline) ++ newline) ++ text)).items ≡
     directives_of (script_of script).items ++ map (moved (length (lines_of ((script ++ newline) ++ newline)))) (directives_of (script_of text).items))
     × ((script_of (((script ++ newline) ++ newline) ++ text)).fault ≡ option_map (moved_fault (length (lines_of ((script ++ newline) ++ newline)))) (script_of text).fault)
@@ -183,16 +178,16 @@ script-joined script text complete fits =
     let all = length-append closed text in
     let prefix = length-append script newline in
     let two = length-append (script ++ newline) newline in
-    let first = items_of-joined 1 L (is.more ++ T) complete in
-    let second = second-line (1 + length L + 1) is.more T is.is_more in
-    let sum : 1 + length L + 1 + length is.more ≡ k + 1 = omega (arith, count) in
-    let joined_is : script_of (closed ++ text) ≡ items_of 1 (L ++ [] ∷ (is.more ++ T)) = script_of-lines (closed ++ text) fits ∙ ap (items_of 1) (is.lines text) in
-    let script_is : script_of script ≡ items_of 1 L = script_of-lines script (omega (arith, fits, all, prefix, two)) in
-    let text_is : script_of text ≡ items_of 1 T = script_of-lines text (omega (arith, fits, all)) in
-    let rest : items_of (1 + length L + 1 + length is.more) T ≡ moved_script k (script_of text) =
-    ap (λ (m : ℕ). items_of m T) sum ∙ items_at-moved (length T) k 1 T ∙ ap (moved_script k) (sym text_is) in (
-      ap (λ (s : Script Item). directives_of s.items) joined_is ∙ first.directives ∙ ap (λ ds. directives_of (items_of 1 L).items ++ ds) second.directives
-          ∙ ap (λ (s : Script Item). directives_of s.items ++ directives_of (items_of (1 + length L + 1 + length is.more) T).items) (sym script_is)
+    let first = items_of-joined 0 L (is.more ++ T) complete in
+    let second = second-line (0 + length L + 1) is.more T is.is_more in
+    let sum : 0 + length L + 1 + length is.more ≡ k = omega (arith, count) in
+    let joined_is : script_of (closed ++ text) ≡ items_of 0 (L ++ [] ∷ (is.more ++ T)) = script_of-lines (closed ++ text) fits ∙ ap (items_of 0) (is.lines text) in
+    let script_is : script_of script ≡ items_of 0 L = script_of-lines script (omega (arith, fits, all, prefix, two)) in
+    let text_is : script_of text ≡ items_of 0 T = script_of-lines text (omega (arith, fits, all)) in
+    let rest : items_of (0 + length L + 1 + length is.more) T ≡ moved_script k (script_of text) =
+    ap (λ (m : ℕ). items_of m T) sum ∙ items_of-moved k T ∙ ap (moved_script k) (sym text_is) in (
+      ap (λ (s : Script Item). directives_of s.items) joined_is ∙ first.directives ∙ ap (λ ds. directives_of (items_of 0 L).items ++ ds) second.directives
+          ∙ ap (λ (s : Script Item). directives_of s.items ++ directives_of (items_of (0 + length L + 1 + length is.more) T).items) (sym script_is)
           ∙ ap (λ (s : Script Item). directives_of (script_of script).items ++ directives_of s.items) rest ∙ ap (λ ds. directives_of (script_of script).items ++ ds) (directives_of-moved k (script_of text).items),
       ap (λ (s : Script Item). s.fault) joined_is ∙ first.fault ∙ second.fault ∙ ap (λ (s : Script Item). s.fault) rest,
     )

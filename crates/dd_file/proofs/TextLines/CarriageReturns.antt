@@ -1,9 +1,9 @@
 -- A line without a carriage return at its end is the same line but for white space at its end.
-use Rattle.std.proofs.Common.{◌≡◌, ℕ, ◌&&◌, ◌||◌, List, [], ◌∷◌, ◌++◌, map, refl, ◌∙◌, ap}
-use Rattle.std.specs.List.{list_all, list_any}
+use Rattle.std.proofs.Common.{◌≡◌, ℕ, Bool, ◌||◌, List, [], ◌∷◌, ◌++◌, map, refl, ◌∙◌, ap}
+use Rattle.std.specs.List.{list_any}
 use Rattle.ascii_text.specs.WhiteSpace.{without_leading_space, without_trailing_space, trimmed}
 use Rattle.ascii_text.specs.Lines.{without_last}
-use Rattle.dd_file.specs.Script.{is_continued, is_separator, joined}
+use Rattle.dd_file.specs.Script.{is_last_line, is_separator, joined}
 use Rattle.ascii_text.proofs.Offered.{without_trailing_space-without_last}
 
 -- a line, and lines, without a carriage return at the end
@@ -22,17 +22,15 @@ ends-without_returns [] = refl
 ends-without_returns (line ∷ lines) =
     ap (λ t. t ∷ map without_trailing_space (without_returns lines)) (without_trailing_space-without_last 13 line refl) ∙ ap (λ ts. without_trailing_space line ∷ ts) (ends-without_returns lines)
 
-pub any_separator-without_returns : (lines : List (List ℕ)) → list_any is_separator (without_returns lines) ≡ list_any is_separator lines
-any_separator-without_returns [] = refl
-any_separator-without_returns (line ∷ lines) =
-    let here : is_separator (without_return line) ≡ is_separator line = rw (trimmed-without_return line) refl in
-    ap (λ b. b || list_any is_separator (without_returns lines)) here ∙ ap (λ b. is_separator line || b) (any_separator-without_returns lines)
+pub any-without_returns : (test : List ℕ → Bool) → ((line : List ℕ) → test (without_return line) ≡ test line) → (lines : List (List ℕ)) → list_any test (without_returns lines) ≡ list_any test lines
+any-without_returns test same [] = refl
+any-without_returns test same (line ∷ lines) = ap (λ b. b || list_any test (without_returns lines)) (same line) ∙ ap (λ b. test line || b) (any-without_returns test same lines)
 
-pub all_continued-without_returns : (lines : List (List ℕ)) → list_all is_continued (without_returns lines) ≡ list_all is_continued lines
-all_continued-without_returns [] = refl
-all_continued-without_returns (line ∷ lines) =
-    let here : is_continued (without_return line) ≡ is_continued line = rw (trimmed-without_return line) refl in
-    ap (λ b. b && list_all is_continued (without_returns lines)) here ∙ ap (λ b. is_continued line && b) (all_continued-without_returns lines)
+pub is_separator-without_return : (line : List ℕ) → is_separator (without_return line) ≡ is_separator line
+is_separator-without_return line = rw (trimmed-without_return line) refl
+
+pub is_last_line-without_return : (line : List ℕ) → is_last_line (without_return line) ≡ is_last_line line
+is_last_line-without_return line = rw (trimmed-without_return line) refl
 
 pub joined-without_returns : (lines : List (List ℕ)) → joined (without_returns lines) ≡ joined lines
 joined-without_returns [] = refl

@@ -1,5 +1,7 @@
 -- Lines that are written and cut again, and the lines of an output.
 use Rattle.std.proofs.Common.{◌≡◌, ℕ, Bool, true, false, not, cond, ◌&&◌, ◌||◌, List, [], ◌∷◌, ◌++◌, inl, inr, length, map, refl, sym, ◌∙◌, ap, subst, rules}
+use Rattle.std.proofs.lemmas.Bool.{and_parts}
+use Rattle.std.proofs.lemmas.List.Concat.{flat_map-append}
 use Rattle.std.specs.Prelude.{◌==◌, nat_eq}
 use Rattle.std.specs.List.{list_all, list_any, ends_with}
 use Rattle.std.proofs.lemmas.List.{append_assoc, append-nil, map-append}
@@ -11,11 +13,6 @@ use Rattle.dd_file.specs.Rewritten.{is_output, is_output_line, has_blank_line}
 use Rattle.dd_file.proofs.TextLines.CarriageReturns.{without_return, without_returns}
 use Rattle.ascii_text.proofs.Offered.{list-by_last, without_last-push}
 use Rattle.dd_file.proofs.TextLines.LastNewlines.{ends_with-append}
-
--- two tests that both pass
-pub and-parts : (a b : Bool) → (a && b) ≡ true → (a ≡ true) × (b ≡ true)
-and-parts true b h = (refl, h)
-and-parts false b h = cc
 
 -- a line with its newline is a full line
 pub full_lines-line : (line rest : List ℕ) → is_line line ≡ true → full_lines ((line ++ newline) ++ rest) ≡ (line ++ newline) ∷ full_lines rest
@@ -29,7 +26,7 @@ full_lines-line (b ∷ line) rest h = at (b == 10) (full_lines-line line rest) h
 -- lines that are written, and what follows them
 full_lines-lines : (lines : List (List ℕ)) (rest : List ℕ) → list_all is_line lines ≡ true → full_lines (text_of lines ++ rest) ≡ map (λ line. line ++ newline) lines ++ full_lines rest
 full_lines-lines [] rest h = refl
-full_lines-lines (line ∷ lines) rest h = let k = and-parts (is_line line) (list_all is_line lines) h in
+full_lines-lines (line ∷ lines) rest h = let k = and_parts (is_line line) (list_all is_line lines) h in
     ap full_lines (append_assoc (line ++ newline) (text_of lines) rest) ∙ full_lines-line line (text_of lines ++ rest) k.0 ∙ ap (λ ps. (line ++ newline) ∷ ps) (full_lines-lines lines rest k.1)
 
 -- the lines of those full lines
@@ -53,8 +50,7 @@ lines_of-text_of lines h = ap (map line_of) (full_lines-text_of lines h) ∙ eac
   each (line ∷ ls) = ap (λ t. without_last 13 t ∷ map line_of (map (λ l. l ++ newline) ls)) (without_last-newline line) ∙ ap (λ ts. without_return line ∷ ts) (each ls)
 
 pub text_of-append : (xs ys : List (List ℕ)) → text_of (xs ++ ys) ≡ text_of xs ++ text_of ys
-text_of-append [] ys = refl
-text_of-append (x ∷ xs) ys = ap (λ t. (x ++ newline) ++ t) (text_of-append xs ys) ∙ sym (append_assoc (x ++ newline) (text_of xs) (text_of ys))
+text_of-append xs ys = flat_map-append (λ line. line ++ newline) xs ys
 
 -- a text that ends in a newline is lines, each with its newline
 abbrev LinesOf : List ℕ → Type 0
@@ -84,7 +80,7 @@ pub output-lines : (found : List ℕ) → is_output found ≡ true → (lines : 
 output-lines found h = elim (list-by_last found) [
   | inl none ↦ ([], record { text = none; are_lines = refl; are_output = refl })
   | inr p ↦
-      let k = and-parts (length found == 0 || ends_with nat_eq found newline) _ h in
+      let k = and_parts (length found == 0 || ends_with nat_eq found newline) _ h in
       let ended : ((length found == 0) || (nat_eq 10 p.1 && true)) ≡ true =
       ap (λ b. (length found == 0) || b) (sym (ap (λ t. ends_with nat_eq t newline) p.2 ∙ ends_with-append p.0 (p.1 ∷ []) newline refl)) ∙ k.0 in
       let whole : found ≡ p.0 ++ newline = p.2 ∙ ap (λ b. p.0 ++ b ∷ []) (is_newline p.0 p.1 found p.2 ended) in
@@ -129,7 +125,7 @@ output_line-return line h = elim (list-by_last line) [
 
 pub output-returns : (lines : List (List ℕ)) → list_all is_output_line lines ≡ true → without_returns lines ≡ lines
 output-returns [] h = refl
-output-returns (line ∷ lines) h = let k = and-parts (is_output_line line) (list_all is_output_line lines) h in
+output-returns (line ∷ lines) h = let k = and_parts (is_output_line line) (list_all is_output_line lines) h in
     ap (λ t. t ∷ without_returns lines) (output_line-return line k.0) ∙ ap (λ ts. line ∷ ts) (output-returns lines k.1)
 
 -- whether an output has a blank line

@@ -53,9 +53,6 @@ lie-push text ends more positions lines line end lie pushed added is = record {
 pub text-parts : (lines : List (List ℕ)) (i : ℕ) → text_of (take i lines) ++ text_of (drop i lines) ≡ text_of lines
 text-parts lines i = sym (text_of-append (take i lines) (drop i lines)) ∙ ap text_of (take-append-drop i lines)
 
-text-prefix : (lines : List (List ℕ)) (i start : ℕ) → start ≡ length (text_of (take i lines)) → take start (text_of lines) ≡ text_of (take i lines)
-text-prefix lines i start is = ap (take start) (sym (text-parts lines i)) ∙ take_at (text_of (take i lines)) (text_of (drop i lines)) start (sym is)
-
 pub text-suffix : (lines : List (List ℕ)) (i start : ℕ) → start ≡ length (text_of (take i lines)) → drop start (text_of lines) ≡ text_of (drop i lines)
 text-suffix lines i start is = ap (drop start) (sym (text-parts lines i)) ∙ drop_at (text_of (take i lines)) (text_of (drop i lines)) start (sym is)
 
@@ -95,16 +92,3 @@ pub first-suffix : (lines : List (List ℕ)) (i len : ℕ) → i < length lines 
 first-suffix [] i len lt is = absurd (omega arith)
 first-suffix (line ∷ lines) zero len lt is = ap (take len) (append_assoc line newline (text_of lines)) ∙ take_at line (newline ++ text_of lines) len (sym is)
 first-suffix (line ∷ lines) (suc i) len lt is = first-suffix lines i len (omega (arith, lt)) is
-
--- the first lines
-take-ends_of : (start n : ℕ) (lines : List (List ℕ)) → take n (ends_of start lines) ≡ ends_of start (take n lines)
-take-ends_of start zero lines = refl
-take-ends_of start (suc n) [] = refl
-take-ends_of start (suc n) (line ∷ lines) = ap (λ es. (start + length line) ∷ es) (take-ends_of (start + length line + 1) n lines)
-
-pub lie-prefix : (text ends prefix positions : List ℕ) (lines : List (List ℕ)) (n start : ℕ) → LieIn text ends lines → start ≡ length (text_of (take n lines)) → prefix ≡ take start text → positions ≡ take n ends →
-    LieIn prefix positions (take n lines)
-lie-prefix text ends prefix positions lines n start lie is cut kept = record {
-  whole = cut ∙ ap (take start) lie.whole ∙ text-prefix lines n start is;
-  positions = kept ∙ ap (take n) lie.positions ∙ take-ends_of 0 n lines;
-}

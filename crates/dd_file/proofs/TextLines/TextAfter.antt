@@ -1,18 +1,14 @@
 -- A text that ends in a newline, and more after it.
 use Rattle.std.proofs.Common.{◌≡◌, ℕ, ◌+◌, ◌-◌, ◌≤◌, Bool, true, false, cond, ◌&&◌, List, [], ◌∷◌, ◌++◌, length, take, refl, ◌∙◌, ap, arith}
+use Rattle.std.proofs.lemmas.Bool.{and_parts}
 use Rattle.std.specs.Prelude.{◌==◌, filter}
 use Rattle.std.specs.List.{list_all}
 use Rattle.std.proofs.lemmas.List.Elements.{filter-append}
 use Rattle.std.proofs.Math.Seq.{take-append-add}
 use Rattle.ascii_text.specs.Lines.{newline, full_lines, before_first_line, ends_in_newline}
 use Rattle.dd_file.specs.Position.{Position}
+use Rattle.dd_file.specs.Buffered.{is_whole_text}
 use Rattle.dd_file.specs.Grammar.{is_too_long, full_lines_within}
-
--- nothing, or a text whose last byte is a newline
-abbrev pub is_whole_text : List ℕ → Bool
-is_whole_text [] = true
-is_whole_text (b ∷ []) = b == 10
-is_whole_text (b ∷ c ∷ bytes) = is_whole_text (c ∷ bytes)
 
 -- bytes have a first full line
 abbrev has_some : List (List ℕ) → Bool
@@ -48,16 +44,9 @@ whole-more : (b : ℕ) (full_line : List ℕ) → ends_in_newline full_line ≡ 
 whole-more b [] h = cc
 whole-more b (c ∷ full_line) h = h
 
-and-left : (a b : Bool) → (a && b) ≡ true → a ≡ true
-and-left true b h = refl
-and-left false b h = h
-
 whole-first : (b : ℕ) (ps : List (List ℕ)) → has_some ps ≡ true → list_all ends_in_newline ps ≡ true → list_all ends_in_newline (before_first_line b ps) ≡ true
 whole-first b [] s h = cc
-whole-first b (full_line ∷ ps) s h = rw (whole-more b full_line (and-left _ _ h)) (and-right _ _ h) where
-  and-right : (a c : Bool) → (a && c) ≡ true → c ≡ true
-  and-right true c h = h
-  and-right false c h = cc
+whole-first b (full_line ∷ ps) s h = let k = and_parts (ends_in_newline full_line) (list_all ends_in_newline ps) h in rw (whole-more b full_line k.0) k.1
 
 whole-step : (c : Bool) (b : ℕ) (ps : List (List ℕ)) → has_some ps ≡ true → list_all ends_in_newline ps ≡ true → list_all ends_in_newline (cond c (newline ∷ ps) (before_first_line b ps)) ≡ true
 whole-step true b ps s h = h
@@ -76,7 +65,7 @@ filter-step : {X : Type 0} (c : Bool) (x : X) (us xs : List X) (r : Bool) → (r
 filter-step true x us xs r ih h = ap (λ t. x ∷ t) (ih h)
 filter-step false x us xs r ih h = cc
 
-filter-all : {X : Type 0} (test : X → Bool) (xs : List X) → list_all test xs ≡ true → filter test xs ≡ xs
+pub filter-all : {X : Type 0} (test : X → Bool) (xs : List X) → list_all test xs ≡ true → filter test xs ≡ xs
 filter-all test [] h = refl
 filter-all test (x ∷ xs) h = filter-step (test x) x _ xs (list_all test xs) (filter-all test xs) h
 

@@ -1,8 +1,7 @@
 -- Worked examples of scripts that are written again.
-use Rattle.std.specs.Prelude.{◌≡◌, ℕ, List, [], ◌∷◌, ◌++◌, Ok, true, false, codes, refl}
+use Rattle.std.specs.Prelude.{◌≡◌, ℕ, List, [], ◌∷◌, ◌++◌, false, codes, refl}
 use Rattle.ascii_text.specs.Lines.{newline, lines_of}
 use Rattle.dd_file.specs.DirectiveText.{DirectiveText}
-use Rattle.dd_file.specs.Script.{first_item}
 use Rattle.dd_file.specs.Rewritten.{output_text, newlines_at_end, without_double_end}
 use Rattle.dd_file.specs.Laws.{IsComplete, Done, More, has_separator}
 use Rattle.dd_file.specs.declared.item.Item.TheVariants.{Comment, Directive}
@@ -21,14 +20,14 @@ counted = refl
 pub doubled : lines_of (output_text ((codes "a" ++ newline) ++ newline)) ≡ codes "----" ∷ codes "----" ∷ codes "a" ∷ [] ∷ codes "----" ∷ codes "----" ∷ [] ∷ []
 doubled = refl
 
--- the directive `vote` from line 2 on
+-- the directive `vote`
 abbrev vote : List ℕ → DirectiveText
-vote expected = record { line = 2; command = codes "vote"; arguments = []; input = []; expected = expected; raw_lines = codes "vote" ∷ [] }
+vote expected = record { line = 1; command = codes "vote"; arguments = []; input = []; expected = expected; raw_lines = codes "vote" ∷ [] }
 
 -- a comment and a directive with its separator, at the end of a file without a newline
-pub complete : IsComplete 1 (codes "# a" ∷ codes "vote" ∷ codes "----" ∷ codes "x" ∷ [])
-complete = More 1 _ (first_item (Ok (Comment (codes "# a" ∷ []))) 1 true) refl refl (More 2 _ (first_item (Ok (Directive (vote (codes "x" ++ newline)))) 3 false) refl refl (Done 5))
+pub complete : IsComplete (codes "# a" ∷ codes "vote" ∷ codes "----" ∷ codes "x" ∷ [])
+complete = More _ (Comment (codes "# a" ∷ [])) refl refl (More _ (Directive (vote (codes "x" ++ newline))) refl refl Done)
 
 -- the directive alone has no separator
-pub open_end : has_separator 1 (Ok (Directive (vote []))) ≡ false
+pub open_end : has_separator (Directive (vote [])) 0 1 ≡ false
 open_end = refl

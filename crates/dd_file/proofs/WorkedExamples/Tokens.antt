@@ -3,7 +3,7 @@ use Rattle.std.specs.Prelude.{◌≡◌, ℕ, List, [], ◌∷◌, ◌++◌, Opt
 use Rattle.ascii_text.specs.Lines.{newline, lines_of}
 use Rattle.ascii_text.specs.WhiteSpace.{trimmed}
 use Rattle.dd_file.specs.Script.{joined}
-use Rattle.dd_file.specs.DirectiveLine.{ArgumentText, CommandText, tokens_of, parsed_argument, command_of}
+use Rattle.dd_file.specs.DirectiveLine.{ArgumentText, CommandText, leading, argument_at, command_of}
 
 -- what follows the last newline is a line only if it is not empty; one carriage return goes
 pub cut : lines_of (((codes "ab" ++ newline) ++ newline) ++ codes "c\r\r") ≡ codes "ab" ∷ [] ∷ codes "c\r" ∷ []
@@ -15,10 +15,6 @@ cut_at_end = refl
 pub trim : trimmed (codes " \t a b \r") ≡ codes "a b"
 trim = refl
 
--- white space separates tokens, but not between parentheses, which do not nest
-pub parted : tokens_of (codes " a  b=(c d)e\tf((g )h i) ") ≡ codes "a" ∷ codes "b=(c d)e" ∷ codes "f((g )h" ∷ codes "i)" ∷ []
-parted = refl
-
 -- a key `a` with these values, and `simple` with it
 abbrev a_with : List (List ℕ) → ArgumentText
 a_with values = record { key = codes "a"; values = values }
@@ -26,41 +22,51 @@ a_with values = record { key = codes "a"; values = values }
 abbrev simple_with : List ArgumentText → Option CommandText
 simple_with arguments = Some (record { name = codes "simple"; arguments = arguments })
 
+-- white space ends an argument, but not between parentheses, which do not nest
+pub first_of_two : argument_at (codes "a=b a=c") ≡ Some (leading (a_with (codes "b" ∷ [])) (codes " a=c"))
+first_of_two = refl
+
+pub space_in_list : argument_at (codes "a=(c d)\te") ≡ Some (leading (a_with (codes "c d" ∷ [])) (codes "\te"))
+space_in_list = refl
+
+pub not_nested : argument_at (codes "a=((g )h i)") ≡ None
+not_nested = refl
+
 -- a key alone, an empty list and a list of white space have no values
-pub key_alone : parsed_argument (codes "a") ≡ Some (a_with [])
+pub key_alone : argument_at (codes "a") ≡ Some (leading (a_with []) [])
 key_alone = refl
 
-pub empty_list : parsed_argument (codes "a=()") ≡ Some (a_with [])
+pub empty_list : argument_at (codes "a=()") ≡ Some (leading (a_with []) [])
 empty_list = refl
 
-pub blank_list : parsed_argument (codes "a=( \t)") ≡ Some (a_with [])
+pub blank_list : argument_at (codes "a=( \t)") ≡ Some (leading (a_with []) [])
 blank_list = refl
 
 -- a plain value is one value, empty or not; a comma in it separates nothing
-pub empty_value : parsed_argument (codes "a=") ≡ Some (a_with ([] ∷ []))
+pub empty_value : argument_at (codes "a=") ≡ Some (leading (a_with ([] ∷ [])) [])
 empty_value = refl
 
-pub comma_alone : parsed_argument (codes "a=,") ≡ Some (a_with (codes "," ∷ []))
+pub comma_alone : argument_at (codes "a=,") ≡ Some (leading (a_with (codes "," ∷ [])) [])
 comma_alone = refl
 
-pub second_equals : parsed_argument (codes "a==1") ≡ Some (a_with (codes "=1" ∷ []))
+pub second_equals : argument_at (codes "a==1") ≡ Some (leading (a_with (codes "=1" ∷ [])) [])
 second_equals = refl
 
 -- in a list each part between commas is a value, and is trimmed
-pub empty_values : parsed_argument (codes "a=(,)") ≡ Some (a_with ([] ∷ [] ∷ []))
+pub empty_values : argument_at (codes "a=(,)") ≡ Some (leading (a_with ([] ∷ [] ∷ [])) [])
 empty_values = refl
 
-pub trimmed_values : parsed_argument (codes "a=( 1 , 2 3 )") ≡ Some (a_with (codes "1" ∷ codes "2 3" ∷ []))
+pub trimmed_values : argument_at (codes "a=( 1 , 2 3 )") ≡ Some (leading (a_with (codes "1" ∷ codes "2 3" ∷ [])) [])
 trimmed_values = refl
 
-pub opening_in_list : parsed_argument (codes "a=((1)") ≡ Some (a_with (codes "(1" ∷ []))
+pub opening_in_list : argument_at (codes "a=((1)") ≡ Some (leading (a_with (codes "(1" ∷ [])) [])
 opening_in_list = refl
 
-pub any_bytes_in_list : parsed_argument (codes "a=(#=\\)") ≡ Some (a_with (codes "#=\\" ∷ []))
+pub any_bytes_in_list : argument_at (codes "a=(#=\\)") ≡ Some (leading (a_with (codes "#=\\" ∷ [])) [])
 any_bytes_in_list = refl
 
 -- parentheses that do not close, or do not stand round the whole value, are refused
-pub unclosed : parsed_argument (codes "a=(") ≡ None
+pub unclosed : argument_at (codes "a=(") ≡ None
 unclosed = refl
 
 pub unclosed_text : command_of (codes "simple a=(1, 2 b") ≡ None
@@ -69,33 +75,33 @@ unclosed_text = refl
 pub glued : command_of (codes "simple a=(1, 2)b") ≡ None
 glued = refl
 
-pub glued_list : parsed_argument (codes "a=(1)(2)") ≡ None
+pub glued_list : argument_at (codes "a=(1)(2)") ≡ None
 glued_list = refl
 
 pub list_after_value : command_of (codes "simple a=b(c d)") ≡ None
 list_after_value = refl
 
-pub closing_alone : parsed_argument (codes "a=1)") ≡ None
+pub closing_alone : argument_at (codes "a=1)") ≡ None
 closing_alone = refl
 
 -- bytes above 127 may stand in values, and not in keys and commands
-pub high_value : parsed_argument (codes "a=" ++ 233 ∷ []) ≡ Some (a_with ((233 ∷ []) ∷ []))
+pub high_value : argument_at (codes "a=" ++ 233 ∷ []) ≡ Some (leading (a_with ((233 ∷ []) ∷ [])) [])
 high_value = refl
 
-pub high_listed : parsed_argument (codes "a=(" ++ 233 ∷ codes ")") ≡ Some (a_with ((233 ∷ []) ∷ []))
+pub high_listed : argument_at (codes "a=(" ++ 233 ∷ codes ")") ≡ Some (leading (a_with ((233 ∷ []) ∷ [])) [])
 high_listed = refl
 
-pub high_key : parsed_argument (233 ∷ codes "=1") ≡ None
+pub high_key : argument_at (233 ∷ codes "=1") ≡ None
 high_key = refl
 
 pub high_command : command_of (233 ∷ []) ≡ None
 high_command = refl
 
 -- every byte that a key may have besides letters and digits
-pub key_bytes : parsed_argument (codes "-_/,.aZ09") ≡ Some (record { key = codes "-_/,.aZ09"; values = [] })
+pub key_bytes : argument_at (codes "-_/,.aZ09") ≡ Some (leading (record { key = codes "-_/,.aZ09"; values = [] }) [])
 key_bytes = refl
 
-pub no_key : parsed_argument (codes "=1") ≡ None
+pub no_key : argument_at (codes "=1") ≡ None
 no_key = refl
 
 -- a command is a key, and `subtest` alone is refused

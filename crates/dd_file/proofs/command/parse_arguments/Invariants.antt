@@ -1,11 +1,10 @@
-use Rattle.std.proofs.Common.{◌≡◌, ◌++◌, length}
-use Rattle.std.specs.Prelude.{option_map}
-use Rattle.dd_file.specs.DirectiveLine.{arguments_of, tokens_of}
+use Rattle.std.proofs.Common.{length}
+use Rattle.dd_file.proofs.DirectiveTokens.ArgumentsSoFar.{IsParsed}
 use Rattle.dd_file.proofs.command.parse_arguments.Given as goal
 
--- the arguments so far and those of the tokens that are left
-abbrev pub invariant-loop-begun : goal.invariant-loop-begun
-invariant-loop-begun l = option_map (λ others. l.arguments.items ++ others) (arguments_of (tokens_of l.rest)) ≡ arguments_of (tokens_of l.text)
+-- the arguments so far and those of the text that is left
+abbrev pub invariant-parse : goal.invariant-parse
+invariant-parse l = IsParsed l.text l.arguments.items l.rest
 
-abbrev pub decreases-loop-begun : goal.decreases-loop-begun
-decreases-loop-begun l = length l.rest
+abbrev pub decreases-parse : goal.decreases-parse
+decreases-parse l = length l.rest

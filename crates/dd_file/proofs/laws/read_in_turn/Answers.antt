@@ -1,6 +1,5 @@
 use Rattle.std.proofs.Common.{◌++◌}
-use Rattle.dd_file.proofs.LineReading.PartsOfFullLine.{consumes-append}
-use Rattle.dd_file.proofs.ScriptGrammar.CallAfterCall.{agrees-in_turn}
+use Rattle.dd_file.proofs.ScriptGrammar.CallAfterCall.{agrees-in_turn, consumes-append}
 use Rattle.dd_file.proofs.laws.read_in_turn.Goals as goal
 
 pub returns-clause-consumed : goal.returns-clause-consumed

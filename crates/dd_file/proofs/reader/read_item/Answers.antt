@@ -1,58 +1,100 @@
-use Rattle.std.proofs.Common.{◌+◌, List, ℕ, refl, sym, ap, subst, ◌∙◌, arith}
-use Rattle.dd_file.specs.Draft.{DraftText, AddsIn, blank_draft, is_done}
-use Rattle.dd_file.proofs.ItemReading.UntilDone.{reading-none, reading-more, done-reads, memory-reads, fault-item, end-reads, or-false}
+use Rattle.std.proofs.Common.{◌≡◌, ◌+◌, ◌-◌, ◌≤◌, true, length, take, subst, sym, ap, ◌∙◌, arith}
+use Rattle.std.proofs.lemmas.List.{length-append, length-take, take_all}
+use Rattle.dd_file.specs.Position.{Position, longest_input}
+use Rattle.dd_file.specs.Grammar.{next_item}
+use Rattle.dd_file.specs.Answer.{IsItemFault}
+use Rattle.dd_file.specs.Buffered.{ended, within_limit}
+use Rattle.dd_file.specs.Draft.{result_in}
+use Rattle.dd_file.specs.DraftOf.{DraftOf, DraftOfAll}
+use Rattle.dd_file.specs.ReaderState.{ReaderState}
+use Rattle.dd_file.proofs.LineReading.BufferFilled.{filled-more, filled-last, interrupted, no-memory}
+use Rattle.dd_file.proofs.ItemReading.LinesOfDraft.{draft-bound, draft-cut, draft-more, draft-uncut}
+use Rattle.dd_file.proofs.ItemReading.ItemBuffered.{done-reads, last-reads, long-reads, item-kind, result-at}
 use Rattle.dd_file.proofs.reader.read_item.Goals as goal
 
-pub read-init : goal.read-init
-read-init g c =
-    let is = c.new-draft.ensures ∙ ap (λ n. blank_draft (n + 1)) c.count.ensures.count in
-    record {
-      reading = reading-none g.R.Source.remaining c.args.lines.now c.args.reader.now c.new-draft.result is c.requires.faultless c.count.ensures.limit;
-      open_end = ap (λ (d : DraftText). is_done d.state) is;
-      sound = refl;
-    }
+pub add_lines-requires-clause-so_far : goal.add_lines-requires-clause-so_far
+add_lines-requires-clause-so_far g c =
+    let fits = c.read.invariant.fits in
+    subst (DraftOf c.read.draft c.read.scan) (sym c.within_limit.ensures) (draft-cut c.read.draft c.read.scan c.read.input.buffered c.read.invariant.so_far (longest_input - c.read.input.position.bytes) (omega (arith, fits)))
+
+pub pass-requires-clause-some : goal.pass-requires-clause-some
+pass-requires-clause-some g c = (draft-bound c.add_lines.new.draft c.add_lines.new.scan c.within_limit.result.now c.in-Ok-true.ensures.lines).0
+
+pub returns-in-Ok-true : goal.returns-in-Ok-true
+returns-in-Ok-true g c =
+    let loop = c.read.invariant in
+    let now = c.read.input in
+    let n = longest_input - now.position.bytes in
+    let scan = c.add_lines.new.scan in
+    let draft = c.add_lines.new.draft in
+    let lines : DraftOf draft scan (take n now.buffered) = subst (DraftOf draft scan) c.within_limit.ensures c.in-Ok-true.ensures.lines in
+    let bound = draft-bound draft scan (take n now.buffered) lines in
+    let size = length-take n now.buffered in
+    let fits = loop.fits in
+    let ahead = loop.ahead in
+    let some = c.in-Ok-true.ensures.some c.in-Ok-true.field-0-test in
+    done-reads g.R.Source.remaining g.R.Source.has_failed c.args.input.now now c.args.reader.now c.read.reader draft loop.filled c.requires.faultless c.requires.unended scan c.pass.new.self c.finish.result
+    (draft-uncut draft scan n now.buffered lines) (sym c.in-Ok-true.ensures.done ∙ c.in-Ok-true.field-0-test) (omega (arith, bound.1, size, fits)) (omega (arith, ahead, some)) c.pass.ensures.passed c.pass.ensures.counted
+    (c.finish.ensures ∙ result-at _ _ _ _ (result_in draft.state draft.parts) c.count-first.ensures.count c.count.ensures.count)
+
+pub returns-then-is_beyond_limit : goal.returns-then-is_beyond_limit
+returns-then-is_beyond_limit g c =
+    let loop = c.read.invariant in
+    let now = c.read.input in
+    let n = longest_input - now.position.bytes in
+    let scan = c.add_lines.new.scan in
+    let draft = c.add_lines.new.draft in
+    let fits = loop.fits in
+    rw c.count-first.ensures.count (long-reads g.R.Source.remaining g.R.Source.has_failed c.args.input.now now c.args.reader.now c.read.reader draft loop.filled c.requires.faultless c.requires.unended scan
+    (subst (DraftOf draft scan) c.within_limit.ensures c.in-Ok-false.ensures.lines) (sym c.in-Ok-false.ensures.done ∙ c.in-Ok-false.field-0-test)
+    (c.in-Ok-false.ensures.none c.in-Ok-false.field-0-test ∙ ap length c.within_limit.ensures) (c.is_beyond_limit.ensures.beyond c.if-is_beyond_limit.true) (omega (arith, fits)))
 
 pub read-preserved : goal.read-preserved
 read-preserved g c =
-    let read = rw c.in-Ok-Some.field-0-is at c.in-Ok-Some.ensures in
     let loop = c.read.invariant in
+    let now = c.read.input in
+    let n = longest_input - now.position.bytes in
+    let scan = c.add_lines.new.scan in
+    let draft = c.add_lines.new.draft in
+    let lines : DraftOf draft scan (take n now.buffered) = subst (DraftOf draft scan) c.within_limit.ensures c.in-Ok-false.ensures.lines in
+    let searched : scan.bytes + scan.searched ≡ length (take n now.buffered) = c.in-Ok-false.ensures.none c.in-Ok-false.field-0-test ∙ ap length c.within_limit.ensures in
+    let size = length-take n now.buffered in
+    let fits = loop.fits in
+    let within = c.is_beyond_limit.ensures.within c.if-is_beyond_limit.false in
+    let filled = rw c.in-Ok-true-fill.field-0-test at c.in-Ok-true-fill.ensures.filled in
+    let total : length c.fill.new.self.buffered ≡ length now.buffered + length filled.bytes_read = ap length filled.buffered ∙ length-append now.buffered filled.bytes_read in
+    let ahead = filled.ahead in
+    let position : c.fill.new.self.position ≡ now.position = ap (λ (s : ReaderState). s.position) c.in-Ok-true-fill.ensures.same in
     record {
-      reading = reading-more g.R.Source.remaining g.R.Source.has_failed (λ (l : List ℕ). l) c.args.lines.now c.read.lines c.next.new.self c.args.reader.now c.read.reader c.next.new.reader c.read.draft c.add.new.self c.in-Ok-Some.line
-          loop.reading read (subst (λ l. AddsIn c.read.draft.state c.read.draft c.add.new.self l) c.as_slice.ensures c.in-Ok-false.ensures.added);
+      filled = filled-more g.R.Source.remaining g.R.Source.has_failed c.args.input.now now c.fill.new.self c.args.reader.now c.read.reader c.fill.new.reader true loop.filled c.in-Ok-true-fill.ensures.same filled c.in-Ok-true-fill.ensures.failed;
+      so_far = subst (DraftOf draft scan) (sym filled.buffered) (draft-more draft scan now.buffered (draft-uncut draft scan n now.buffered lines) filled.bytes_read);
       open_end = sym c.in-Ok-false.ensures.done ∙ c.in-Ok-false.field-0-test;
-      sound = read.read loop.reading.faultless ∙ sym (or-false (g.R.Source.has_failed c.read.reader)) ∙ loop.sound;
+      fits = subst (λ (p : Position). p.bytes + (scan.bytes + scan.searched) ≤ longest_input) (sym position) (omega (arith, searched, size, fits));
+      ahead = omega (arith, total, ahead, searched, size, within);
     }
 
-pub read-smaller : goal.read-smaller
-read-smaller g c =
-    let read = rw c.in-Ok-Some.field-0-is at c.in-Ok-Some.ensures in
-    omega (arith, read.forward, read.counted)
+pub returns-in-Err-fill : goal.returns-in-Err-fill
+returns-in-Err-fill g c =
+    interrupted g.R.Source.remaining g.R.Source.has_failed (next_item longest_input) IsItemFault c.args.input.now c.fill.new.self c.args.reader.now c.fill.new.reader c.requires.faultless c.requires.unended c.read.input c.read.reader c.in-Err-fill.fault c.read.invariant.filled
+    c.in-Err-fill.ensures.lost (ap (λ (s : ReaderState). s.is_ended) (c.in-Err-fill.ensures.same ∙ ap (λ (s : ReaderState). record s { buffered = c.fill.new.self.buffered }) c.read.invariant.filled.is) ∙ c.requires.unended) c.in-Err-fill.ensures.failed
+    c.in-Err-fill.ensures.interrupted (item-kind c.args.input.now.position)
 
-pub returns-in-Ok-true-clause-reads : goal.returns-in-Ok-true-clause-reads
-returns-in-Ok-true-clause-reads g c =
-    let read = rw c.in-Ok-Some.field-0-is at c.in-Ok-Some.ensures in
-    let loop = c.read.invariant in
-    let reading = reading-more g.R.Source.remaining g.R.Source.has_failed (λ (l : List ℕ). l) c.args.lines.now c.read.lines c.next.new.self c.args.reader.now c.read.reader c.next.new.reader c.read.draft c.add.new.self c.in-Ok-Some.line
-    loop.reading read (subst (λ l. AddsIn c.read.draft.state c.read.draft c.add.new.self l) c.as_slice.ensures c.in-Ok-true.ensures.added) in
-    done-reads g.R.Source.remaining g.R.Source.has_failed c.args.lines.now c.next.new.self c.args.reader.now c.next.new.reader c.add.new.self c.finish.result c.requires.faultless c.requires.unended reading
-    (sym c.in-Ok-true.ensures.done ∙ c.in-Ok-true.field-0-test) read.lookahead (read.read loop.reading.faultless ∙ sym (or-false (g.R.Source.has_failed c.read.reader)) ∙ loop.sound) c.finish.ensures.item c.finish.ensures.kind
+pub returns-in-Ok : goal.returns-in-Ok
+returns-in-Ok g c =
+    let now = c.read.input in
+    let draft = c.add_last_line.new.draft in
+    let within = c.is_beyond_limit.ensures.within c.if-is_beyond_limit.false in
+    let whole : within_limit now ≡ now.buffered = take_all (longest_input - now.position.bytes) now.buffered (omega (arith, within)) in
+    let last = filled-last g.R.Source.remaining g.R.Source.has_failed c.args.input.now now c.fill.new.self c.args.reader.now c.read.reader c.fill.new.reader c.read.invariant.filled c.in-Ok-false-fill.ensures.same
+    (rw c.in-Ok-false-fill.field-0-test at c.in-Ok-false-fill.ensures.filled) c.in-Ok-false-fill.ensures.failed in
+    last-reads g.R.Source.remaining g.R.Source.has_failed c.args.input.now now c.args.reader.now c.fill.new.reader draft last.1 c.requires.faultless c.requires.unended c.in-Ok.count c.end.new.self c.finish-in-Ok.result
+    (subst (DraftOfAll draft c.in-Ok.count) (c.within_limit-2.ensures ∙ ap within_limit last.0 ∙ whole) c.in-Ok.ensures.all) last.2 within
+    (c.end.ensures.ended ∙ ap (λ (s : ReaderState). ended s c.in-Ok.count) last.0) c.end.ensures.counted
+    (c.finish-in-Ok.ensures ∙ result-at _ _ _ _ (result_in draft.state draft.parts) c.count-first.ensures.count c.count-in-Ok.ensures.count)
 
-pub returns-in-Err-add-clause-reads : goal.returns-in-Err-add-clause-reads
-returns-in-Err-add-clause-reads g c =
-    let read = rw c.in-Ok-Some.field-0-is at c.in-Ok-Some.ensures in
-    let loop = c.read.invariant in
-    memory-reads g.R.Source.remaining g.R.Source.has_failed (λ (l : List ℕ). l) c.args.lines.now c.read.lines c.next.new.self c.args.reader.now c.read.reader c.next.new.reader c.read.draft c.in-Ok-Some.line
-    c.requires.faultless c.requires.unended loop.reading read loop.sound
-
-pub returns-in-Ok-None-clause-reads : goal.returns-in-Ok-None-clause-reads
-returns-in-Ok-None-clause-reads g c =
-    let read = rw c.in-Ok-None.field-0-is at c.in-Ok-None.ensures in
-    let loop = c.read.invariant in
-    end-reads g.R.Source.remaining g.R.Source.has_failed (λ (l : List ℕ). l) c.args.lines.now c.read.lines c.next.new.self c.args.reader.now c.read.reader c.next.new.reader c.read.draft c.finish-in-Ok-None.result
-    c.requires.faultless c.requires.unended loop.reading read loop.sound c.finish-in-Ok-None.ensures.item c.finish-in-Ok-None.ensures.kind
-
-pub returns-in-Err-clause-reads : goal.returns-in-Err-clause-reads
-returns-in-Err-clause-reads g c =
-    let loop = c.read.invariant in
-    rw (c.fault_at.ensures) (fault-item g.R.Source.remaining g.R.Source.has_failed (λ (l : List ℕ). l) c.args.lines.now c.read.lines c.next.new.self c.args.reader.now c.read.reader c.next.new.reader c.read.draft c.in-Err.fault
-    c.requires.faultless c.requires.unended loop.reading loop.open_end c.in-Err.ensures loop.sound)
+pub returns-in-Err-add_last_line : goal.returns-in-Err-add_last_line
+returns-in-Err-add_last_line g c =
+    let last = filled-last g.R.Source.remaining g.R.Source.has_failed c.args.input.now c.read.input c.fill.new.self c.args.reader.now c.read.reader c.fill.new.reader c.read.invariant.filled c.in-Ok-false-fill.ensures.same
+    (rw c.in-Ok-false-fill.field-0-test at c.in-Ok-false-fill.ensures.filled) c.in-Ok-false-fill.ensures.failed in
+    no-memory g.R.Source.remaining g.R.Source.has_failed (next_item longest_input) IsItemFault c.args.input.now c.fill.new.self c.args.reader.now c.fill.new.reader c.requires.faultless c.requires.unended c.read.input
+    last.1 (ap (λ (s : ReaderState). s.is_ended) (last.0 ∙ c.read.invariant.filled.is) ∙ c.requires.unended) (item-kind c.args.input.now.position)

@@ -1,17 +1,20 @@
-use Rattle.std.proofs.Common.{◌≡◌, ◌-◌, false, suc}
-use Rattle.dd_file.specs.Position.{longest_input}
+use Rattle.std.proofs.Common.{◌≡◌, ◌+◌, ◌-◌, ◌≤◌, false, suc, length}
+use Rattle.dd_file.specs.Position.{longest_input, longest_lookahead}
 use Rattle.dd_file.specs.Draft.{is_done}
-use Rattle.dd_file.proofs.ItemReading.UntilDone.{ReadingItem}
+use Rattle.dd_file.specs.DraftOf.{DraftOf}
+use Rattle.dd_file.proofs.LineReading.BufferFilled.{Filled}
 use Rattle.dd_file.proofs.reader.read_item.Given as goal
 
--- the lines so far are the item's, and more of them come
+-- the draft has buffered lines, and more of them come; what was read after them has not been searched
 abbrev pub invariant-read : goal.invariant-read
 invariant-read g l = record {
-  reading : ReadingItem g.R.Source.remaining l.fn.lines l.lines l.fn.reader l.reader l.draft;
+  filled : Filled g.R.Source.remaining g.R.Source.has_failed l.fn.input l.input l.fn.reader l.reader;
+  so_far : DraftOf l.draft l.scan l.input.buffered;
   open_end : is_done l.draft.state ≡ false;
-  sound : g.R.Source.has_failed l.reader ≡ g.R.Source.has_failed l.fn.reader;
+  fits : l.input.position.bytes + (l.scan.bytes + l.scan.searched) ≤ longest_input;
+  ahead : length l.input.buffered ≤ (l.scan.bytes + l.scan.searched) + longest_lookahead;
 }
 
--- the lines that are left up to the limit
+-- the bytes that are left up to the limit
 abbrev pub decreases-read : goal.decreases-read
-decreases-read g l = suc longest_input - l.lines.position.lines
+decreases-read g l = suc longest_input - length l.input.buffered

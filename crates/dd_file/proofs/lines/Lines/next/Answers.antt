@@ -1,17 +1,18 @@
-use Rattle.std.proofs.Common.{◌≤◌, List, ℕ, rules}
+use Rattle.std.proofs.Common.{◌≡◌, true, sym, subst, ◌∙◌, rules}
+use Rattle.std.specs.Prelude.{None, Ok}
 use Rattle.dd_file.specs.Position.{longest_input}
-use Rattle.dd_file.proofs.LineReading.FullLineGiven.{full_line-reads, fault-reads}
+use Rattle.dd_file.specs.Grammar.{next_line}
+use Rattle.dd_file.specs.ReaderState.{ReaderState}
+use Rattle.dd_file.specs.Answer.{ReadsOn, IsLineFault}
+use Rattle.dd_file.proofs.LineReading.BufferFilled.{over-stays}
+use Rattle.dd_file.proofs.LineReading.FirstFullLine.{next_line-over}
 use Rattle.dd_file.proofs.lines.Lines.next.Goals as goal
 
-pub returns-in-Ok : goal.returns-in-Ok
-returns-in-Ok g c =
-    let read = c.in-Ok.ensures in
-    full_line-reads _ _ (λ (line : List ℕ). line) c.args.self.now c.read_line.new.self c.take_line.new.self c.args.reader.now c.read_line.new.reader c.in-Ok.full_line.items c.take_line.result
-    (search rules) (search rules) read.moves read.position read.faultless read.full_line read.read c.take_line.ensures
-
-pub returns-in-Err : goal.returns-in-Err
-returns-in-Err g c =
-    let read = c.in-Err.ensures in
-    let fits : c.args.self.now.position.bytes ≤ longest_input = search rules in
-    fault-reads _ _ (λ (line : List ℕ). line) c.args.self.now c.read_line.new.self _ c.args.reader.now c.read_line.new.reader c.in-Err.fault c.self-in-Err.view_is
-    (search rules) (search rules) fits read.moves read.fault read.read
+pub returns-then-is_over : goal.returns-then-is_over
+returns-then-is_over g c =
+    let input = c.self.inside.input in
+    let over = c.is_over.ensures in
+    let ended : input.is_ended ≡ true = sym over.ended ∙ c.if-is_over.true in
+    let faultless : input.fault ≡ None = search rules in
+    subst (λ (s : ReaderState). ReadsOn g.R.Source.remaining g.R.Source.has_failed (next_line longest_input) IsLineFault s s c.args.reader.now c.args.reader.now (Ok None)) c.self.view_is
+    (over-stays g.R.Source.remaining g.R.Source.has_failed (next_line longest_input) IsLineFault input c.args.reader.now faultless ended (over.empty ended) over.counted (next_line-over longest_input input.position over.limit))

@@ -1,28 +1,43 @@
-use Rattle.std.proofs.Common.{◌≡◌, true, take, List, ℕ, refl, sym, ap, subst, ◌∙◌}
-use Rattle.std.specs.Prelude.{Ok, Some}
-use Rattle.ascii_text.specs.Lines.{first_len, line_of, ends_in_newline}
+use Rattle.std.proofs.Common.{◌≡◌, ◌-◌, false, length, refl, sym, ap, subst, ◌∙◌, arith}
+use Rattle.std.specs.Prelude.{Ok, Some, None}
+use Rattle.std.proofs.lemmas.List.{take_all}
 use Rattle.dd_file.specs.Position.{longest_input}
 use Rattle.dd_file.specs.Grammar.{next_line}
 use Rattle.dd_file.specs.ReaderState.{ReaderState}
-use Rattle.dd_file.specs.Buffered.{passed}
+use Rattle.dd_file.specs.Buffered.{BeginsWithLine, CanReadBuffered, HasNoNewline, is_line_buffered, within_limit}
 use Rattle.dd_file.specs.Answer.{ReadsOn, IsLineFault}
-use Rattle.dd_file.proofs.ItemReading.BufferedBytes.{buffered-line, buffered-no_line, same-full_line}
+use Rattle.dd_file.proofs.LineReading.NoNewline.{begins-within, none-nothing}
+use Rattle.dd_file.proofs.LineReading.BufferFilled.{filled-none}
+use Rattle.dd_file.proofs.LineReading.LineBuffered.{line-reads, open-buffered}
 use Rattle.dd_file.proofs.lines.Lines.next_buffered.Goals as goal
 
-pub returns-then-not-ends_in_newline : goal.returns-then-not-ends_in_newline
-returns-then-not-ends_in_newline g c =
-    let state = c.args.self.now in
-    let full_line = same-full_line _ _ c.first_line_len-len.result c.buffered-buffered.ensures c.first_line_len-len.ensures.count in
-    (refl, λ can_read. buffered-no_line state (ap ends_in_newline (sym full_line) ∙ sym c.ends_in_newline.ensures ∙ c.if-not-ends_in_newline.true))
+-- all that is buffered is within the limit
+whole : (state : ReaderState) → CanReadBuffered state → within_limit state ≡ state.buffered
+whole state can_read = let limit = can_read.limit in take_all (longest_input - state.position.bytes) state.buffered (omega (arith, limit))
+
+pub whole_line_from-requires : goal.whole_line_from-requires
+whole_line_from-requires g c = none-nothing c.within_limit.result.now
+
+pub returns-in_err-full_line : goal.returns-in_err-full_line
+returns-in_err-full_line g c =
+    let input = c.self.inside.input in
+    let buffered = c.within_limit.ensures ∙ whole input (c.can_read_buffered.ensures.ready c.if-not-can_read_buffered.false) in
+    rw c.from_residual.ensures (refl, λ _. subst (λ (s : ReaderState). is_line_buffered s.position s.buffered ≡ false) c.self.view_is (open-buffered input (subst (λ b. HasNoNewline (length b) b) buffered c.in_err-full_line.ensures.line)))
 
 pub returns-in-Ok : goal.returns-in-Ok
 returns-in-Ok g c =
-    let state = c.args.self.now in
+    let input = c.self.inside.input in
     let remaining = g.R.Source.remaining in
     let has_failed = g.R.Source.has_failed in
-    let len : c.first_line_len-len.result ≡ first_len state.buffered = c.first_line_len-len.ensures.count ∙ ap first_len c.buffered-buffered.ensures in
-    let full_line = same-full_line _ _ c.first_line_len-len.result c.buffered-buffered.ensures c.first_line_len-len.ensures.count in
-    let whole : ends_in_newline (take (first_len state.buffered) state.buffered) ≡ true = ap ends_in_newline (sym full_line) ∙ sym c.ends_in_newline.ensures ∙ c.if-not-ends_in_newline.false in
-    let line : c.new.result ≡ line_of (take (first_len state.buffered) state.buffered) = c.new.ensures ∙ c.in-Ok.ensures.items ∙ c.line_of.ensures ∙ ap line_of full_line in
-    let read = buffered-line remaining has_failed (λ (l : List ℕ). l) state c.args.reader.now c.new.result (c.can_read_buffered.ensures.ready c.if-not-can_read_buffered.false) c.can_read_buffered.ensures.within whole line in
-    subst (λ (s : ReaderState). ReadsOn remaining has_failed (λ (l : List ℕ). l) (next_line longest_input) IsLineFault state s c.args.reader.now c.args.reader.now (Ok (Some c.new.result))) (sym (c.pass.ensures ∙ ap (passed state 1) len)) read
+    let reader = c.args.reader.now in
+    let full_line = c.in_ok-full_line.full_line.now in
+    let can_read = c.can_read_buffered.ensures.ready c.if-not-can_read_buffered.false in
+    let limit = can_read.limit in
+    let ahead = c.self.invariant can_read.faultless in
+    let begins = subst (BeginsWithLine full_line) (c.within_limit.ensures ∙ whole input can_read) c.in_ok-full_line.ensures.line in
+    let within = begins-within full_line input.buffered begins in
+    let read = line-reads remaining has_failed input input reader reader (filled-none remaining has_failed input reader) can_read.faultless can_read.unended c.pass.new.self 0 full_line c.in-Ok.line
+    begins (omega (arith, limit, within)) c.in_ok-full_line.ensures.searched (omega (arith, ahead)) c.in-Ok.ensures c.pass.ensures.passed c.pass.ensures.counted in
+    let faultless : c.pass.new.self.fault ≡ None = ap (λ (s : ReaderState). s.fault) c.pass.ensures.passed ∙ can_read.faultless in
+    subst (λ (s : ReaderState). ReadsOn remaining has_failed (next_line longest_input) IsLineFault s c.pass.new.self reader reader (Ok (Some c.in-Ok.line))) c.self.view_is
+    (subst (λ f. ReadsOn remaining has_failed (next_line longest_input) IsLineFault input (record c.pass.new.self { fault = f }) reader reader (Ok (Some c.in-Ok.line))) (sym faultless) read)

@@ -1,16 +1,18 @@
-use Rattle.std.proofs.Common.{◌≡◌, ◌≤◌, true, sym, ap, subst, ◌∙◌, rules}
+use Rattle.std.proofs.Common.{◌≡◌, true, sym, subst, ◌∙◌, rules}
+use Rattle.std.specs.Prelude.{None, Ok}
 use Rattle.dd_file.specs.Position.{longest_input}
+use Rattle.dd_file.specs.Grammar.{next_item}
 use Rattle.dd_file.specs.ReaderState.{ReaderState}
-use Rattle.dd_file.proofs.ItemReading.UntilDone.{over-reads_item}
+use Rattle.dd_file.specs.Answer.{ReadsOn, IsItemFault}
+use Rattle.dd_file.proofs.LineReading.BufferFilled.{over-stays}
+use Rattle.dd_file.proofs.LineReading.InputEnd.{next_item-end}
 use Rattle.dd_file.proofs.reader.Reader.next.Goals as goal
 
 pub returns-then-is_over : goal.returns-then-is_over
 returns-then-is_over g c =
-    let state = c.args.self.now in
+    let input = c.self.inside.input in
     let over = c.is_over.ensures in
-    let ended : c.self.inside.lines.is_ended ≡ true = sym over.ended ∙ c.if-is_over.true in
-    let view = c.self.view_is in
-    let limit : state.position.bytes ≤ longest_input = subst (λ (s : ReaderState). s.position.bytes ≤ longest_input) view over.limit in
-    let counted : state.position.lines ≤ longest_input = subst (λ (s : ReaderState). s.position.lines ≤ longest_input) view over.counted in
-    over-reads_item g.R.Source.remaining g.R.Source.has_failed state c.args.reader.now (search rules) (ap (λ (s : ReaderState). s.is_ended) (sym view) ∙ ended)
-    (ap (λ (s : ReaderState). s.buffered) (sym view) ∙ over.empty ended) limit counted
+    let ended : input.is_ended ≡ true = sym over.ended ∙ c.if-is_over.true in
+    let faultless : input.fault ≡ None = search rules in
+    subst (λ (s : ReaderState). ReadsOn g.R.Source.remaining g.R.Source.has_failed (next_item longest_input) IsItemFault s s c.args.reader.now c.args.reader.now (Ok None)) c.self.view_is
+    (over-stays g.R.Source.remaining g.R.Source.has_failed (next_item longest_input) IsItemFault input c.args.reader.now faultless ended (over.empty ended) over.counted (next_item-end longest_input input.position over.limit))

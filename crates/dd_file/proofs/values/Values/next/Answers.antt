@@ -10,7 +10,7 @@ use Rattle.dd_file.proofs.values.Values.next.Goals.{in-Some, in-None}
 
 pub returns-after-split_first : goal.returns-after-split_first
 returns-after-split_first c =
-    let rest = c.self.inside.rest.now in
+    let rest = c.self.inside.text.now in
     let was : c.args.self.now ≡ map trimmed (split_at_commas rest) = sym c.self.view_is ∙ ap (λ left. values_left left rest) c.in-Listed.is in
     let position : c.position_of.result ≡ position_or_len is_comma rest = c.position_of.ensures.position in
     let first : trimmed (take (position_or_len is_comma rest) rest) ≡ c.trimmed.result.now = sym (c.trimmed.ensures ∙ ap trimmed (c.split_at.ensures.front ∙ ap (λ n. take n rest) position)) in
