@@ -1,6 +1,5 @@
 -- Walks over the ids of a set.
 
 pub mod TestOfEachId
-pub mod SideBySide
 pub mod PositionByPosition
 pub mod FirstThat

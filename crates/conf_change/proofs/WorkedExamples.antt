@@ -1,5 +1,5 @@
 -- Small cases, worked out by hand.
-use Rattle.std.proofs.Common.{◌≡◌, ℕ, true, false, List, [], ◌∷◌, refl, ap, ◌∙◌}
+use Rattle.std.proofs.Common.{◌≡◌, ℕ, Bool, true, false, List, [], ◌∷◌, refl, ap, ◌∙◌}
 use Rattle.std.specs.Prelude.{Some, None, codes, Ok, Err}
 use Rattle.quorum_sets.specs.Ids.{has, ids_of, no_ids}
 use Rattle.quorum_sets.proofs.Offered.{has-ids_of, written_out}
@@ -13,6 +13,7 @@ use Rattle.conf_change.specs.declared.step.Step.TheVariants.{Simple, EnterJoint}
 use Rattle.ascii_text.specs.Tokens.{tokens_in}
 use Rattle.conf_change.specs.ChangeList.{changes_in, unknown_token, unknown_input, bad_number}
 use Rattle.conf_change.specs.ConfStateLine.{conf_state_in}
+use Rattle.conf_change.specs.PrintedConfig.{config_tokens_in, config_in}
 use Rattle.conf_change.specs.ConfState.{ConfStateLists, restored}
 use Rattle.conf_change.proofs.ListsOfChanges.ResultOfEach.{has-incoming_after, has-learners_after, has-next_after}
 use Rattle.conf_change.specs.declared.change.Change.{Change}
@@ -87,6 +88,29 @@ refuses_saved : (conf_state_in (codes "Voters: [1] VotersOutgoing:[] Learners:[]
     × (conf_state_in (codes "Voters:[1]  VotersOutgoing:[] Learners:[] LearnersNext:[] AutoLeave:false") ≡ None)
     × (conf_state_in (codes "Voters:[1 ] VotersOutgoing:[] Learners:[] LearnersNext:[] AutoLeave:false") ≡ None)
 refuses_saved = (refl, refl, refl)
+
+-- ---- printed configurations
+printed_tokens : config_tokens_in (codes "voters=(1 2)&&(3)") ≡ codes "voters" ∷ codes "=" ∷ codes "(" ∷ codes "1" ∷ codes "2" ∷ codes ")" ∷ codes "&&" ∷ codes "(" ∷ codes "3" ∷ codes ")" ∷ []
+printed_tokens = refl
+
+abbrev saved : List ℕ → List ℕ → List ℕ → List ℕ → Bool → ConfStateLists
+saved voters voters_outgoing learners learners_next auto_leave =
+    record { voters = voters; voters_outgoing = voters_outgoing; learners = learners; learners_next = learners_next; auto_leave = auto_leave }
+
+reads_printed : config_in (codes "voters=(2 3)&&(1 2) learners=(4) learners_next=(1) autoleave") ≡ Some (saved (2 ∷ 3 ∷ []) (1 ∷ 2 ∷ []) (4 ∷ []) (1 ∷ []) true)
+reads_printed = refl
+
+reads_empty : config_in (codes "voters=()") ≡ Some (saved [] [] [] [] false)
+reads_empty = refl
+
+-- white space between tokens, and zeros before a number
+reads_spaced : config_in (codes " voters = ( 02 1 ) && (3)\tlearners=(4)\n") ≡ Some (saved (2 ∷ 1 ∷ []) (3 ∷ []) (4 ∷ []) [] false)
+reads_spaced = refl
+
+-- a part that is empty, two parts in another order, a space within a token, and what is not a number
+refuses_printed : (config_in (codes "voters=(1) learners=()") ≡ None) × (config_in (codes "voters=(1) learners_next=(2) learners=(3)") ≡ None)
+    × (config_in (codes "voters=(1)& &(2)") ≡ None) × (config_in (codes "voters=(1 -2)") ≡ None)
+refuses_printed = (refl, refl, refl, refl)
 
 abbrev config : List ℕ → List ℕ → List ℕ → List ℕ → Configuration
 config incoming outgoing learners next = record { incoming = ids_of incoming; outgoing = ids_of outgoing; learners = ids_of learners; learners_next = ids_of next; auto_leave = false }

@@ -9,15 +9,16 @@ pub mod TrackerState
 pub mod ChangerState
 pub mod Progress
 pub mod ChangeSummary
-pub mod MemberWalk
 pub mod Roles
 pub mod TrackerEdits
 pub mod Changer
 pub mod Acknowledgement
 pub mod ConfState
+pub mod U64Lists
 pub mod Described
 pub mod Violation
 pub mod Text
 pub mod ChangeList
 pub mod SameChanges
 pub mod ConfStateLine
+pub mod PrintedConfig

@@ -1,9 +1,7 @@
 -- The progress of the members, before and after a step (etcd's `tracker.Progress`).
-use Rattle.std.specs.Prelude.{◌≡◌, ℕ, ◌==◌, Bool, not, ◌&&◌, ◌||◌, List, map, unwrap_or, if◌then◌else◌}
-use Rattle.std.specs.List.{list_any}
+use Rattle.std.specs.Prelude.{ℕ, Bool, not, ◌&&◌, map, unwrap_or, if◌then◌else◌}
 use Rattle.std.specs.FinMap as finite
-use Rattle.quorum_sets.specs.Ids.{Ids, has}
-use Rattle.quorum_sets.specs.AscendingLists.{IsAscending}
+use Rattle.quorum_sets.specs.Ids.{has}
 use Rattle.conf_change.specs.Configuration.{Configuration, is_member, members}
 use Rattle.conf_change.specs.Change.{removes}
 use Rattle.conf_change.specs.Floor.{fresh_next}
@@ -32,12 +30,6 @@ progress_by c of = finite.from_entries (map (λ id. (id, of id)) (members c))
 -- fresh progress of all members
 abbrev pub all_fresh : ℕ → Configuration → ProgressMap
 all_fresh next_index c = progress_by c (λ id. fresh_progress next_index (has c.learners id))
-
--- the entries are fresh progress of exactly the ids of three sets, with the learners marked, in ascending order
-pub record IsFreshOf (next_index : ℕ) (incoming outgoing learners : Ids) (entries : List (ℕ × Progress)) : Type 0 where
-  pub ascends : IsAscending (map (λ m. m.0) entries)
-  pub members : (q : ℕ) → list_any (λ x. q == x) (map (λ m. m.0) entries) ≡ (has incoming q || has outgoing q || has learners q)
-  pub fresh : entries ≡ map (λ id. (id, fresh_progress next_index (has learners id))) (map (λ m. m.0) entries)
 
 -- the id loses its progress in the step: a change removes it, and it is not an outgoing voter afterwards; so r1 v1 in a
 -- simple step makes 1 a new member

@@ -75,9 +75,9 @@ pub enum Invariant {
 }
 
 impl<S: MemberSet> Config<S> {
-    // The empty configuration.
+    /// The empty configuration.
     #[inline(always)]
-    pub(crate) fn empty(alloc: Global) -> Config<S>
+    pub fn empty(alloc: Global) -> Config<S>
         ensures { result ≡ empty_configuration }
     {
         Config {

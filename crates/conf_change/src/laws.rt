@@ -18,7 +18,10 @@ ghost use Rattle.conf_change.specs.Changer.{ChangerState, Accepts, IsSound, begu
 ghost use Rattle.conf_change.specs.Configuration.{Configuration, has_voter, is_restorable, is_same};
 ghost use Rattle.conf_change.specs.ConfState.{ConfStateLists, Describes, is_same_conf_state, lists_of, restored};
 ghost use Rattle.conf_change.specs.Violation.{valid_of};
-ghost use Rattle.conf_change.specs.ConfStateLine.{DenotesConfState, conf_state_in};
+ghost use Rattle.conf_change.specs.ConfStateLine.{DenotesConfState, conf_state_in, conf_state_text};
+ghost use Rattle.conf_change.specs.PrintedConfig.{DenotesConfig, config_in};
+ghost use Rattle.conf_change.specs.Text.{config_text};
+ghost use Rattle.conf_change.specs.U64Lists.{HasU64Lists};
 
 /// A text denotes at most one list of changes, which is the value of `changes_in`; if it denotes none, `changes_in`
 /// gives its first bad token.
@@ -28,10 +31,21 @@ pub fn one_list_per_text()
     ensures one { (text : List ℕ) (a b : List Change) → Denotes text a → Denotes text b → a ≡ b }
 {}
 
-/// A text denotes at most one ConfState, which is the value of `conf_state_in`.
+/// A ConfState line denotes at most one ConfState, which is the value of `conf_state_in`. The line that is printed of a
+/// configuration denotes its ConfState.
 pub fn one_conf_state_per_text()
     ensures some { (text : List ℕ) (saved : ConfStateLists) → (DenotesConfState text saved) ↔ (conf_state_in text ≡ Some saved) }
     ensures one { (text : List ℕ) (a b : ConfStateLists) → DenotesConfState text a → DenotesConfState text b → a ≡ b }
+    ensures printed { (c : Configuration) → HasU64Lists c → DenotesConfState (conf_state_text (lists_of c)) (lists_of c) }
+{}
+
+/// A printed configuration denotes at most one ConfState, which is the value of `config_in`. The text that is printed of
+/// a configuration denotes its ConfState, with the lists in ascending order, and so describes no other configuration.
+pub fn one_config_per_text()
+    ensures some { (text : List ℕ) (saved : ConfStateLists) → (DenotesConfig text saved) ↔ (config_in text ≡ Some saved) }
+    ensures one { (text : List ℕ) (a b : ConfStateLists) → DenotesConfig text a → DenotesConfig text b → a ≡ b }
+    ensures printed { (c : Configuration) → HasU64Lists c → DenotesConfig (config_text c) (lists_of c) }
+    ensures no_other { (c d : Configuration) (saved : ConfStateLists) → HasU64Lists c → DenotesConfig (config_text c) saved → Describes saved d → d ≡ c }
 {}
 
 /// A ConfState has a valid configuration exactly if it describes that configuration, and that is valid; and it has no

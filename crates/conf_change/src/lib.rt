@@ -49,9 +49,9 @@ pub mod configuration_step;
 mod edits;
 pub mod floor;
 pub mod laws;
-mod member_walk;
 mod members;
 mod positions;
+pub mod printed_config;
 pub mod progress;
 pub mod refused;
 pub mod restore;
@@ -74,6 +74,7 @@ pub use configuration_line::{
 };
 pub use configuration_step::next_config;
 pub use floor::Floor;
+pub use printed_config::read_config;
 pub use progress::Progress;
 pub use quorum_sets::union;
 pub use refused::Refused;

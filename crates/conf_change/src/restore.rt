@@ -12,21 +12,21 @@
 ghost use Rattle.std.specs.Prelude.{◌≡◌, Some, None, Err, true, false, map, IfOk, MatchResult};
 ghost use Rattle.std.specs.FinMap as finite;
 ghost use Rattle.quorum_sets.specs.AscendingLists.{IsAscending};
+ghost use Rattle.quorum_sets.specs.Ids.{has, ascending};
 ghost use Rattle.conf_change.specs.Configuration.{Configuration, has_voter_or_is_empty, is_restorable};
 ghost use Rattle.conf_change.specs.ConfState.{Describes, Lists, names_once, restored};
 ghost use Rattle.conf_change.specs.Described.{described};
-ghost use Rattle.conf_change.specs.Progress.{IsFreshOf, all_fresh};
+ghost use Rattle.conf_change.specs.Progress.{fresh_progress, all_fresh};
 ghost use Rattle.conf_change.specs.declared.floor.Floor.TheVariants.{One};
 ghost use Rattle.conf_change.specs.Changer.{IsSound, begun_with};
 
 use crate::changer::Changer;
 use crate::config::{Config, check};
 use crate::floor::Floor;
-use crate::member_walk::{least, step_over};
 use crate::progress::Progress;
 use crate::saved_configuration::{ConfState, SavedLists};
 use crate::tracker::Tracker;
-use quorum_sets::{MemberSet, NoMemory};
+use quorum_sets::{MemberSet, NoMemory, contains_from, union};
 use smallvec::SmallVec;
 use std::alloc::Global;
 use thiserror::Error;
@@ -167,45 +167,28 @@ fn fresh_progress<S: MemberSet>(
     ensures ascends { IfOk result (λ members. IsAscending (map (λ m. m.0) members.items)) }
     ensures fresh { IfOk result (λ members. finite.from_entries members.items ≡ all_fresh next_index config.now) }
 {
-    fresh_of(
-        alloc,
-        &config.incoming,
-        &config.outgoing,
-        &config.learners,
-        next_index,
-    )
+    let voters = union(&config.incoming, &config.outgoing)?;
+    let ids = union(&voters, &config.learners)?;
+    fresh_of(alloc, &ids, &config.learners, next_index)
 }
 
-// Fresh progress of the members of these three sets.
+// Fresh progress of each of these ids, of which these are learners.
 fn fresh_of<S: MemberSet>(
     alloc: Global,
-    incoming: &S,
-    outgoing: &S,
+    ids: &S,
     learners: &S,
     next_index: u64,
 ) -> Result<SmallVec<(u64, Progress), 1>, NoMemory>
-    ensures { IfOk result (λ members. IsFreshOf next_index (S.ids incoming.now) (S.ids outgoing.now) (S.ids learners.now) members.items) }
+    ensures { IfOk result (λ members. members.items ≡ map (λ id. (id, fresh_progress next_index (has (S.ids learners.now) id))) (ascending (S.ids ids.now))) }
 {
     let fresh = Progress::fresh(next_index);
-    let most = incoming
-        .len()
-        .saturating_add(outgoing.len())
-        .saturating_add(learners.len());
-    let mut members = SmallVec::with_capacity(alloc, most)?;
-    let mut incoming_position = 0;
-    let mut outgoing_position = 0;
+    let mut members = SmallVec::with_capacity(alloc, ids.len())?;
     let mut learner_position = 0;
-    loop {
-        let voter = least(
-            incoming.at(incoming_position),
-            outgoing.at(outgoing_position),
-        );
-        let Some(id) = least(voter, learners.at(learner_position)) else {
-            return Ok(members);
-        };
-        step_over(incoming, &mut incoming_position, id);
-        step_over(outgoing, &mut outgoing_position, id);
-        let learner = step_over(learners, &mut learner_position, id);
-        members.push((id, Progress { learner, ..fresh }))?;
+    for position in 0..ids.len() {
+        if let Some(id) = ids.at(position) {
+            let learner = contains_from(learners, &mut learner_position, id);
+            members.push((id, Progress { learner, ..fresh }))?;
+        }
     }
+    Ok(members)
 }

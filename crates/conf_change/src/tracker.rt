@@ -19,7 +19,7 @@ ghost use Rattle.conf_change.specs.Changer.{IsSound, empty_tracker, tracker_of};
 ghost use Rattle.conf_change.specs.Acknowledgement.{with_progress};
 
 use crate::change::{Change, Kind};
-use crate::change_summary::{ChangeSummary, summarize};
+use crate::change_summary::summarize;
 use crate::config::Config;
 use crate::edits;
 use crate::floor::Floor;
@@ -285,15 +285,16 @@ impl<S: MemberSet> Tracker<S> {
         let mut learners_next = S::empty(alloc);
         let mut members = SmallVec::with_capacity(alloc, summaries.len())?;
         let mut positions = Positions::default();
-        for summary in summaries.as_slice() {
+        for (&id, summary) in &summaries {
             let roles = self
-                .roles(&outgoing, summary.id, &mut positions)
+                .roles(&outgoing, id, &mut positions)
                 .after(summary.last);
-            insert_if(&mut incoming, summary.id, roles.incoming)?;
-            insert_if(&mut learners, summary.id, roles.learner)?;
-            insert_if(&mut learners_next, summary.id, roles.next)?;
-            let entry = self.entry_after(*summary, roles, next_index, &mut positions.members);
-            push_entry(&mut members, summary.id, entry)?;
+            insert_if(&mut incoming, id, roles.incoming)?;
+            insert_if(&mut learners, id, roles.learner)?;
+            insert_if(&mut learners_next, id, roles.next)?;
+            let removes = summary.removes;
+            let entry = self.entry_after(id, removes, roles, next_index, &mut positions.members);
+            push_entry(&mut members, id, entry)?;
         }
         let config = Config {
             incoming,
@@ -317,26 +318,27 @@ impl<S: MemberSet> Tracker<S> {
         }
     }
 
-    // The progress of an id after the changes of a summary. A member keeps its progress, unless a change removes it and
-    // it is not an outgoing voter; then, or if it is new, it gets fresh progress. Any other id has none. After `r1 v1`,
-    // for example, 1 begins anew unless it is an outgoing voter.
+    // The progress of an id after a list of changes that may remove it, and its roles then. A member keeps its
+    // progress, unless a change removes it and it is not an outgoing voter; then, or if it is new, it gets fresh
+    // progress. Any other id has none. After `r1 v1`, for example, 1 begins anew unless it is an outgoing voter.
     fn entry_after(
         &self,
-        summary: ChangeSummary,
+        id: u64,
+        removes: bool,
         roles: Roles,
         next_index: u64,
         position: &mut usize,
     ) -> Option<Progress>
-        ensures { result ≡ entry_of next_index (has_member_role roles) roles.learner (progress_left_after summary.removes roles.outgoing (finite.get self.now.progress summary.id)) }
+        ensures { result ≡ entry_of next_index (has_member_role roles) roles.learner (progress_left_after removes roles.outgoing (finite.get self.now.progress id)) }
     {
         if !roles.is_member() {
             return None;
         }
         let fresh = Progress::fresh(next_index);
-        let known = if summary.removes && !roles.outgoing {
+        let known = if removes && !roles.outgoing {
             fresh
         } else {
-            self.next_progress(position, summary.id).unwrap_or(fresh)
+            self.next_progress(position, id).unwrap_or(fresh)
         };
         let learner = roles.learner;
         Some(Progress { learner, ..known })

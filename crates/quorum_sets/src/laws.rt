@@ -41,16 +41,17 @@ pub fn values_in_any_order()
 {}
 
 /// If two pairs of voter sets are neighbours, each quorum of one shares an id with each quorum of the other (Ongaro's
-/// dissertation, 4.1 and 4.3). So a term has at most one leader, even while the voters change: the shared id votes only
-/// once in a term.
+/// dissertation, 4.1 and 4.3). That a term has at most one leader rests on it, but takes more, which is Raft's part: a
+/// server votes once in a term, and one change is made at a time.
 pub fn neighbours_overlap()
     ensures before { (before after : Voters) → AreNeighbours before after → QuorumsMeet before after }
     ensures after { (before after : Voters) → AreNeighbours before after → QuorumsMeet after before }
 {}
 
 /// If two pairs of voter sets are neighbours and one of them has committed an index, then in each vote that is won in
-/// the other, some id that voted yes has acknowledged that index. So a leader that is elected after a change has what
-/// was committed before it, since a server votes for no candidate whose log is less up to date than its own.
+/// the other, some id that voted yes has acknowledged that index. That a leader has what was committed before it was
+/// elected rests on it, but takes more, which is Raft's part: a server votes for no candidate whose log is less up to
+/// date than its own, and one change is made at a time.
 pub fn committed_meets_won()
     ensures before { (before after : Voters) → AreNeighbours before after → CommittedMeetsWon before after }
     ensures after { (before after : Voters) → AreNeighbours before after → CommittedMeetsWon after before }

@@ -3,10 +3,10 @@ use Rattle.std.proofs.Common.{◌≡◌, ℕ, ◌+◌, Bool, true, false, cond, 
 use Rattle.std.specs.Prelude.{◌↔◌, count_by}
 use Rattle.std.specs.Bool.{beq}
 use Rattle.std.specs.List.{list_any}
-use Rattle.std.proofs.lemmas.Bool.{true≢false, or_cases, or_left, or_right, and_parts, and_from, not_from_true}
+use Rattle.std.proofs.lemmas.Bool.{true≢false, or_cases, and_parts, and_from, not_from_true}
 use Rattle.std.proofs.lemmas.List.Sums.{sum_by-cons}
 use Rattle.quorum_sets.specs.Ids.{Ids, has, ascending, difference_count}
-use Rattle.quorum_sets.proofs.Offered.{has-ascending, has-same_ids}
+use Rattle.quorum_sets.proofs.Offered.{count_by-none, has-ascending, has-same_ids}
 use Rattle.conf_change.specs.Configuration.{Configuration, is_same_set, is_same}
 
 -- ---- a count of 0
@@ -22,12 +22,6 @@ none_counted test (x ∷ xs) none q here =
       | inl same ↦ ap test (eqb-true q x same) ∙ no_one (test x) (omega arith)
       | inr later ↦ none_counted test xs (omega arith) q later
     ]
-
-count_by-none : (test : ℕ → Bool) (xs : List ℕ) → ((q : ℕ) → list_any (λ x. q == x) xs ≡ true → test q ≡ false) → count_by test xs ≡ 0
-count_by-none test [] none = refl
-count_by-none test (x ∷ xs) none =
-    sum_by-cons (λ y. cond (test y) 1 0) x xs
-    ∙ (λ i. cond (none x (or_left (x == x) _ (eq-eqb x x refl)) i) 1 0 + count_by-none test xs (λ q later. none q (or_right (q == x) _ later)) i)
 
 -- ---- sets
 alike : (a b : Bool) → (a ≡ true → not b ≡ false) → (b ≡ true → not a ≡ false) → a ≡ b

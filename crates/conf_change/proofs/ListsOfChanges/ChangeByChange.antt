@@ -5,7 +5,6 @@ use Rattle.std.specs.Ordering.{nat_cmp}
 use Rattle.std.specs.FinMap as finite
 use Rattle.std.proofs.lemmas.Bool.{false≢true, and_parts, not-false}
 use Rattle.std.proofs.lemmas.List.{take_more}
-use Rattle.std.proofs.lemmas.List.Folds.{list_any-append}
 use Rattle.std.specs.Cmp.{nat_eq_equiv}
 use Rattle.quorum_sets.specs.Ids.{Ids, has, is_empty}
 use Rattle.quorum_sets.specs.AscendingLists.{IsAscending}
@@ -21,7 +20,7 @@ use Rattle.conf_change.specs.declared.change.Kind.{Kind}
 use Rattle.conf_change.specs.declared.change.Kind.TheVariants.{Voter, Learner, Remove, Update}
 use Rattle.conf_change.specs.declared.progress.Progress.{Progress}
 use Rattle.conf_change.specs.declared.roles.Membership.{Membership}
-use Rattle.conf_change.proofs.ListsOfChanges.ResultOfEach.{has-incoming_after, has-learners_after, result_of-push, last_effective-one, result_of-none}
+use Rattle.conf_change.proofs.ListsOfChanges.ResultOfEach.{has-incoming_after, has-learners_after, result_of-push, last_effective-one, removes-push, result_of-none}
 use Rattle.conf_change.proofs.Configurations.Validity.{ValidByMember-from_is_valid, has-none_in_empty}
 
 -- ---- one id, by what is true of it
@@ -120,15 +119,6 @@ step_at next_index Update true false incoming out learner removed had none here 
 pub record AppliedSoFar (next_index : ℕ) (changes : List Change) (before after : TrackerState) : Type 0 where
   pub applied : Applies next_index changes before after
   pub members : (q : ℕ) → is_some (progress_left before changes q) ≡ true → is_member after.config q ≡ true
-
-or_false : (a b : Bool) → (a || (b || false)) ≡ (a || b)
-or_false true b = refl
-or_false false true = refl
-or_false false false = refl
-
-removes-push : (xs : List Change) (x : Change) (q : ℕ) → removes (xs ++ x ∷ []) q ≡ (removes xs q || ((x.id == q) && is_removal x.kind))
-removes-push xs x q =
-    list_any-append (λ change. (change.id == q) && is_removal change.kind) xs (x ∷ []) ∙ or_false (removes xs q) ((x.id == q) && is_removal x.kind)
 
 applied_none : (next_index : ℕ) (t : TrackerState) → HasEntries next_index t.config t.progress → AppliedSoFar next_index [] t t
 applied_none next_index t expected = record {

@@ -2,6 +2,7 @@
 use Rattle.std.proofs.Common.{◌≡◌, ℕ, Bool, true, false, cond, not, ◌&&◌, ◌||◌, ◌==◌, List, [], ◌∷◌, ◌++◌, map, reverse, refl, sym, ap, subst, ◌∙◌, T, ◌≢◌, eqb→eq, ◌+◌, ◌<◌, length, take, get_or}
 use Rattle.std.specs.Prelude.{Option, Some, None, find, option_map, is_some}
 use Rattle.std.specs.Cmp.{nat_eq_equiv}
+use Rattle.std.proofs.Math.Bool.{or-false}
 use Rattle.std.proofs.lemmas.Bool.{false≢true}
 use Rattle.std.proofs.lemmas.List.{reverse-append, take_more}
 use Rattle.std.proofs.lemmas.List.Folds.{list_any-append}
@@ -9,7 +10,7 @@ use Rattle.std.specs.List.{list_any}
 use Rattle.quorum_sets.specs.Ids.{Ids, has, ascending, ids_where, with_id, without_id}
 use Rattle.quorum_sets.proofs.Offered.{has-ids_where, has-ascending, has-same_ids, has-with_id, has-without_id}
 use Rattle.conf_change.specs.Configuration.{Configuration}
-use Rattle.conf_change.specs.Change.{names, last_effective, named_or_in, is_update, is_incoming_after, is_learner_after, is_next_after, result_of}
+use Rattle.conf_change.specs.Change.{names, last_effective, named_or_in, is_update, is_removal, is_incoming_after, is_learner_after, is_next_after, removes, result_of}
 use Rattle.conf_change.specs.declared.change.Change.{Change}
 use Rattle.conf_change.specs.declared.change.Kind.{Kind}
 use Rattle.conf_change.specs.declared.change.Kind.TheVariants.{Voter, Learner, Remove, Update}
@@ -25,6 +26,10 @@ reverse-push xs x = reverse-append xs (x ∷ [])
 -- one more change has the last effective change on the ids that it names
 pub last_effective-push : (xs : List Change) (x : Change) (id : ℕ) → last_effective (xs ++ x ∷ []) id ≡ cond (names id x) (Some x.kind) (last_effective xs id)
 last_effective-push xs x id = ap (λ ys. option_map (λ change. change.kind) (find (names id) ys)) (reverse-push xs x) ∙ of_cond (names id x) x _
+
+pub removes-push : (xs : List Change) (x : Change) (id : ℕ) → removes (xs ++ x ∷ []) id ≡ (removes xs id || ((x.id == id) && is_removal x.kind))
+removes-push xs x id =
+    list_any-append (λ change. (change.id == id) && is_removal change.kind) xs (x ∷ []) ∙ ap (λ b. removes xs id || b) (or-false ((x.id == id) && is_removal x.kind))
 
 -- a list of one change
 pub last_effective-one : (x : Change) (q : ℕ) → last_effective (x ∷ []) q ≡ cond (names q x) (Some x.kind) None

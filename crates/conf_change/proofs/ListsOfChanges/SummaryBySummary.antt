@@ -1,18 +1,20 @@
 -- What the walk over the last effective changes makes.
-use Rattle.std.proofs.Common.{◌≡◌, ℕ, ◌+◌, ◌<◌, ◌≤◌, inl, inr, Bool, true, false, cond, ◌&&◌, ◌||◌, ◌==◌, List, [], ◌∷◌, ◌++◌, length, map, take, get_or, refl, sym, ap, subst, ◌∙◌, eqb-true}
+use Rattle.std.proofs.Common.{◌≡◌, ℕ, inl, inr, Bool, true, false, cond, ◌&&◌, ◌||◌, ◌==◌, List, [], ◌∷◌, ◌++◌, map, refl, sym, ap, subst, ◌∙◌, eqb-true}
 use Rattle.std.specs.Prelude.{Option, Some, None, is_some}
 use Rattle.std.specs.Ordering.{nat_cmp}
+use Rattle.std.specs.BTreeMap.{BTreeMap, keys, IsOrdered}
+use Rattle.std.specs.Map.{keys_of}
 use Rattle.std.specs.FinMap as finite
 use Rattle.std.specs.List.{list_any}
 use Rattle.std.proofs.lemmas.Bool.{or_cases, or_left, or_right, and_parts}
-use Rattle.std.proofs.lemmas.List.{take_more, take_all, flat_map_more, length-map}
+use Rattle.std.proofs.lemmas.List.{append_assoc, append-nil, flat_map_more, map-append}
 use Rattle.std.proofs.lemmas.List.Folds.{list_any-append}
 use Rattle.quorum_sets.specs.Ids.{Ids, no_ids, has, with_id, ids_where}
 use Rattle.quorum_sets.specs.AscendingLists.{IsAscending}
-use Rattle.quorum_sets.proofs.Offered.{has-no_ids, has-with_id, has-ids_where, has-same_ids}
+use Rattle.quorum_sets.proofs.Offered.{has-no_ids, has-with_id, has-ids_where, has-same_ids, lookup-from_entries}
 use Rattle.conf_change.specs.Configuration.{is_member}
 use Rattle.conf_change.specs.Change.{last_effective, is_incoming_after, is_learner_after, is_next_after, result_of}
-use Rattle.conf_change.specs.ChangeSummary.{has_entry, Summarizes, ListsSummaries}
+use Rattle.conf_change.specs.ChangeSummary.{summary_in, AreSummaries}
 use Rattle.conf_change.specs.Roles.{roles_in, roles_after, has_member_role}
 use Rattle.conf_change.specs.TrackerState.{TrackerState}
 use Rattle.conf_change.specs.TrackerEdits.{beginning, entry_of, progress_left, progress_left_after, entries_of, Applies}
@@ -23,7 +25,7 @@ use Rattle.conf_change.specs.declared.floor.Floor.{Floor}
 use Rattle.conf_change.specs.declared.change_summary.ChangeSummary.{ChangeSummary}
 use Rattle.conf_change.specs.declared.progress.Progress.{Progress}
 use Rattle.conf_change.specs.declared.roles.Roles.{Roles}
-use Rattle.conf_change.proofs.ListsOfChanges.JoinedEntries.{ids, ids-at}
+use Rattle.conf_change.proofs.ListsOfChanges.Summaries.{summary_in-next}
 use Rattle.conf_change.proofs.MemberProgress.Picked.{picked, get-picked, keys-get, ascends-picked_ids}
 use Rattle.conf_change.proofs.ListsOfChanges.ResultOfEach.{has-incoming_after, has-learners_after, has-next_after, configuration-by_members, last_effective-is_named}
 use Rattle.conf_change.proofs.Configurations.Validity.{ValidByMember-from_is_valid}
@@ -98,37 +100,64 @@ where_more p passed x s after was is =
     ∙ one_more (p x) (q == x) (list_any (λ y. q == y) passed) (p q) (λ e. ap p (eqb-true q x e))
     ∙ sym (has-ids_where p (passed ++ x ∷ []) q ∙ ap (λ b. p q && b) (list_any-append (λ y. q == y) passed (x ∷ []))))
 
-pub walked-one_more : (next_index : ℕ) (t : TrackerState) (xs : List Change) (summaries : List ChangeSummary) (k : ℕ) (d : ChangeSummary)
+pub walked-one_more : (next_index : ℕ) (t : TrackerState) (xs : List Change) (passed : List ℕ) (id : ℕ) (summary : ChangeSummary)
     (incoming learners next incoming' learners' next' : Ids) (members members' : List (ℕ × Progress)) (sat roles : Roles) (entry : Option Progress)
-    → k < length summaries → Summarizes xs (get_or summaries k d) → WalkedSoFar next_index t xs (take k (ids summaries)) incoming learners next members
-    → (let w = get_or summaries k d in
-    sat ≡ roles_in t.config w.id → roles ≡ roles_after sat w.last
-    → incoming' ≡ cond roles.incoming (with_id incoming w.id) incoming
-    → learners' ≡ cond roles.learner (with_id learners w.id) learners
-    → next' ≡ cond roles.next (with_id next w.id) next
-    → entry ≡ entry_of next_index (has_member_role roles) roles.learner (progress_left_after w.removes roles.outgoing (finite.get t.progress w.id))
-    → members' ≡ members ++ entries_of w.id entry
-    → WalkedSoFar next_index t xs (take (k + 1) (ids summaries)) incoming' learners' next' members')
-walked-one_more next_index t xs summaries k d incoming learners next incoming' learners' next' members members' sat roles entry within summarizes so_far sat_is roles_are i l n entry_is m =
-    let w = get_or summaries k d in
-    let passed = take k (ids summaries) in
-    let s : roles ≡ roles_after (roles_in t.config w.id) (last_effective xs w.id) = roles_are ∙ (λ j. roles_after (sat_is j) (summarizes.last j)) in
-    let e : entry ≡ entry_then next_index t xs w.id =
-    entry_is ∙ (λ j. entry_of next_index (has_member_role (s j)) (s j).learner (progress_left_after (summarizes.removal j) (s j).outgoing (finite.get t.progress w.id))) in
-    let long : length (ids summaries) ≡ length summaries = length-map summaries (λ v. v.id) in
-    let more : take (k + 1) (ids summaries) ≡ passed ++ w.id ∷ [] = take_more (ids summaries) k 0 (subst (λ z. k < z) (sym long) within) ∙ ap (λ x. passed ++ x ∷ []) (ids-at summaries k d within) in
-    subst (λ p. WalkedSoFar next_index t xs p incoming' learners' next' members') (sym more) (record {
-      incoming_is = where_more (incoming_then t xs) passed w.id incoming incoming' so_far.incoming_is (i ∙ ap (λ v. cond v.incoming (with_id incoming w.id) incoming) s);
-      learners_are = where_more (learner_then t xs) passed w.id learners learners' so_far.learners_are (l ∙ ap (λ v. cond v.learner (with_id learners w.id) learners) s);
-      next_are = where_more (next_then t xs) passed w.id next next' so_far.next_are (n ∙ ap (λ v. cond v.next (with_id next w.id) next) s);
-      members_are = m ∙ (λ j. so_far.members_are j ++ entries_of w.id (e j)) ∙ flat_map_more (λ q. entries_of q (entry_then next_index t xs q)) [] passed w.id;
-    })
+    → summary ≡ summary_in xs id → WalkedSoFar next_index t xs passed incoming learners next members
+    → sat ≡ roles_in t.config id → roles ≡ roles_after sat summary.last
+    → incoming' ≡ cond roles.incoming (with_id incoming id) incoming
+    → learners' ≡ cond roles.learner (with_id learners id) learners
+    → next' ≡ cond roles.next (with_id next id) next
+    → entry ≡ entry_of next_index (has_member_role roles) roles.learner (progress_left_after summary.removes roles.outgoing (finite.get t.progress id))
+    → members' ≡ members ++ entries_of id entry
+    → WalkedSoFar next_index t xs (passed ++ id ∷ []) incoming' learners' next' members'
+walked-one_more next_index t xs passed id summary incoming learners next incoming' learners' next' members members' sat roles entry is so_far sat_is roles_are i l n entry_is m =
+    let s : roles ≡ roles_after (roles_in t.config id) (last_effective xs id) = roles_are ∙ (λ j. roles_after (sat_is j) (is j).last) in
+    let e : entry ≡ entry_then next_index t xs id =
+    entry_is ∙ (λ j. entry_of next_index (has_member_role (s j)) (s j).learner (progress_left_after (is j).removes (s j).outgoing (finite.get t.progress id))) in
+    record {
+      incoming_is = where_more (incoming_then t xs) passed id incoming incoming' so_far.incoming_is (i ∙ ap (λ v. cond v.incoming (with_id incoming id) incoming) s);
+      learners_are = where_more (learner_then t xs) passed id learners learners' so_far.learners_are (l ∙ ap (λ v. cond v.learner (with_id learners id) learners) s);
+      next_are = where_more (next_then t xs) passed id next next' so_far.next_are (n ∙ ap (λ v. cond v.next (with_id next id) next) s);
+      members_are = m ∙ (λ j. so_far.members_are j ++ entries_of id (e j)) ∙ flat_map_more (λ q. entries_of q (entry_then next_index t xs q)) [] passed id;
+    }
+
+-- ---- the walk over the entries of a map
+-- what is made of the entries before the rest
+pub record WalkedOver (next_index : ℕ) (t : TrackerState) (xs : List Change) (all rest : List (ℕ × ChangeSummary)) (incoming learners next : Ids) (members : List (ℕ × Progress)) : Type 0 where
+  pub done : List (ℕ × ChangeSummary)
+  pub left : done ++ rest ≡ all
+  pub walked : WalkedSoFar next_index t xs (keys_of done) incoming learners next members
+
+pub walked_over-one_more : (next_index : ℕ) (t : TrackerState) (xs : List Change) (summaries : BTreeMap ℕ ChangeSummary) (ids : List ℕ) (all rest rest' : List (ℕ × ChangeSummary)) (id : ℕ) (summary : ChangeSummary)
+    (incoming learners next incoming' learners' next' : Ids) (members members' : List (ℕ × Progress)) (sat roles : Roles) (entry : Option Progress)
+    → AreSummaries ids xs summaries → IsOrdered nat_cmp summaries → all ≡ summaries.entries → rest ≡ (id, summary) ∷ rest'
+    → WalkedOver next_index t xs all rest incoming learners next members
+    → sat ≡ roles_in t.config id → roles ≡ roles_after sat summary.last
+    → incoming' ≡ cond roles.incoming (with_id incoming id) incoming
+    → learners' ≡ cond roles.learner (with_id learners id) learners
+    → next' ≡ cond roles.next (with_id next id) next
+    → entry ≡ entry_of next_index (has_member_role roles) roles.learner (progress_left_after summary.removes roles.outgoing (finite.get t.progress id))
+    → members' ≡ members ++ entries_of id entry
+    → WalkedOver next_index t xs all rest' incoming' learners' next' members'
+walked_over-one_more next_index t xs summaries ids all rest rest' id summary incoming learners next incoming' learners' next' members members' sat roles entry are ordered whole first so_far sat_is roles_are i l n entry_is m =
+    let done = so_far.done in
+    let left : done ++ (id, summary) ∷ rest' ≡ all = ap (λ es. done ++ es) (sym first) ∙ so_far.left in
+    let more : keys_of (done ++ (id, summary) ∷ []) ≡ keys_of done ++ id ∷ [] = map-append (λ (e : ℕ × ChangeSummary). e.0) done ((id, summary) ∷ []) in
+    record {
+      done = done ++ (id, summary) ∷ [];
+      left = append_assoc done ((id, summary) ∷ []) rest' ∙ left;
+      walked = subst (λ passed. WalkedSoFar next_index t xs passed incoming' learners' next' members') (sym more)
+          (walked-one_more next_index t xs (keys_of done) id summary incoming learners next incoming' learners' next' members members' sat roles entry
+          (summary_in-next ids xs summaries done rest' id summary are ordered (left ∙ whole)) so_far.walked sat_is roles_are i l n entry_is m);
+    }
+
+pub walked_over-all : (next_index : ℕ) (t : TrackerState) (xs : List Change) (summaries : BTreeMap ℕ ChangeSummary) (all rest : List (ℕ × ChangeSummary)) (incoming learners next : Ids) (members : List (ℕ × Progress))
+    → all ≡ summaries.entries → rest ≡ [] → WalkedOver next_index t xs all rest incoming learners next members → WalkedSoFar next_index t xs (keys summaries) incoming learners next members
+walked_over-all next_index t xs summaries all rest incoming learners next members whole none so_far =
+    subst (λ es. WalkedSoFar next_index t xs (keys_of es) incoming learners next members)
+    (sym (append-nil so_far.done) ∙ ap (λ es. so_far.done ++ es) (sym none) ∙ so_far.left ∙ whole) so_far.walked
 
 -- ---- at the end
-any-ids : (ws : List ChangeSummary) (q : ℕ) → list_any (λ x. q == x) (ids ws) ≡ has_entry ws q
-any-ids [] q = refl
-any-ids (w ∷ ws) q = ap (λ b. (q == w.id) || b) (any-ids ws q)
-
 any-named : (xs : List Change) (q : ℕ) → list_any (λ m. q == m) (map (λ change. change.id) xs) ≡ list_any (λ change. q == change.id) xs
 any-named [] q = refl
 any-named (x ∷ xs) q = ap (λ b. (q == x.id) || b) (any-named xs q)
@@ -145,56 +174,57 @@ second_test_suffices true m p f = refl
 second_test_suffices false true p f = ap (λ b. cond b (Some p) None) (f refl)
 second_test_suffices false false p f = refl
 
--- an id that has a last effective change, or was a member, has an entry
-record Covers (before : TrackerState) (xs : List Change) (summaries : List ChangeSummary) : Type 0 where
-  named : (q : ℕ) (kind : Kind) → last_effective xs q ≡ Some kind → has_entry summaries q ≡ true
-  known : (q : ℕ) → is_member before.config q ≡ true → has_entry summaries q ≡ true
+-- an id that has a last effective change, or was a member, is passed
+record Covers (before : TrackerState) (xs : List Change) (passed : List ℕ) : Type 0 where
+  named : (q : ℕ) (kind : Kind) → last_effective xs q ≡ Some kind → list_any (λ x. q == x) passed ≡ true
+  known : (q : ℕ) → is_member before.config q ≡ true → list_any (λ x. q == x) passed ≡ true
 
-covers : (before : TrackerState) (es : List (ℕ × Progress)) (xs : List Change) (summaries : List ChangeSummary) → IsSound before → finite.from_entries {R = nat_cmp} es ≡ before.progress
-    → ListsSummaries (map (λ m. m.0) es) xs summaries → Covers before xs summaries
-covers before es xs summaries sound same lists = record {
-  named = λ q kind e. lists.entries q ∙ or_right (list_any (λ id. q == id) (map (λ m. m.0) es)) _ (sym (any-named xs q) ∙ last_effective-is_named xs q kind e);
-  known = λ q e.
-      lists.entries q
-      ∙ or_left _ (list_any (λ change. q == change.id) xs) (sym (keys-get es q) ∙ ap (λ m. is_some (finite.get m q)) same ∙ sound.of_members q ∙ e);
-}
+covers : (before : TrackerState) (es : List (ℕ × Progress)) (xs : List Change) (summaries : BTreeMap ℕ ChangeSummary) → IsSound before → finite.from_entries {R = nat_cmp} es ≡ before.progress
+    → AreSummaries (map (λ m. m.0) es) xs summaries → Covers before xs (keys summaries)
+covers before es xs summaries sound same are =
+    let passed : (q : ℕ) → list_any (λ x. q == x) (keys summaries) ≡ (list_any (λ id. q == id) (map (λ (m : ℕ × Progress). m.0) es) || list_any (λ change. q == change.id) xs) =
+    λ q. sym (ap is_some (lookup-from_entries q summaries.entries) ∙ keys-get summaries.entries q) ∙ are.entries q in
+    record {
+      named = λ q kind e. passed q ∙ or_right (list_any (λ id. q == id) (map (λ (m : ℕ × Progress). m.0) es)) _ (sym (any-named xs q) ∙ last_effective-is_named xs q kind e);
+      known = λ q e.
+          passed q
+          ∙ or_left _ (list_any (λ change. q == change.id) xs) (sym (keys-get es q) ∙ ap (λ m. is_some (finite.get m q)) same ∙ sound.of_members q ∙ e);
+    }
 
-covered_by : (before : TrackerState) (xs : List Change) (summaries : List ChangeSummary) → Covers before xs summaries → (q : ℕ) (f : Option Kind → Bool) → (f None ≡ true → is_member before.config q ≡ true)
-    → (o : Option Kind) → last_effective xs q ≡ o → f o ≡ true → has_entry summaries q ≡ true
-covered_by before xs summaries c q f was None e d = c.known q (was d)
-covered_by before xs summaries c q f was (Some kind) e d = c.named q kind e
+covered_by : (before : TrackerState) (xs : List Change) (passed : List ℕ) → Covers before xs passed → (q : ℕ) (f : Option Kind → Bool) → (f None ≡ true → is_member before.config q ≡ true)
+    → (o : Option Kind) → last_effective xs q ≡ o → f o ≡ true → list_any (λ x. q == x) passed ≡ true
+covered_by before xs passed c q f was None e d = c.known q (was d)
+covered_by before xs passed c q f was (Some kind) e d = c.named q kind e
 
-pub walked-applies : (next_index : ℕ) (before : TrackerState) (floor : Floor) (outgoing : Ids) (auto_leave : Bool) (es : List (ℕ × Progress)) (xs : List Change) (summaries : List ChangeSummary) (k : ℕ)
+pub walked-applies : (next_index : ℕ) (before : TrackerState) (floor : Floor) (outgoing : Ids) (auto_leave : Bool) (es : List (ℕ × Progress)) (xs : List Change) (summaries : BTreeMap ℕ ChangeSummary)
     (incoming learners next : Ids) (members : List (ℕ × Progress))
     → IsSound before → floor ≡ before.floor → ((q : ℕ) → has outgoing q ≡ true → is_member before.config q ≡ true) → finite.from_entries {R = nat_cmp} es ≡ before.progress
-    → ListsSummaries (map (λ m. m.0) es) xs summaries → length summaries ≤ k
-    → WalkedSoFar next_index (beginning before outgoing auto_leave) xs (take k (ids summaries)) incoming learners next members
+    → AreSummaries (map (λ m. m.0) es) xs summaries → WalkedSoFar next_index (beginning before outgoing auto_leave) xs (keys summaries) incoming learners next members
     → Applies next_index xs (beginning before outgoing auto_leave)
     (tracker_of floor (record { incoming = incoming; outgoing = outgoing; learners = learners; learners_next = next; auto_leave = auto_leave }) (finite.from_entries members))
-walked-applies next_index before floor outgoing auto_leave es xs summaries k incoming learners next members sound same_floor inside same lists past so_far =
+walked-applies next_index before floor outgoing auto_leave es xs summaries incoming learners next members sound same_floor inside same are walked =
     let t = beginning before outgoing auto_leave in
-    let long : length (ids summaries) ≡ length summaries = length-map summaries (λ v. v.id) in
-    let walked = subst (λ p. WalkedSoFar next_index t xs p incoming learners next members) (take_all k (ids summaries) (subst (λ z. z ≤ k) (sym long) past)) so_far in
-    let c = covers before es xs summaries sound same lists in
+    let passed = keys summaries in
+    let c = covers before es xs summaries sound same are in
     let old = before.config in
     let valid = ValidByMember-from_is_valid old (and_parts _ _ sound.restorable).0 in
-    let in_covered : (q : ℕ) → incoming_then t xs q ≡ true → has_entry summaries q ≡ true =
-    λ q. covered_by before xs summaries c q (λ o. is_incoming_after o (has old.incoming q)) (λ h. or_left (has old.incoming q || has old.outgoing q) (has old.learners q) (or_left (has old.incoming q) (has old.outgoing q) h)) (last_effective xs q) refl in
-    let learner_covered : (q : ℕ) → learner_then t xs q ≡ true → has_entry summaries q ≡ true =
-    λ q. covered_by before xs summaries c q (λ o. is_learner_after o (has outgoing q) (has old.learners q)) (λ h. or_right (has old.incoming q || has old.outgoing q) (has old.learners q) h) (last_effective xs q) refl in
-    let next_covered : (q : ℕ) → next_then t xs q ≡ true → has_entry summaries q ≡ true =
-    λ q. covered_by before xs summaries c q (λ o. is_next_after o (has outgoing q) (has old.learners_next q)) (λ h. or_left (has old.incoming q || has old.outgoing q) (has old.learners q) (or_right (has old.incoming q) (has old.outgoing q) (valid.next_outgoing q h))) (last_effective xs q) refl in
-    let member_covered : (q : ℕ) → member_then t xs q ≡ true → has_entry summaries q ≡ true =
+    let in_covered : (q : ℕ) → incoming_then t xs q ≡ true → list_any (λ x. q == x) passed ≡ true =
+    λ q. covered_by before xs passed c q (λ o. is_incoming_after o (has old.incoming q)) (λ h. or_left (has old.incoming q || has old.outgoing q) (has old.learners q) (or_left (has old.incoming q) (has old.outgoing q) h)) (last_effective xs q) refl in
+    let learner_covered : (q : ℕ) → learner_then t xs q ≡ true → list_any (λ x. q == x) passed ≡ true =
+    λ q. covered_by before xs passed c q (λ o. is_learner_after o (has outgoing q) (has old.learners q)) (λ h. or_right (has old.incoming q || has old.outgoing q) (has old.learners q) h) (last_effective xs q) refl in
+    let next_covered : (q : ℕ) → next_then t xs q ≡ true → list_any (λ x. q == x) passed ≡ true =
+    λ q. covered_by before xs passed c q (λ o. is_next_after o (has outgoing q) (has old.learners_next q)) (λ h. or_left (has old.incoming q || has old.outgoing q) (has old.learners q) (or_right (has old.incoming q) (has old.outgoing q) (valid.next_outgoing q h))) (last_effective xs q) refl in
+    let member_covered : (q : ℕ) → member_then t xs q ≡ true → list_any (λ x. q == x) passed ≡ true =
     λ q m. elim (or_cases (incoming_then t xs q || has outgoing q) (learner_then t xs q) m) [
       | inl first ↦ (elim (or_cases (incoming_then t xs q) (has outgoing q) first) [ inl i ↦ in_covered q i | inr o ↦ c.known q (inside q o) ])
       | inr l ↦ learner_covered q l
     ] in
     let in_is : (q : ℕ) → has incoming q ≡ incoming_then t xs q =
-    λ q. ap (λ s. has s q) walked.incoming_is ∙ has-where (incoming_then t xs) (ids summaries) q (λ d. any-ids summaries q ∙ in_covered q d) in
+    λ q. ap (λ s. has s q) walked.incoming_is ∙ has-where (incoming_then t xs) passed q (in_covered q) in
     let learner_is : (q : ℕ) → has learners q ≡ learner_then t xs q =
-    λ q. ap (λ s. has s q) walked.learners_are ∙ has-where (learner_then t xs) (ids summaries) q (λ d. any-ids summaries q ∙ learner_covered q d) in
+    λ q. ap (λ s. has s q) walked.learners_are ∙ has-where (learner_then t xs) passed q (learner_covered q) in
     let next_is : (q : ℕ) → has next q ≡ next_then t xs q =
-    λ q. ap (λ s. has s q) walked.next_are ∙ has-where (next_then t xs) (ids summaries) q (λ d. any-ids summaries q ∙ next_covered q d) in
+    λ q. ap (λ s. has s q) walked.next_are ∙ has-where (next_then t xs) passed q (next_covered q) in
     record {
       configuration =
           configuration-by_members (record { incoming = incoming; outgoing = outgoing; learners = learners; learners_next = next; auto_leave = auto_leave }) (result_of t.config xs)
@@ -204,15 +234,13 @@ walked-applies next_index before floor outgoing auto_leave es xs summaries k inc
       floor = same_floor;
       entries = λ q.
           ap (λ m. finite.get (finite.from_entries {R = nat_cmp} m) q) walked.members_are
-          ∙ get-picked (entry_then next_index t xs) (ids summaries) q
-          ∙ second_test_suffices (list_any (λ x. q == x) (ids summaries)) (member_then t xs q) _ (λ m. any-ids summaries q ∙ member_covered q m)
+          ∙ get-picked (entry_then next_index t xs) passed q
+          ∙ second_test_suffices (list_any (λ x. q == x) passed) (member_then t xs q) _ (member_covered q)
           ∙ sym (λ i. entry_of next_index (in_is q i || has outgoing q || learner_is q i) (learner_is q i) (progress_left t xs q));
     }
 
-pub walked-ascends : (next_index : ℕ) (t : TrackerState) (xs : List Change) (summaries : List ChangeSummary) (k : ℕ) (incoming learners next : Ids) (members : List (ℕ × Progress))
-    → IsAscending (ids summaries) → length summaries ≤ k → WalkedSoFar next_index t xs (take k (ids summaries)) incoming learners next members → IsAscending (map (λ m. m.0) members)
-walked-ascends next_index t xs summaries k incoming learners next members up past so_far =
-    let long : length (ids summaries) ≡ length summaries = length-map summaries (λ v. v.id) in
-    let all = so_far.members_are ∙ ap (picked (λ q. q) (entry_then next_index t xs)) (take_all k (ids summaries) (subst (λ z. z ≤ k) (sym long) past)) in
+pub walked-ascends : (next_index : ℕ) (t : TrackerState) (xs : List Change) (passed : List ℕ) (incoming learners next : Ids) (members : List (ℕ × Progress))
+    → IsAscending passed → WalkedSoFar next_index t xs passed incoming learners next members → IsAscending (map (λ m. m.0) members)
+walked-ascends next_index t xs passed incoming learners next members up walked =
     let Rises : List (ℕ × Progress) → Type 0 = λ ms. IsAscending (map (λ m. m.0) ms) in
-    subst Rises (sym all) (ascends-picked_ids (entry_then next_index t xs) (ids summaries) up)
+    subst Rises (sym walked.members_are) (ascends-picked_ids (entry_then next_index t xs) passed up)

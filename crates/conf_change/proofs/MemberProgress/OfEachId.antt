@@ -4,11 +4,12 @@ use Rattle.std.specs.Prelude.{Some, None, if◌then◌else◌}
 use Rattle.std.specs.Ordering.{nat_cmp}
 use Rattle.std.specs.Cmp.{nat_cmp_total, unsigned_tied}
 use Rattle.std.specs.FinMap as finite
-use Rattle.std.specs.FinMap.{find}
+use Rattle.std.specs.FinMap.{find, nat_cmp-IsAntisymmetric}
 use Rattle.std.specs.List.{list_any}
 use Rattle.std.proofs.lemmas.List.Folds.{list_any-append}
-use Rattle.quorum_sets.specs.Ids.{ascending}
-use Rattle.quorum_sets.proofs.Offered.{has-ascending}
+use Rattle.quorum_sets.specs.Ids.{Ids, has, ascending, union}
+use Rattle.quorum_sets.specs.AscendingLists.{IsAscending}
+use Rattle.quorum_sets.proofs.Offered.{ascending-is_ascending, has-ascending, has-union}
 use Rattle.conf_change.specs.Configuration.{Configuration, is_member, members}
 use Rattle.conf_change.specs.Progress.{progress_by}
 use Rattle.conf_change.specs.declared.progress.Progress.{Progress}
@@ -40,3 +41,24 @@ get-progress_by c of id =
     finite.get-from_entries nat_cmp_total (map (λ m. (m, of m)) (members c)) id
     ∙ find-of_each of id (members c)
     ∙ ap (λ b. cond b (Some (of id)) None) (any-members c id)
+
+-- ---- the members as a set
+pub has-all_members : (c : Configuration) (q : ℕ) → has (union (union c.incoming c.outgoing) c.learners) q ≡ is_member c q
+has-all_members c q = has-union (union c.incoming c.outgoing) c.learners q ∙ ap (λ b. b || has c.learners q) (has-union c.incoming c.outgoing q)
+
+keys-of_each : (of : ℕ → Progress) (xs : List ℕ) → map (λ (m : ℕ × Progress). m.0) (map (λ id. (id, of id)) xs) ≡ xs
+keys-of_each of [] = refl
+keys-of_each of (x ∷ xs) = ap (λ ys. x ∷ ys) (keys-of_each of xs)
+
+pub ascends-of_each : (of : ℕ → Progress) (ids : Ids) → IsAscending (map (λ (m : ℕ × Progress). m.0) (map (λ id. (id, of id)) (ascending ids)))
+ascends-of_each of ids = subst IsAscending (sym (keys-of_each of (ascending ids))) (ascending-is_ascending ids)
+
+pub progress_by-all_members : (c : Configuration) (of : ℕ → Progress)
+    → finite.from_entries {R = nat_cmp} (map (λ id. (id, of id)) (ascending (union (union c.incoming c.outgoing) c.learners))) ≡ progress_by c of
+progress_by-all_members c of =
+    let ids = union (union c.incoming c.outgoing) c.learners in
+    finite.same_map nat_cmp_total nat_cmp-IsAntisymmetric _ _ (λ q.
+    finite.get-from_entries nat_cmp_total (map (λ id. (id, of id)) (ascending ids)) q
+    ∙ find-of_each of q (ascending ids)
+    ∙ ap (λ b. cond b (Some (of q)) None) (sym (has-ascending ids q) ∙ has-all_members c q)
+    ∙ sym (get-progress_by c of q))

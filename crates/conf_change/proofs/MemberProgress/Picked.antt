@@ -77,16 +77,16 @@ find-picked entry (x ∷ xs) q =
 pub get-picked : (entry : ℕ → Option Progress) (xs : List ℕ) (q : ℕ) → finite.get (finite.from_entries {R = nat_cmp} (picked (λ x. x) entry xs)) q ≡ cond (list_any (λ x. q == x) xs) (entry q) None
 get-picked entry xs q = finite.get-from_entries nat_cmp_total (picked (λ x. x) entry xs) q ∙ find-picked entry xs q
 
--- ---- an id has progress where it is a key
-is_some-cond : (b : Bool) (p : Progress) (o : Option Progress) → is_some (cond b (Some p) o) ≡ (b || is_some o)
-is_some-cond true p o = refl
-is_some-cond false p o = refl
+-- ---- an id has an entry where it is a key
+pub is_some-cond : {X : Type 0} (b : Bool) (x : X) (o : Option X) → is_some (cond b (Some x) o) ≡ (b || is_some o)
+is_some-cond true x o = refl
+is_some-cond false x o = refl
 
-keys-find : (es : List (ℕ × Progress)) (q : ℕ) → is_some (find nat_cmp q es) ≡ list_any (λ x. q == x) (map (λ m. m.0) es)
+keys-find : {X : Type 0} (es : List (ℕ × X)) (q : ℕ) → is_some (find nat_cmp q es) ≡ list_any (λ x. q == x) (map (λ m. m.0) es)
 keys-find [] q = refl
 keys-find (e ∷ es) q = ap (λ b. is_some (cond b (Some e.1) (find nat_cmp q es))) (unsigned_tied q e.0) ∙ is_some-cond (q == e.0) e.1 (find nat_cmp q es) ∙ ap (λ b. (q == e.0) || b) (keys-find es q)
 
-pub keys-get : (es : List (ℕ × Progress)) (q : ℕ) → is_some (finite.get (finite.from_entries {R = nat_cmp} es) q) ≡ list_any (λ x. q == x) (map (λ m. m.0) es)
+pub keys-get : {X : Type 0} (es : List (ℕ × X)) (q : ℕ) → is_some (finite.get (finite.from_entries {R = nat_cmp} es) q) ≡ list_any (λ x. q == x) (map (λ m. m.0) es)
 keys-get es q = ap is_some (finite.get-from_entries nat_cmp_total es q) ∙ keys-find es q
 
 -- ---- members that keep theirs

@@ -3,11 +3,10 @@ use Rattle.std.proofs.Common.{◌≡◌, ℕ, ◌≤◌, Bool, true, false, cond
 use Rattle.std.specs.Prelude.{Option, Some, None, IfSome, unwrap_or, Ok, find, reverse, option_map, if◌then◌else◌}
 use Rattle.std.specs.FinMap as finite
 use Rattle.std.proofs.lemmas.Bool.{or_cases, and_parts, and_from, or_left, not-true, not-false, true≢false}
-use Rattle.std.proofs.lemmas.List.Folds.{list_any-append}
-use Rattle.quorum_sets.specs.Ids.{has, ascending, is_empty, difference_count}
+use Rattle.quorum_sets.specs.Ids.{has, is_empty, difference_count}
 use Rattle.quorum_sets.specs.Overlap.{Overlap}
 use Rattle.quorum_sets.specs.Voters.{AreNeighbours}
-use Rattle.quorum_sets.proofs.Offered.{has-ascending, has-no_ids, has-ids_of, QuorumsMeet-from_neighbours, QuorumsMeet-from_neighbours_back, CommittedMeetsWon-from_neighbours, CommittedMeetsWon-from_neighbours_back}
+use Rattle.quorum_sets.proofs.Offered.{has-no_ids, has-union, QuorumsMeet-from_neighbours, QuorumsMeet-from_neighbours_back, CommittedMeetsWon-from_neighbours, CommittedMeetsWon-from_neighbours_back}
 use Rattle.conf_change.specs.Configuration.{Configuration, voters_of, is_joint, has_voter, is_valid, is_restorable, is_member}
 use Rattle.conf_change.specs.Change.{names, last_effective, is_update, is_incoming_after, is_learner_after, is_next_after, result_of}
 use Rattle.conf_change.specs.Outcome.{outcome, with_outgoing, after_leave}
@@ -148,10 +147,7 @@ with_outgoing-is_valid c auto_leave single voter m = record {
 }
 
 pub has-after_leave : (c : Configuration) (q : ℕ) → has (after_leave c).learners q ≡ (has c.learners q || has c.learners_next q)
-has-after_leave c q =
-    has-ids_of (ascending c.learners ++ ascending c.learners_next) q
-    ∙ list_any-append (λ x. q == x) (ascending c.learners) (ascending c.learners_next)
-    ∙ sym (λ i. has-ascending c.learners q i || has-ascending c.learners_next q i)
+has-after_leave c q = has-union c.learners c.learners_next q
 
 -- and leaving
 after_leave-is_valid : (c : Configuration) → ValidByMember c → ValidByMember (after_leave c)
@@ -171,7 +167,7 @@ after_leave-is_valid c m = record {
   auto_leave = λ _. refl;
 }
 
-outcome-is_valid : (c after : Configuration) (step : Step) → ValidByMember c → outcome c step ≡ Ok after → ValidByMember after
+pub outcome-is_valid : (c after : Configuration) (step : Step) → ValidByMember c → outcome c step ≡ Ok after → ValidByMember after
 outcome-is_valid c after (Simple changes) m e = subst ValidByMember (SimpleTaken-from_outcome c after changes e).made (result_of-is_valid c changes m)
 outcome-is_valid c after (EnterJoint auto_leave changes) m e =
     let t = EnterTaken-from_outcome c after auto_leave changes e in

@@ -1,5 +1,5 @@
 -- The function that reads the line of a saved configuration, against the relation.
-use Rattle.std.proofs.Common.{◌≡◌, ◌≢◌, ℕ, ◌<◌, ◌≤◌, ◌^◌, Bool, true, false, eqb, List, [], ◌∷◌, ◌++◌, length, take, drop, get_or, map, Option, Some, None, refl, sym, ap, ◌∙◌, subst, arith}
+use Rattle.std.proofs.Common.{◌≡◌, ℕ, ◌<◌, ◌≤◌, ◌^◌, Bool, true, false, List, [], ◌∷◌, ◌++◌, length, take, drop, get_or, map, Option, Some, None, refl, sym, ap, ◌∙◌, subst, arith}
 use Rattle.std.specs.Prelude.{codes, decimal, option_map, option_and_then, bytes_eq}
 use Rattle.std.specs.List.{All, AllZip, join_with_byte, slice_split, position_or_len}
 use Rattle.std.specs.Str.Parse.{AllDigits}
@@ -19,15 +19,15 @@ use Rattle.conf_change.specs.ConfState.{ConfStateLists}
 use Rattle.conf_change.specs.ConfStateLine.{truth_text, bracketed_line, conf_state_text, ParsesToNumbers, DenotesConfState, after_prefix, numbers_in_tokens, is_space_byte, numbers_in, is_close, field_in, auto_leave_in, conf_state_in}
 use Rattle.ascii_text.proofs.Offered.{without_trailing_space-other, number_in-ok, ParsesToNumber-from_some}
 
--- a byte that is no digit is in no number
-no_byte : (digits : List ℕ) (byte : ℕ) → AllDigits 10 digits → ((b : ℕ) → 48 ≤ b → b ≤ 57 → b ≢ byte) → All (λ b. eqb b byte ≡ false) digits
-no_byte digits byte h differs = All-from_get_or (λ b. eqb b byte ≡ false) digits 0 (λ i within. let range = digit_at digits i h within in ne_eqb (get_or digits i 0) byte (differs (get_or digits i 0) range.0 range.1))
+-- a test that fails for each digit fails for each byte of a number
+pub digits-fail : (test : ℕ → Bool) (digits : List ℕ) → AllDigits 10 digits → ((b : ℕ) → 48 ≤ b → b ≤ 57 → test b ≡ false) → All (λ b. test b ≡ false) digits
+digits-fail test digits h fails = All-from_get_or (λ b. test b ≡ false) digits 0 (λ i within. let range = digit_at digits i h within in fails (get_or digits i 0) range.0 range.1)
 
 no_space : (token : List ℕ) (number : ℕ) → ParsesToNumber token number → All (λ b. is_space_byte b ≡ false) token
-no_space token number h = no_byte token 32 h.numeral.1 (λ b low high same. omega arith)
+no_space token number h = digits-fail is_space_byte token h.numeral.1 (λ b low high. ne_eqb b 32 (λ same. omega arith))
 
 no_close : (token : List ℕ) (number : ℕ) → ParsesToNumber token number → All (λ b. is_close b ≡ false) token
-no_close token number h = no_byte token 93 h.numeral.1 (λ b low high same. omega arith)
+no_close token number h = digits-fail is_close token h.numeral.1 (λ b low high. ne_eqb b 93 (λ same. omega arith))
 
 no_close-join : (tokens : List (List ℕ)) (numbers : List ℕ) → AllZip ParsesToNumber tokens numbers → All (λ b. is_close b ≡ false) (join_with_byte 32 tokens)
 no_close-join [] numbers h = All-nil (λ b. is_close b ≡ false)
@@ -87,7 +87,7 @@ ParsesToNumbers-from_some (b ∷ bs) numbers e = record {
   parsed = AllZip-from_some (slice_split is_space_byte (b ∷ bs)) numbers (sym (numbers_in-not_empty (b ∷ bs) (omega arith)) ∙ e);
 }
 
-parsed-decimal : (numbers : List ℕ) → All (λ n. n < 2 ^ 64) numbers → AllZip ParsesToNumber (map decimal numbers) numbers
+pub parsed-decimal : (numbers : List ℕ) → All (λ n. n < 2 ^ 64) numbers → AllZip ParsesToNumber (map decimal numbers) numbers
 parsed-decimal [] h = tt
 parsed-decimal (n ∷ ns) h =
     let small = All-head (λ m. m < 2 ^ 64) n ns h in
@@ -122,7 +122,7 @@ field_in-ok prefix inside rest numbers h =
     (rw (position_or_len-close inside rest none, take_at inside (93 ∷ rest) (length inside) refl, drop_at inside (93 ∷ rest) (length inside) refl, numbers_in-ok inside numbers h) refl)
 
 -- the first step of two gave something
-some_from_then : {A B : Type 0} (found : Option A) (more : A → Option B) (y : B) → option_and_then more found ≡ Some y → (x : A) × (found ≡ Some x) × (more x ≡ Some y)
+pub some_from_then : {A B : Type 0} (found : Option A) (more : A → Option B) (y : B) → option_and_then more found ≡ Some y → (x : A) × (found ≡ Some x) × (more x ≡ Some y)
 some_from_then None more y e = absurd cc
 some_from_then (Some x) more y e = (x, refl, e)
 
@@ -130,7 +130,7 @@ some_from_map : {A B : Type 0} (found : Option A) (f : A → B) (y : B) → opti
 some_from_map None f y e = absurd cc
 some_from_map (Some x) f y e = (x, refl, e)
 
-some_injective : {A : Type 0} (x y : A) → Some x ≡ Some y → x ≡ y
+pub some_injective : {A : Type 0} (x y : A) → Some x ≡ Some y → x ≡ y
 some_injective x y e = cc
 
 record Field (prefix text numbers rest : List ℕ) : Type 0 where

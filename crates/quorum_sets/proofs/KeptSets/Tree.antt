@@ -14,17 +14,17 @@ and_cond : (a b c : Bool) → a ≡ b → cond a false c ≡ (not b && c)
 and_cond true b c e = rw (sym e) refl
 and_cond false b c e = rw (sym e) refl
 
-tied : (id q : ℕ) → eq_by_cmp nat_cmp id q ≡ (q == id)
-tied id q = (eq_by_cmp_equiv nat_cmp_total).symm id q ∙ unsigned_tied q id
+pub eq_by_cmp-swapped : (id q : ℕ) → eq_by_cmp nat_cmp id q ≡ (q == id)
+eq_by_cmp-swapped id q = (eq_by_cmp_equiv nat_cmp_total).symm id q ∙ unsigned_tied q id
 
 pub tree-with_id : (s n : BTreeSet ℕ) (id : ℕ) → Updates nat_cmp s n id true → ids_of n.keys ≡ with_id (ids_of s.keys) id
 tree-with_id s n id u =
     has-same_ids _ _ (λ q.
-    has_by_cmp-ids_of n.keys q ∙ u.0 q ∙ or_cond _ _ _ (tied id q)
+    has_by_cmp-ids_of n.keys q ∙ u.0 q ∙ or_cond _ _ _ (eq_by_cmp-swapped id q)
     ∙ sym (has-with_id _ id q ∙ ap (λ b. (q == id) || b) (has_by_cmp-ids_of s.keys q)))
 
 pub tree-without_id : (s n : BTreeSet ℕ) (id : ℕ) → Updates nat_cmp s n id false → ids_of n.keys ≡ without_id (ids_of s.keys) id
 tree-without_id s n id u =
     has-same_ids _ _ (λ q.
-    has_by_cmp-ids_of n.keys q ∙ u.0 q ∙ and_cond _ _ _ (tied id q)
+    has_by_cmp-ids_of n.keys q ∙ u.0 q ∙ and_cond _ _ _ (eq_by_cmp-swapped id q)
     ∙ sym (has-without_id _ id q ∙ ap (λ b. not (q == id) && b) (has_by_cmp-ids_of s.keys q)))

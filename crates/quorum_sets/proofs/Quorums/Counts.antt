@@ -1,6 +1,6 @@
 -- Counting the ids of a list, one more at a time.
 use mir.Val.{bool_byte}
-use Rattle.std.proofs.Common.{◌≡◌, ℕ, ◌+◌, ◌*◌, ◌≤◌, Bool, true, false, cond, List, [], ◌∷◌, map, refl, arith, take, sym, ap, ◌∙◌, get_or, slice_get, length-take}
+use Rattle.std.proofs.Common.{◌≡◌, ℕ, ◌+◌, ◌*◌, ◌≤◌, Bool, true, false, cond, ◌||◌, List, [], ◌∷◌, map, refl, arith, take, sym, ap, ◌∙◌, get_or, slice_get, length-take}
 use Rattle.std.specs.Prelude.{Some, nat_lt, count_by}
 use Rattle.std.specs.List.Sorted.{IsPermutation}
 use Rattle.std.proofs.lemmas.List.{length-map}
@@ -58,3 +58,7 @@ most-permuted p xs ys moved = λ i. nat_lt (length_permutation xs ys moved i) (2
 pub majority_passes-values : {X : Type 0} (p : X → Bool) (value : ℕ → X) (ids : Ids) → majority_passes (λ id. p (value id)) ids ≡ most p (map value (ascending ids))
 majority_passes-values p value ids =
     λ i. nat_lt (sym (length-map (ascending ids) value) i) (2 * sym (fold-map (λ a x. a + cond (p x) 1 0) value 0 (ascending ids)) i)
+
+-- the second of two conditions of which one holds, and not the first
+pub or-second : (a b : Bool) → a ≡ false → (a || b) ≡ true → b ≡ true
+or-second a b none some = sym (ap (λ c. c || b) none) ∙ some

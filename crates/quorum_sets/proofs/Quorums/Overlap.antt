@@ -2,7 +2,7 @@
 use Rattle.std.proofs.Common.{◌≡◌, ℕ, ◌+◌, ◌*◌, ◌<◌, ◌≤◌, Bool, true, false, cond, not, ◌&&◌, ◌||◌, List, [], ◌∷◌, length, refl, sym, ap, ◌∙◌, arith, inl, inr}
 use Rattle.std.specs.Prelude.{count_by, filter, nat_le, if◌then◌else◌}
 use Rattle.std.specs.List.{list_any}
-use Rattle.std.proofs.lemmas.Bool.{cases_Bool, both_ways, and_parts, and_from, or_cases, or_parts, or_left, or_right, ltb-true, lt-ltb, leb-true, le-leb, eqb-true}
+use Rattle.std.proofs.lemmas.Bool.{cases_Bool, and_parts, and_from, or_cases, or_parts, or_left, or_right, ltb-true, lt-ltb, leb-true, le-leb, eqb-true}
 use Rattle.std.proofs.lemmas.List.Folds.{Any-from_list_any}
 use Rattle.std.proofs.lemmas.List.Filters.{length-filter_both}
 use Rattle.std.proofs.lemmas.List.Sorted.{IsPermutation-filter_both, sum_by-IsPermutation}
@@ -13,7 +13,7 @@ use Rattle.quorum_sets.specs.Committed.{Acks, acked_index, committed_index}
 use Rattle.quorum_sets.specs.Votes.{Votes, is_yes, is_won, is_lost}
 use Rattle.quorum_sets.specs.Overlap.{QuorumsMeet, CommitsAndWins, CommittedMeetsWon}
 use Rattle.quorum_sets.specs.declared.voting.VoteResult.TheVariants.{VotePending, VoteLost, VoteWon}
-use Rattle.quorum_sets.proofs.Quorums.Counts.{count_by-mono}
+use Rattle.quorum_sets.proofs.Quorums.Counts.{count_by-mono, or-second}
 use Rattle.quorum_sets.proofs.IdSets.Difference.{kept-is_common}
 use Rattle.quorum_sets.proofs.Quorums.CommittedIndex.{IsCommitted-committed_index}
 
@@ -165,9 +165,6 @@ won_in_both false b true m won = cc
 won_in_both false b false true won = cc
 won_in_both false b false false won = cc
 
-or_second : (a b : Bool) → a ≡ false → (a || b) ≡ true → b ≡ true
-or_second a b not_first some = elim (or_cases a b some) [ inl first ↦ absurd (both_ways a not_first first) | inr second ↦ second ]
-
 commits_in : (one other : Voters) (acks : Acks) (votes : Votes) (index : ℕ) → CommitsAndWins one other acks votes index → passes_in one (λ id. nat_le index (acked_index acks id)) ≡ true
 commits_in one other acks votes index both_hold =
     let low = both_hold.committed in
@@ -176,7 +173,7 @@ commits_in one other acks votes index both_hold =
 wins_in : (one other : Voters) (acks : Acks) (votes : Votes) (index : ℕ) → CommitsAndWins one other acks votes index → passes_in other (is_yes votes) ≡ true
 wins_in one other acks votes index both_hold =
     let won = won_in_both (is_won other.incoming votes) (is_won other.outgoing votes) (is_lost other.incoming votes) (is_lost other.outgoing votes) both_hold.won in
-    and_from _ _ (or_second _ _ both_hold.other_has_voters won.0) won.1
+    and_from _ _ (or-second _ _ both_hold.other_has_voters won.0) won.1
 
 pub CommittedMeetsWon-from_neighbours : (before after : Voters) → AreNeighbours before after → CommittedMeetsWon before after
 CommittedMeetsWon-from_neighbours before after neighbours acks votes index both_hold =

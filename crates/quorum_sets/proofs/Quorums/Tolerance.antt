@@ -2,7 +2,7 @@
 use Rattle.std.proofs.Common.{◌≡◌, ℕ, ◌+◌, ◌-◌, ◌*◌, ◌<◌, ◌≤◌, Bool, true, false, cond, not, ◌&&◌, ◌||◌, ◌==◌, List, [], ◌∷◌, ◌++◌, length, take, drop, refl, sym, ap, subst, ◌∙◌, arith, inl, inr, eq-eqb, length-take, length-drop, is_some}
 use Rattle.std.specs.Prelude.{count_by, filter, nat_le, nat_lt, min, Option, Some, None}
 use Rattle.std.specs.List.{list_any}
-use Rattle.std.proofs.lemmas.Bool.{cases_Bool, both_ways, and_parts, and_from, or_cases, or_left, or_right, ltb-true, lt-ltb, le-ltb, leb-true, leb-false, le-leb, lt-leb, eqb-true, eqb-false, cond-true, cond-false, cond_both, false_from_ne_true}
+use Rattle.std.proofs.lemmas.Bool.{cases_Bool, both_ways, and_parts, and_from, or_left, or_right, ltb-true, lt-ltb, le-ltb, leb-true, leb-false, le-leb, lt-leb, eqb-true, eqb-false, cond-true, cond-false, cond_both, false_from_ne_true}
 use Rattle.std.proofs.lemmas.List.Folds.{list_any-append}
 use Rattle.std.proofs.lemmas.List.Sums.{sum_by-cons, sum_by-take-drop, count_by-le-length, length-filter}
 use Rattle.quorum_sets.specs.Ids.{Ids, no_ids, has, with_id, ascending, size, ids_of, union, count_of, majority_passes, is_empty}
@@ -11,6 +11,7 @@ use Rattle.quorum_sets.specs.Tolerance.{voters_without, commits_without, Tolerat
 use Rattle.quorum_sets.proofs.IdSets.Members.{has-ascending, has-ids_of, has-ids_where, has-no_ids, has-same_ids, has-with_id, ascending-no_ids}
 use Rattle.quorum_sets.proofs.IdSets.Difference.{count_of-rest, count_of-within, size-with_id}
 use Rattle.quorum_sets.proofs.IdSets.Union.{has-union}
+use Rattle.quorum_sets.proofs.Quorums.Counts.{or-second}
 
 -- ---- counts
 -- a count rests on the items of the list alone
@@ -166,14 +167,11 @@ Tolerates-from_counts voters uncounted k more down few =
       | inr some_voter ↦ or_right _ _ (majority_passes-lasts voters.outgoing uncounted down k (more.outgoing some_voter) few)
     ])
 
-or_second : (a b : Bool) → a ≡ false → (a || b) ≡ true → b ≡ true
-or_second a b not_first some = elim (or_cases a b some) [ inl first ↦ absurd (both_ways a not_first first) | inr second ↦ second ]
-
 -- in each set, more than half stay
 stays_in : (voters : Voters) (away : Ids) → commits_without voters away ≡ true → (majority_passes (stay away) voters.incoming ≡ true) × (is_empty voters.outgoing ≡ false → majority_passes (stay away) voters.outgoing ≡ true)
 stays_in voters away commits =
     let parts = and_parts _ _ (sym (commits_without-majority_passes voters away) ∙ commits) in
-    (parts.0, λ some_voter. or_second _ _ some_voter parts.1)
+    (parts.0, λ some_voter. or-second _ _ some_voter parts.1)
 
 counted-from_lasting : (ids uncounted : Ids) (k : ℕ) → ((down : Ids) → size down ≤ k → majority_passes (stay (union down uncounted)) ids ≡ true) → majority (size ids) + k ≤ counted ids uncounted
 counted-from_lasting ids uncounted k lasts = elim (cases_Bool (nat_le (majority (size ids) + k) (counted ids uncounted))) [

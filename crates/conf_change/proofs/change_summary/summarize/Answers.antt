@@ -1,14 +1,13 @@
-use Rattle.std.proofs.Common.{map, ◌∙◌}
-use Rattle.std.proofs.lemmas.Result.{IfOk-weaker}
-use Rattle.conf_change.specs.ChangeSummary.{Joins, ListsSummaries}
-use Rattle.conf_change.proofs.ListsOfChanges.JoinedEntries.{ListsSummaries-from_Joins}
+use Rattle.std.proofs.Common.{rules}
+use Rattle.conf_change.proofs.ListsOfChanges.Summaries.{AreSummaries-member, AreSummaries-change}
 use Rattle.conf_change.proofs.change_summary.summarize.Goals as goal
 
-pub returns : goal.returns
-returns c =
-    let members = c.args.members.now in
-    let changes = c.args.changes.now in
-    let each = c.as_mut_slice.result.now in
-    IfOk-weaker c.joined_by_id.result (λ summaries. Joins each summaries.items) (λ summaries. ListsSummaries (map (λ m. m.0) members) changes summaries.items)
-    (λ summaries joins. ListsSummaries-from_Joins members changes each summaries.items (c.as_mut_slice.ensures.value ∙ c.in_ok-add_in_turn.ensures) joins)
-    c.joined_by_id.ensures
+pub loop-member-preserved : goal.loop-member-preserved
+loop-member-preserved c =
+    AreSummaries-member c.args.members.now c.loop-member.member-index _ c.loop-member.summaries c.insert.new.self c.empty.result
+    c.loop-member-test.true c.loop-member.invariant c.empty.ensures c.in_ok-insert.ensures.updates
+
+pub loop-change-preserved : goal.loop-change-preserved
+loop-change-preserved c =
+    AreSummaries-change _ c.args.changes.now c.loop-change.change-index _ c.loop-change.summaries c.insert-in-loop-change.new.self c.and.result
+    c.loop-change-test.true c.loop-change.invariant (search rules) c.in_ok-insert-2.ensures.updates

@@ -1,10 +1,8 @@
-use Rattle.std.proofs.Common.{take}
 use Rattle.conf_change.specs.TrackerEdits.{beginning}
-use Rattle.conf_change.proofs.ListsOfChanges.JoinedEntries.{ids}
-use Rattle.conf_change.proofs.ListsOfChanges.SummaryBySummary.{WalkedSoFar}
+use Rattle.conf_change.proofs.ListsOfChanges.SummaryBySummary.{WalkedOver}
 use Rattle.conf_change.proofs.tracker.Tracker.after_summaries.Given as goal
 
-abbrev pub invariant-loop-summary : goal.invariant-loop-summary
-invariant-loop-summary g l =
+abbrev pub invariant-loop-id : goal.invariant-loop-id
+invariant-loop-id g l =
     let own = g.S.MemberSet.ids in
-    WalkedSoFar l.next_index (beginning l.self (own l.outgoing) l.auto_leave) l.changes (take l.summary-index (ids l.summary-items)) (own l.incoming) (own l.learners) (own l.learners_next) l.members.items
+    WalkedOver l.next_index (beginning l.self (own l.outgoing) l.auto_leave) l.changes l.initial.id-iterator l.id-iterator (own l.incoming) (own l.learners) (own l.learners_next) l.members.items
