@@ -4,4 +4,4 @@ mod PlannedSteps
 mod WorkedExamples
 mod BestPlan
 mod PlanText
-mod AliveOnTheWay
+mod OnTheWay

@@ -1,22 +1,26 @@
 -- Small cases, worked out by hand.
-use Rattle.std.proofs.Common.{◌≡◌, ℕ, Bool, true, false, List, [], ◌∷◌, ◌++◌, refl, ap, ◌∙◌}
-use Rattle.std.specs.Prelude.{filter}
-use Rattle.std.proofs.lemmas.Bool.{cond-true, cond-false}
-use Rattle.quorum_sets.specs.Ids.{Ids, ids_of, ids_where}
-use Rattle.quorum_sets.specs.Tolerance.{commits_without}
-use Rattle.quorum_sets.proofs.Offered.{written_out}
-use Rattle.conf_change.specs.Configuration.{Configuration, is_joint, members, is_same_set, is_same, voters_of}
+use Rattle.std.proofs.Common.{◌≡◌, ◌≤◌, ℕ, Bool, true, false, not, List, [], ◌∷◌, ◌++◌, refl, ap, subst, ◌∙◌, arith}
+use Rattle.std.specs.Prelude.{Ok, filter}
+use Rattle.std.proofs.lemmas.Bool.{cond-true, cond-false, both_ways}
+use Rattle.quorum_sets.specs.Ids.{Ids, ascending, count_of, difference_count, has, ids_of, ids_where, is_empty, no_ids, size, union}
+use Rattle.quorum_sets.specs.Tolerance.{Tolerates, commits_without}
+use Rattle.quorum_sets.specs.Voters.{is_quorum}
+use Rattle.quorum_sets.proofs.Offered.{Tolerates-from_counts, written_out}
+use Rattle.conf_change.specs.Configuration.{Configuration, has_voter, is_joint, members, is_same_set, is_same, voters_of}
 use Rattle.conf_change.specs.declared.change.Change.{Change}
 use Rattle.conf_change.specs.declared.change.Kind.{Kind}
 use Rattle.conf_change.specs.declared.change.Kind.TheVariants.{Voter, Learner, Remove, Update}
-use Rattle.conf_change.specs.Outcome.{after_leave}
+use Rattle.conf_change.specs.Change.{is_incoming_after, last_effective, result_of}
+use Rattle.conf_change.specs.Outcome.{after_leave, outcome}
+use Rattle.conf_change.proofs.Offered.{is_same-is_equality, outcome-simple_accepted}
+use Rattle.conf_plan.specs.OnTheWay.{HasQuorumsOf, IsAsTolerant, KeepsQuorums, KeepsTolerance, MakesVotersOfReady, VotersLearnFirst}
 use Rattle.conf_change.specs.declared.step.Step.{Step}
 use Rattle.conf_change.specs.declared.step.Step.TheVariants.{Simple, EnterJoint, LeaveJoint}
 use Rattle.conf_plan.specs.OneAtATime.{one_change, steps_of, in_turn, order}
 use Rattle.conf_plan.specs.OneChangeEach.{one_change_each}
 use Rattle.conf_plan.specs.Best.{times_named, is_any_learner, outlasts_leave}
 use Rattle.conf_plan.specs.Planned.{is_shared, shared_members, single_with, single_steps, entering_step, planned_from_single, planned}
-use Rattle.conf_plan.specs.Run.{IsValidWithVoter}
+use Rattle.conf_plan.specs.Run.{IsRun, IsRunWith, IsValidWithVoter}
 use Rattle.conf_plan.proofs.FindingMoves.ResultingConfiguration.{IsSingle}
 use Rattle.conf_plan.proofs.PlannedSteps.Cases.{joint_steps-inserted}
 
@@ -188,6 +192,112 @@ steps_of_two = (simp written_out refl, simp written_out refl)
 -- both commit without 1, and the first does not without 1 and 2
 commits_row : (commits_without (voters_of voters_123) (ids_of (1 ∷ [])) ≡ true) × (commits_without (voters_of voters_123) (ids_of (1 ∷ 2 ∷ [])) ≡ false)
 commits_row = (simp written_out refl, simp written_out refl)
+
+-- ---- what a run may fail to keep on the way
+abbrev voters_124 : Configuration
+voters_124 = config (1 ∷ 2 ∷ 4 ∷ []) [] [] []
+
+-- 4 replaces 3: it joins before 3 retires, or after, and is no learner first
+abbrev joins_first : List Step
+joins_first = one_change Voter 4 ∷ one_change Remove 3 ∷ []
+
+abbrev joins_last : List Step
+joins_last = one_change Remove 3 ∷ one_change Voter 4 ∷ []
+
+abbrev voters_1234 : Configuration
+voters_1234 = config (4 ∷ 1 ∷ 2 ∷ 3 ∷ []) [] [] []
+
+abbrev voters_12 : Configuration
+voters_12 = config (1 ∷ 2 ∷ []) [] [] []
+
+-- whether an id votes when 4 has joined these voters
+abbrev votes_with_4 : List ℕ → ℕ → Bool
+votes_with_4 voters id = is_incoming_after (last_effective (change Voter 4 ∷ []) id) (has (ids_of voters) id)
+
+with_4 : (voters : List ℕ) → ascending (ids_of voters) ≡ voters → filter (votes_with_4 voters) voters ≡ voters
+    → result_of (config voters [] [] []) (change Voter 4 ∷ []) ≡ config (4 ∷ voters) [] [] []
+with_4 voters listed vote = λ i. record {
+  incoming = (ap (λ ids. ids_of (4 ∷ filter (votes_with_4 voters) ids)) listed ∙ ap (λ ids. ids_of (4 ∷ ids)) vote) i;
+  outgoing = ids_of [];
+  learners = none i;
+  learners_next = none_next i;
+  auto_leave = false;
+}
+  where
+    none : (result_of (config voters [] [] []) (change Voter 4 ∷ [])).learners ≡ ids_of []
+    none = simp written_out refl
+
+    none_next : (result_of (config voters [] [] []) (change Voter 4 ∷ [])).learners_next ≡ ids_of []
+    none_next = simp written_out refl
+
+joined : outcome voters_123 (one_change Voter 4) ≡ Ok voters_1234
+joined = outcome-simple_accepted voters_123 voters_1234 (change Voter 4 ∷ []) (simp written_out refl) (with_4 (1 ∷ 2 ∷ 3 ∷ []) (simp written_out refl) vote) (simp written_out refl) (simp written_out (omega arith))
+  where
+    all : (test : ℕ → Bool) → test 1 ≡ true → test 2 ≡ true → test 3 ≡ true → filter test (1 ∷ 2 ∷ 3 ∷ []) ≡ 1 ∷ 2 ∷ 3 ∷ []
+    all test of_1 of_2 of_3 = rw (of_1, of_2, of_3) refl
+
+    vote : filter (votes_with_4 (1 ∷ 2 ∷ 3 ∷ [])) (1 ∷ 2 ∷ 3 ∷ []) ≡ 1 ∷ 2 ∷ 3 ∷ []
+    vote = all (votes_with_4 (1 ∷ 2 ∷ 3 ∷ [])) (simp written_out refl) (simp written_out refl) (simp written_out refl)
+
+joined_later : outcome voters_12 (one_change Voter 4) ≡ Ok (config (4 ∷ 1 ∷ 2 ∷ []) [] [] [])
+joined_later = outcome-simple_accepted voters_12 (config (4 ∷ 1 ∷ 2 ∷ []) [] [] []) (change Voter 4 ∷ []) (simp written_out refl) (with_4 (1 ∷ 2 ∷ []) (simp written_out refl) vote) (simp written_out refl) (simp written_out (omega arith))
+  where
+    all : (test : ℕ → Bool) → test 1 ≡ true → test 2 ≡ true → filter test (1 ∷ 2 ∷ []) ≡ 1 ∷ 2 ∷ []
+    all test of_1 of_2 = rw (of_1, of_2) refl
+
+    vote : filter (votes_with_4 (1 ∷ 2 ∷ [])) (1 ∷ 2 ∷ []) ≡ 1 ∷ 2 ∷ []
+    vote = all (votes_with_4 (1 ∷ 2 ∷ [])) (simp written_out refl) (simp written_out refl)
+
+-- 3 retires
+without_3 : (before after : Configuration) → is_joint before ≡ false → is_same (result_of before (change Remove 3 ∷ [])) after ≡ true → has_voter after ≡ true → difference_count before.incoming after.incoming ≤ 1
+    → outcome before (one_change Remove 3) ≡ Ok after
+without_3 before after single same = outcome-simple_accepted before after (change Remove 3 ∷ []) single ((is_same-is_equality _ _).0 same)
+
+retired : outcome voters_123 (one_change Remove 3) ≡ Ok voters_12
+retired = without_3 voters_123 voters_12 (simp written_out refl) (simp written_out refl) (simp written_out refl) (simp written_out (omega arith))
+
+retired_later : outcome voters_1234 (one_change Remove 3) ≡ Ok voters_124
+retired_later = without_3 voters_1234 voters_124 (simp written_out refl) (simp written_out refl) (simp written_out refl) (simp written_out (omega arith))
+
+-- both lead from (1 2 3) to (1 2 4)
+both_are_runs : IsRun voters_123 joins_first voters_124 × IsRun voters_123 joins_last voters_124
+both_are_runs =
+    ((voters_1234, joined, (voters_124, retired_later, refl)), (voters_12, retired, (config (4 ∷ 1 ∷ 2 ∷ []) [] [] [], joined_later, (is_same-is_equality _ _).0 (simp written_out refl))))
+
+-- what holds after the first step of a run, wherever the run says that the step leads
+first_step : (Holds : Configuration → Step → Configuration → Type 0) (before after target : Configuration) (step : Step) (steps : List Step) → outcome before step ≡ Ok after
+    → IsRunWith Holds before (step ∷ steps) target → Holds before step after
+first_step Holds before after target step steps leads run = let same : run.0 ≡ after = cc in subst (Holds before step) same run.1.1
+
+-- 1 and 2 are a quorum of both ends, and not of (1 2 3 4)
+quorum_is_lost : ¬ KeepsQuorums voters_123 joins_first voters_124
+quorum_is_lost keeps =
+    let quorum = first_step (λ before step after. HasQuorumsOf voters_123 voters_124 after) voters_123 voters_1234 voters_124 (one_change Voter 4) (one_change Remove 3 ∷ []) joined keeps (ids_of (1 ∷ 2 ∷ [])) (simp written_out refl) (simp written_out refl) in
+    let lost : is_quorum (voters_of voters_1234) (ids_of (1 ∷ 2 ∷ [])) ≡ false = simp written_out refl in
+    both_ways _ lost quorum
+
+-- one of three may be down
+one_of_three : (c : Configuration) → size c.incoming ≡ 3 → count_of (λ id. not (has no_ids id)) c.incoming ≡ 3 → is_empty c.outgoing ≡ true → Tolerates (voters_of c) no_ids 1
+one_of_three c three count single =
+    Tolerates-from_counts (voters_of c) no_ids 1 (record { incoming = rw (three, count) (omega arith); outgoing = λ joint. absurd (both_ways _ joint single) })
+
+-- one id may be down at both ends, and none in (1 2)
+tolerance_is_lost : ¬ KeepsTolerance no_ids voters_123 joins_last voters_124
+tolerance_is_lost keeps =
+    let now = one_of_three voters_123 (simp written_out refl) (simp written_out refl) (simp written_out refl) in
+    let target = one_of_three voters_124 (simp written_out refl) (simp written_out refl) (simp written_out refl) in
+    let tolerant = first_step (λ before step after. IsAsTolerant no_ids voters_123 voters_124 after) voters_123 voters_12 voters_124 (one_change Remove 3) (one_change Voter 4 ∷ []) retired keeps in
+    let few : size (ids_of (2 ∷ [])) ≤ 1 = simp written_out (omega arith) in
+    let commits : commits_without (voters_of voters_12) (union (ids_of (2 ∷ [])) no_ids) ≡ true = tolerant 1 now target (ids_of (2 ∷ [])) few in
+    let stalls : commits_without (voters_of voters_12) (union (ids_of (2 ∷ [])) no_ids) ≡ false = simp written_out refl in
+    both_ways _ stalls commits
+
+-- 4 is no learner before it votes
+voter_is_no_learner : ¬ VotersLearnFirst voters_123 joins_first voters_124
+voter_is_no_learner learn =
+    let ready = first_step MakesVotersOfReady voters_123 voters_1234 voters_124 (one_change Voter 4) (one_change Remove 3 ∷ []) joined learn 4 (simp written_out refl) (simp written_out refl) in
+    let no_learner : has voters_123.learners 4 ≡ false = simp written_out refl in
+    both_ways _ no_learner ready.learner
 
 -- ---- one change each
 each_row : one_change_each (Simple (change Learner 4 ∷ change Learner 5 ∷ []) ∷ EnterJoint false (change Remove 1 ∷ change Voter 4 ∷ []) ∷ LeaveJoint ∷ [])

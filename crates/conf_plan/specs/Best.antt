@@ -29,6 +29,10 @@ times_named id steps = sum_by (λ step. count_by (names id) (changes_of step)) s
 abbrev pub is_any_learner : Configuration → ℕ → Bool
 is_any_learner c id = has c.learners id || has c.learners_next id
 
+-- the id is in one of the four sets of the configuration
+abbrev pub is_in : Configuration → ℕ → Bool
+is_in c id = has c.incoming id || has c.outgoing id || is_any_learner c id
+
 -- the id has the roles that it had: incoming voter, learner (now or next), or neither
 pub record HasSameRoles (before after : Configuration) (id : ℕ) : Type 0 where
   pub voter : has after.incoming id ≡ has before.incoming id

@@ -6,7 +6,7 @@ pub mod Planned
 pub mod Walking
 pub mod PlanText
 pub mod PlanCode
-pub mod Alive
+pub mod OnTheWay
 pub mod LearnersFirst
 pub mod OneAtATime
 pub mod OneChangeEach

@@ -1,9 +1,9 @@
 -- The path from a configuration that is not joint, on which one member changes at a time, as etcd's server changes its
 -- members (section 4.1 of Ongaro's dissertation). A server adds no member while a voter cannot be reached, so voters
 -- that are down leave first (own).
-use Rattle.std.specs.Prelude.{ℕ, not, ◌&&◌, ◌||◌, List, [], ◌∷◌, ◌++◌, filter, flat_map, option_map, if◌then◌else◌}
+use Rattle.std.specs.Prelude.{ℕ, not, ◌&&◌, ◌||◌, List, [], ◌∷◌, ◌++◌, flat_map, option_map, if◌then◌else◌}
 use Rattle.std.specs.List.{cons_option}
-use Rattle.quorum_sets.specs.Ids.{Ids, no_ids, has, ascending, union}
+use Rattle.quorum_sets.specs.Ids.{Ids, no_ids, has, ascending, union, ids_where}
 use Rattle.quorum_sets.specs.Tolerance.{commits_without}
 use Rattle.conf_change.specs.Configuration.{Configuration, voters_of}
 use Rattle.conf_change.specs.declared.change.Kind.{Kind}
@@ -25,18 +25,25 @@ steps_of c target id =
     ++ cons_option (option_map (λ kind. one_change kind id) (kind_of_move c target.incoming target.learners id)) []
 
 -- ---- the order of the ids
--- the ids that have to become incoming voters, ascending
-abbrev pub joining : Configuration → Configuration → List ℕ
-joining c target = filter (λ id. not (has c.incoming id)) (ascending target.incoming)
+-- the ids that have to become incoming voters
+abbrev pub joining : Configuration → Configuration → Ids
+joining c target = ids_where (λ id. not (has c.incoming id)) (ascending target.incoming)
 
--- the ids that have to stop being incoming voters, ascending
-abbrev pub retiring : Configuration → Configuration → List ℕ
-retiring c target = filter (λ id. not (has target.incoming id)) (ascending c.incoming)
+-- the ids that have to stop being incoming voters
+abbrev pub retiring : Configuration → Configuration → Ids
+retiring c target = ids_where (λ id. not (has target.incoming id)) (ascending c.incoming)
 
--- the learners that are incoming voters neither before nor after, ascending
-abbrev pub other_learners : Configuration → Configuration → List ℕ
+-- the learners that are incoming voters neither before nor after
+abbrev pub other_learners : Configuration → Configuration → Ids
 other_learners c target =
-    filter (λ id. not (has c.incoming id || has target.incoming id)) (ascending (union c.learners target.learners))
+    ids_where (λ id. not (has c.incoming id || has target.incoming id)) (ascending (union c.learners target.learners))
+
+-- those of some ids that are down, and those that are up, ascending
+abbrev pub those_down : Ids → Ids → List ℕ
+those_down down ids = ascending (ids_where (has down) (ascending ids))
+
+abbrev pub those_up : Ids → Ids → List ℕ
+those_up down ids = ascending (ids_where (λ id. not (has down id)) (ascending ids))
 
 -- the ids of two lists in turn; when one list ends, the rest of the other follows
 abbrev pub in_turn : List ℕ → List ℕ → List ℕ
@@ -44,20 +51,13 @@ in_turn [] retires = retires
 in_turn (id ∷ joins) [] = id ∷ joins
 in_turn (id ∷ joins) (other ∷ retires) = id ∷ other ∷ in_turn joins retires
 
--- those of a list that are down, and those that are up
-abbrev pub those_down : Ids → List ℕ → List ℕ
-those_down down ids = filter (has down) ids
-
-abbrev pub those_up : Ids → List ℕ → List ℕ
-those_up down ids = filter (λ id. not (has down id)) ids
-
 -- the order: voters that are down retire, the others join and retire in turn, those that are down join, and the other
 -- learners follow
 abbrev pub order : Ids → Configuration → Configuration → List ℕ
 order down c target =
     those_down down (retiring c target)
     ++ (in_turn (those_up down (joining c target)) (those_up down (retiring c target))
-    ++ (those_down down (joining c target) ++ other_learners c target))
+    ++ (those_down down (joining c target) ++ ascending (other_learners c target)))
 
 -- the ids that are down, if both configurations commit without them; none otherwise, since then no order helps
 abbrev pub down_in_order : Ids → Configuration → Configuration → Ids

@@ -5,7 +5,7 @@ use Rattle.conf_change.specs.Configuration.{Configuration, is_joint, is_same}
 use Rattle.conf_change.specs.Outcome.{after_leave}
 use Rattle.conf_change.specs.declared.step.Step.{Step}
 use Rattle.conf_change.specs.declared.step.Step.TheVariants.{LeaveJoint}
-use Rattle.conf_plan.specs.Alive.{ShortestServes, LearnersFirstServes, OneAtATimeServes}
+use Rattle.conf_plan.specs.OnTheWay.{ShortestPromises, LearnersFirstPromises, OneAtATimePromises}
 use Rattle.conf_plan.specs.LearnersFirst.{learners_first_from_single}
 use Rattle.conf_plan.specs.OneAtATime.{one_at_a_time_from_single}
 use Rattle.conf_plan.specs.Planned.{planned_from_single}
@@ -31,7 +31,7 @@ has_path LearnersFirst now target = true
 has_path OneAtATime now target = is_same now target || not (is_joint target)
 
 -- what the strategy promises of its path, which is made while these ids are down
-abbrev pub Serves : Strategy → Ids → Configuration → List Step → Configuration → Type 0
-Serves Shortest down = ShortestServes
-Serves LearnersFirst down = LearnersFirstServes
-Serves OneAtATime down = OneAtATimeServes down
+abbrev pub KeepsPromises : Strategy → Ids → Configuration → List Step → Configuration → Type 0
+KeepsPromises Shortest down = ShortestPromises
+KeepsPromises LearnersFirst down = LearnersFirstPromises
+KeepsPromises OneAtATime down = OneAtATimePromises down

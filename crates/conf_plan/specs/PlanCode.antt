@@ -1,5 +1,5 @@
--- The parser of plans, as a function.
-use Rattle.std.specs.Prelude.{ℕ, ◌+◌, Bool, true, false, ◌&&◌, ◌==◌, List, [], ◌∷◌, codes, Option, Some, None, option_map, Result, Ok, Err, bytes_eq, if◌then◌else◌}
+-- The parsers of paths and of plans, as functions.
+use Rattle.std.specs.Prelude.{ℕ, ◌+◌, Bool, true, false, ◌&&◌, List, [], ◌∷◌, length, nat_le, codes, Option, Some, None, option_map, Result, Ok, Err, bytes_eq, if◌then◌else◌}
 use Rattle.std.specs.Result.{result_ok}
 use Rattle.ascii_text.specs.Tokens.{tokens_in}
 use Rattle.conf_change.specs.ChangeList.{changes_in_tokens}
@@ -8,7 +8,7 @@ use Rattle.conf_change.specs.declared.step.Step.{Step}
 use Rattle.conf_change.specs.declared.step.Step.TheVariants.{Simple, EnterJoint, LeaveJoint}
 use Rattle.conf_plan.specs.PlanText.{flag_token, plan_lines}
 use Rattle.conf_plan.specs.declared.text.PlanTextFault.{PlanTextFault}
-use Rattle.conf_plan.specs.declared.text.PlanTextFault.TheVariants.{BadLine, TooManySteps}
+use Rattle.conf_plan.specs.declared.text.PlanTextFault.TheVariants.{BadLine, TooManySteps, NoMemory}
 
 -- the changes of tokens, if each token is parsed as a change
 abbrev pub list_in : List (List ℕ) → Option (List Change)
@@ -41,28 +41,40 @@ step_in (command ∷ tokens) =
     else (if bytes_eq command (codes "enter-joint") then enter_in tokens
     else (if bytes_eq command (codes "leave-joint") then leave_in tokens else None))
 
--- the step of the line with this number, before the others, or the first error: that of this line or of a later one
-abbrev pub and_steps : ℕ → Option Step → Result (List Step) PlanTextFault → Result (List Step) PlanTextFault
-and_steps number None others = Err (BadLine number)
-and_steps number (Some step) (Err fault) = Err fault
-and_steps number (Some step) (Ok steps) = Ok (step ∷ steps)
+-- the step of a line, before those of the lines after it; or the first error, its line counted from this one
+abbrev pub and_steps : Option Step → Result (List Step) PlanTextFault → Result (List Step) PlanTextFault
+and_steps None others = Err (BadLine 1)
+and_steps (Some step) (Ok steps) = Ok (step ∷ steps)
+and_steps (Some step) (Err (BadLine number)) = Err (BadLine (number + 1))
+and_steps (Some step) (Err TooManySteps) = Err TooManySteps
+and_steps (Some step) (Err NoMemory) = Err NoMemory
 
--- the steps of lines that follow this number of other lines; a fifth line is one too many
-abbrev pub steps_in : ℕ → List (List ℕ) → Result (List Step) PlanTextFault
-steps_in before [] = Ok []
-steps_in before (line ∷ lines) =
-    if before == 4 then Err TooManySteps else and_steps (before + 1) (step_in (tokens_in line)) (steps_in (before + 1) lines)
+-- the steps of lines
+abbrev pub steps_in : List (List ℕ) → Result (List Step) PlanTextFault
+steps_in [] = Ok []
+steps_in (line ∷ lines) = and_steps (step_in (tokens_in line)) (steps_in lines)
 
 -- the tokens are those of `nothing to do`
 abbrev pub is_nothing : List (List ℕ) → Bool
 is_nothing (a ∷ b ∷ c ∷ []) = bytes_eq a (codes "nothing") && bytes_eq b (codes "to") && bytes_eq c (codes "do")
 is_nothing _ = false
 
--- the steps that the lines of a plan are parsed as
-abbrev pub plan_in_lines : List (List ℕ) → Result (List Step) PlanTextFault
-plan_in_lines (line ∷ []) = if is_nothing (tokens_in line) then Ok [] else steps_in 0 (line ∷ [])
-plan_in_lines lines = steps_in 0 lines
+-- the steps that the lines of a path are parsed as
+abbrev pub path_in_lines : List (List ℕ) → Result (List Step) PlanTextFault
+path_in_lines (line ∷ []) = if is_nothing (tokens_in line) then Ok [] else steps_in (line ∷ [])
+path_in_lines lines = steps_in lines
+
+-- the path that a text is parsed as, or why it is not parsed
+abbrev pub path_in : List ℕ → Result (List Step) PlanTextFault
+path_in text = path_in_lines (plan_lines text)
+
+-- the plan of a path that was read, if its lines are at most four; a fifth line is one too many, whatever it is
+abbrev pub at_most_four : Result (List Step) PlanTextFault → Result (List Step) PlanTextFault
+at_most_four (Ok steps) = if nat_le (length steps) 4 then Ok steps else Err TooManySteps
+at_most_four (Err (BadLine number)) = if nat_le number 4 then Err (BadLine number) else Err TooManySteps
+at_most_four (Err TooManySteps) = Err TooManySteps
+at_most_four (Err NoMemory) = Err NoMemory
 
 -- the plan that a text is parsed as, or why it is not parsed
 abbrev pub plan_in : List ℕ → Result (List Step) PlanTextFault
-plan_in text = plan_in_lines (plan_lines text)
+plan_in text = at_most_four (path_in text)

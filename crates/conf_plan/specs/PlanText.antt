@@ -1,5 +1,5 @@
--- The text of a plan: how it is printed, and which texts are parsed as which plans.
-use Rattle.std.specs.Prelude.{◌≡◌, ℕ, ◌+◌, ◌≤◌, Bool, ◌==◌, ◌⊎◌, List, [], ◌∷◌, ◌++◌, length, map, flat_map, filter, codes, decimal, if◌then◌else◌}
+-- The text of a path: how it is printed, and which texts are parsed as which paths, and as which plans.
+use Rattle.std.specs.Prelude.{◌≡◌, ℕ, ◌+◌, ◌<◌, ◌≤◌, Bool, ◌==◌, ◌⊎◌, List, [], ◌∷◌, ◌++◌, length, take, map, flat_map, filter, codes, decimal, if◌then◌else◌}
 use Rattle.std.specs.List.{AllZip, join_with_byte, slice_split}
 use Rattle.ascii_text.specs.Tokens.{has_bytes, tokens_in}
 use Rattle.conf_change.specs.ChangeList.{letter_of, ParsesTo}
@@ -71,41 +71,41 @@ pub record IsNothingToDo (text : List ℕ) : Type 0 where
   pub alone : plan_lines text ≡ line ∷ []
   pub line_tokens : tokens_in line ≡ codes "nothing" ∷ codes "to" ∷ codes "do" ∷ []
 
--- the lines of the text, from one to four, are those of the steps in order
-pub record IsTextOf (text : List ℕ) (steps : List Step) : Type 0 where
-  pub at_most_four : length steps ≤ 4
-  pub lines : AllZip IsLineOf (plan_lines text) steps
+-- the lines of the text are those of the steps in order, or it is `nothing to do` and there is no step
+abbrev pub ParsesToPath : List ℕ → List Step → Type 0
+ParsesToPath text steps = ((steps ≡ []) × IsNothingToDo text) ⊎ AllZip IsLineOf (plan_lines text) steps
 
--- the text is parsed as the plan of these steps
-abbrev pub ParsesToPlan : List ℕ → List Step → Type 0
-ParsesToPlan text steps = ((steps ≡ []) × IsNothingToDo text) ⊎ IsTextOf text steps
-
--- the line with this number, counted from 1 and at most 4, is the first that is not parsed as a step, and the text is
--- not `nothing to do`
-pub record IsFirstBadLine (text : List ℕ) (number : ℕ) : Type 0 where
+-- the line with this number, counted from 1, is the first of the lines that is not parsed as a step
+pub record IsFirstBadLine (lines : List (List ℕ)) (number : ℕ) : Type 0 where
   pub before : List (List ℕ)
   pub line : List ℕ
   pub after : List (List ℕ)
   pub steps : List Step
-  pub position : plan_lines text ≡ before ++ line ∷ after
+  pub position : lines ≡ before ++ line ∷ after
   pub counted : number ≡ length before + 1
-  pub in_first_four : number ≤ 4
   pub parsed : AllZip IsLineOf before steps
   pub bad : (step : Step) → ¬ (IsLineOf line step)
-  pub something : ¬ (IsNothingToDo text)
 
--- four steps are followed by a fifth line, whatever it is
+-- the text is not parsed as a path, for this reason; running out of memory is not a reason of the text
+abbrev pub HasPathFault : List ℕ → PlanTextFault → Type 0
+HasPathFault text (BadLine number) = (¬ (IsNothingToDo text)) × IsFirstBadLine (plan_lines text) number
+HasPathFault text TooManySteps = ⊥
+HasPathFault text NoMemory = ⊥
+
+-- ---- paths of at most four steps
+-- the text is parsed as the plan of these steps: as a path of at most four steps
+pub record ParsesToPlan (text : List ℕ) (steps : List Step) : Type 0 where
+  pub at_most_four : length steps ≤ 4
+  pub path : ParsesToPath text steps
+
+-- the first four lines are those of steps, and they are followed by a fifth line, whatever it is
 pub record IsTooLong (text : List ℕ) : Type 0 where
-  pub before : List (List ℕ)
-  pub fifth : List ℕ
-  pub after : List (List ℕ)
   pub steps : List Step
-  pub position : plan_lines text ≡ before ++ fifth ∷ after
-  pub four : length before ≡ 4
-  pub parsed : AllZip IsLineOf before steps
+  pub parsed : AllZip IsLineOf (take 4 (plan_lines text)) steps
+  pub fifth : 4 < length (plan_lines text)
 
--- the text is not parsed as a plan, for this reason; running out of memory is not a reason of the text
-abbrev pub HasFault : List ℕ → PlanTextFault → Type 0
-HasFault text (BadLine number) = IsFirstBadLine text number
-HasFault text TooManySteps = IsTooLong text
-HasFault text NoMemory = ⊥
+-- the text is not parsed as a plan, for this reason; a bad line is one of the first four
+abbrev pub HasPlanFault : List ℕ → PlanTextFault → Type 0
+HasPlanFault text (BadLine number) = (number ≤ 4) × HasPathFault text (BadLine number)
+HasPlanFault text TooManySteps = IsTooLong text
+HasPlanFault text NoMemory = ⊥

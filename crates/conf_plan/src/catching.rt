@@ -7,7 +7,7 @@ ghost use Rattle.conf_change.specs.Configuration.{is_member};
 ghost use Rattle.conf_change.specs.Step.{changes_of};
 ghost use Rattle.conf_change.specs.Transition.{step_of};
 ghost use Rattle.conf_change.specs.declared.step.Step.{Step};
-ghost use Rattle.conf_plan.specs.Alive.{catching_up};
+ghost use Rattle.conf_plan.specs.OnTheWay.{catching_up};
 
 use crate::picked::picked;
 use conf_change::{Change, Config, Kind, Step, StepKind, union};

@@ -1,7 +1,7 @@
 //! Laws of this crate's definitions: what is true of all runs, plans and texts. A run is a list of steps that are
 //! accepted one after another. Each law is the contract of a function that does nothing.
-ghost use Rattle.std.specs.Prelude.{◌≡◌, ◌≤◌, ◌↔◌, ◌⊎◌, ℕ, true, List, length, map, Ok, Err, Some};
-ghost use Rattle.std.specs.List.{join_with_byte};
+ghost use Rattle.std.specs.Prelude.{◌≡◌, ◌+◌, ◌<◌, ◌≤◌, ◌↔◌, ◌⊎◌, ℕ, true, List, ◌++◌, length, map, Ok, Err, Some};
+ghost use Rattle.std.specs.List.{All, join_with_byte};
 ghost use Rattle.quorum_sets.specs.Ids.{Ids};
 ghost use Rattle.conf_change.specs.Configuration.{Configuration};
 ghost use Rattle.conf_change.specs.Changer.{ChangerState, IsSound, Accepts};
@@ -10,19 +10,20 @@ ghost use Rattle.conf_change.specs.Progress.{keeps_progress};
 ghost use Rattle.conf_change.specs.Step.{changes_of};
 ghost use Rattle.conf_change.specs.Transition.{steps_for};
 ghost use Rattle.conf_change.specs.declared.change.Change.{Change};
+ghost use Rattle.conf_change.specs.declared.refused.Refused.{Refused};
 ghost use Rattle.conf_change.specs.declared.step.Step.{Step};
 ghost use Rattle.conf_change.specs.declared.transition.Transition.{Transition};
 ghost use Rattle.conf_plan.specs.declared.strategy.Strategy.{Strategy};
 ghost use Rattle.conf_plan.specs.declared.strategy.Strategy.TheVariants.{Shortest};
 ghost use Rattle.conf_plan.specs.declared.text.PlanTextFault.{PlanTextFault};
-ghost use Rattle.conf_plan.specs.Best.{times_named, HasSameRoles, IsBest};
+ghost use Rattle.conf_plan.specs.Best.{times_named, is_in, HasSameRoles, IsBest};
 ghost use Rattle.conf_plan.specs.OneChangeEach.{one_change_each};
-ghost use Rattle.conf_plan.specs.PathBy.{has_path, path_by, Serves};
+ghost use Rattle.conf_plan.specs.PathBy.{has_path, path_by, KeepsPromises};
 ghost use Rattle.conf_plan.specs.Planned.{planned};
 ghost use Rattle.conf_plan.specs.PlanSteps.{HasU64Ids, IsPlan};
-ghost use Rattle.conf_plan.specs.PlanText.{ParsesToPlan, HasFault, change_text, plan_text};
-ghost use Rattle.conf_plan.specs.PlanCode.{plan_in};
-ghost use Rattle.conf_plan.specs.Run.{IsRun, IsValidWithVoter, Takes, HasKeptProgress, after_steps};
+ghost use Rattle.conf_plan.specs.PlanText.{ParsesToPath, ParsesToPlan, HasPathFault, HasPlanFault, change_text, plan_text};
+ghost use Rattle.conf_plan.specs.PlanCode.{path_in, plan_in};
+ghost use Rattle.conf_plan.specs.Run.{IsRun, IsValidWithVoter, Takes, StopsAt, HasKeptProgress, after_steps};
 ghost use Rattle.conf_plan.specs.SamePlans.{is_same_plan};
 
 /// A run that starts at a valid configuration with a voter ends at one.
@@ -53,10 +54,10 @@ pub fn planned_is_best()
 /// member at a time has the fewest steps of its kind, and does not enter a joint configuration. On the last two, each
 /// new voter was a learner with progress, no id that has to catch up is a voter, and the progress that any run to the
 /// target preserves is preserved.
-pub fn paths_serve()
+pub fn paths_keep_promises()
     ensures shortest { (down : Ids) (now target : Configuration) → path_by Shortest down now target ≡ planned now target }
-    ensures serves { (strategy : Strategy) (down : Ids) (now target : Configuration) → IsValidWithVoter now → IsValidWithVoter target
-        → has_path strategy now target ≡ true → Serves strategy down now (path_by strategy down now target) target }
+    ensures promises { (strategy : Strategy) (down : Ids) (now target : Configuration) → IsValidWithVoter now → IsValidWithVoter target
+        → has_path strategy now target ≡ true → KeepsPromises strategy down now (path_by strategy down now target) target }
 {}
 
 /// Each path leads to the target, too, if each change of its simple steps is a step of its own, as it is proposed to
@@ -101,12 +102,38 @@ pub fn one_changer_after_steps()
         → (after : ChangerState) × (after_steps before steps ≡ Some after) × (after.tracker.config ≡ target) }
 {}
 
-/// A text is either parsed as exactly one plan or has exactly one error, and the parser returns it. The printed text of
-/// a plan is parsed as the plan, and the printed changes of a step as these changes.
+/// Steps taken in parts are the steps taken at once: the first ones lead to where the rest goes on, and the rest ends
+/// where all of them do. If a part stops, so do all of them, at the same step: it counts the steps of the first part too.
+pub fn parts_are_the_whole()
+    ensures taken { (before after : ChangerState) (first rest : List Step) → (Takes before (first ++ rest) after) ↔ ((between : ChangerState) × Takes before first between × Takes between rest after) }
+    ensures run { (before after : Configuration) (first rest : List Step) → (IsRun before (first ++ rest) after) ↔ ((between : Configuration) × IsRun before first between × IsRun between rest after) }
+    ensures first_stops { (before after : ChangerState) (first rest : List Step) (number : ℕ) (why : Refused) → StopsAt before first number why after → StopsAt before (first ++ rest) number why after }
+    ensures rest_stops { (before between after : ChangerState) (first rest : List Step) (number : ℕ) (why : Refused) → Takes before first between → StopsAt between rest number why after
+        → StopsAt before (first ++ rest) (length first + number) why after }
+{}
+
+/// Each id of the configuration after a run is one of the configuration before it, or is named by a step.
+pub fn ids_are_named()
+    ensures { (before after : Configuration) (steps : List Step) (id : ℕ) → IsRun before steps after → is_in after id ≡ true → (is_in before id ≡ true) ⊎ (0 < times_named id steps) }
+{}
+
+/// A text is either parsed as exactly one path or has exactly one error, and the parser returns it. The printed text of
+/// a path, of any length, is parsed as its steps alone. The ids that are parsed have 64 bits.
+pub fn one_path_per_text()
+    ensures ok { (text : List ℕ) (steps : List Step) → (ParsesToPath text steps) ↔ (path_in text ≡ Ok steps) }
+    ensures err { (text : List ℕ) (fault : PlanTextFault) → (HasPathFault text fault) ↔ (path_in text ≡ Err fault) }
+    ensures each { (text : List ℕ) → ((steps : List Step) × ParsesToPath text steps) ⊎ ((fault : PlanTextFault) × HasPathFault text fault) }
+    ensures one { (text : List ℕ) (a b : List Step) → ParsesToPath text a → ParsesToPath text b → a ≡ b }
+    ensures printed { (steps other : List Step) → All HasU64Ids steps → (ParsesToPath (plan_text steps) other) ↔ (other ≡ steps) }
+    ensures u64_ids { (text : List ℕ) (steps : List Step) → ParsesToPath text steps → All HasU64Ids steps }
+{}
+
+/// A text is either parsed as exactly one plan, a path of at most four steps, or has exactly one error, and the parser
+/// returns it. The printed text of a plan is parsed as the plan, and the printed changes of a step as these changes.
 pub fn one_plan_per_text()
     ensures ok { (text : List ℕ) (steps : List Step) → (ParsesToPlan text steps) ↔ (plan_in text ≡ Ok steps) }
-    ensures err { (text : List ℕ) (fault : PlanTextFault) → (HasFault text fault) ↔ (plan_in text ≡ Err fault) }
-    ensures each { (text : List ℕ) → ((steps : List Step) × ParsesToPlan text steps) ⊎ ((fault : PlanTextFault) × HasFault text fault) }
+    ensures err { (text : List ℕ) (fault : PlanTextFault) → (HasPlanFault text fault) ↔ (plan_in text ≡ Err fault) }
+    ensures each { (text : List ℕ) → ((steps : List Step) × ParsesToPlan text steps) ⊎ ((fault : PlanTextFault) × HasPlanFault text fault) }
     ensures one { (text : List ℕ) (a b : List Step) → ParsesToPlan text a → ParsesToPlan text b → a ≡ b }
     ensures printed { (steps : List Step) → IsPlan steps → ParsesToPlan (plan_text steps) steps }
     ensures changes { (step : Step) → HasU64Ids step → Denotes (join_with_byte 32 (map change_text (changes_of step))) (changes_of step) }

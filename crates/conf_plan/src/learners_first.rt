@@ -1,5 +1,5 @@
 //! The path on which new voters are learners first (Ongaro's dissertation, section 4.2.1). A learner gets the log and
-//! does not vote, so the old voters keep the cluster serving while the learner catches up:
+//! does not vote, so the old voters commit without it while it catches up:
 //!
 //! ```text
 //! (1 2 3)                     --simple l4 l5-->

@@ -27,8 +27,8 @@
 //! join last, since etcd's server adds no member while a voter cannot be reached. [`Path::one_change_each`] gives a path
 //! with simple steps of one change each, as it is proposed to etcd's raft.
 //!
-//! [`apply_plan`] applies a plan to a changer. [`print_plan`] and [`print_path`] write one step per line, and
-//! [`read_plan`] reads a plan back:
+//! [`apply_plan`] and [`apply_path`] apply the steps to a changer. [`print_plan`] and [`print_path`] write one step per
+//! line, and [`read_plan`] and [`read_path`] read them back:
 //!
 //! ```text
 //! let steps = plan(alloc, changer.tracker().config(), &target)?;
@@ -53,10 +53,12 @@ pub mod step_list;
 pub mod strategy;
 pub mod text;
 
-pub use apply::{StepRefused, apply_plan};
+pub use apply::{StepRefused, apply_path, apply_plan};
 pub use catching::{catching_up, catching_up_by};
 pub use path::Path;
 pub use planner::{PlanFault, plan};
 pub use step_list::Plan;
 pub use strategy::{NoPath, Strategy, plan_by};
-pub use text::{PlanTextFault, changes_text, command_text, print_path, print_plan, read_plan};
+pub use text::{
+    PlanTextFault, changes_text, command_text, print_path, print_plan, read_path, read_plan,
+};

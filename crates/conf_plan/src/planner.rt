@@ -24,7 +24,7 @@ use crate::one_at_a_time::add_one_at_a_time;
 use crate::shared_members::shared_members;
 use crate::single::Single;
 use crate::step_list::Plan;
-use crate::strategy::Strategy;
+use crate::strategy::{NoPath, Strategy, plan_by};
 use conf_change::{Changes, Config, Step, union};
 use quorum_sets::{MemberSet, NoMemory, symdiff};
 use std::alloc::Global;
@@ -56,9 +56,9 @@ impl From<NoMemory> for PlanFault {
 
 /// The plan from one configuration to another: the best steps that lead there. No other steps are fewer, preserve the
 /// progress of a member that the plan resets, or name an id in fewer changes, and the quorums before and after each
-/// step overlap (own). Logs are not considered: a new voter begins with an empty one, so for a cluster that has to keep
-/// serving, choose another [`Strategy`]. There is a plan between any two configurations with voters; a configuration
-/// without voters is refused before anything is allocated.
+/// step overlap (own). Logs are not considered: a new voter begins with an empty one. By another [`Strategy`] it can
+/// catch up before it votes. There is a plan between any two configurations with voters; a configuration without voters
+/// is refused before anything is allocated.
 pub fn plan<S: MemberSet>(
     alloc: Global,
     now: &Config<S>,
@@ -71,16 +71,14 @@ pub fn plan<S: MemberSet>(
     ensures no_voter_now { (result ≡ Err PlanFault.NoVoterNow) ↔ (has_voter now.now ≡ false) }
     ensures no_voter_target { (result ≡ Err PlanFault.NoVoterTarget) ↔ ((has_voter now.now ≡ true) × (has_voter target.now ≡ false)) }
 {
-    if now.incoming.len() == 0 {
-        return Err(PlanFault::NoVoterNow);
-    }
-    if target.incoming.len() == 0 {
-        return Err(PlanFault::NoVoterTarget);
-    }
-    let mut steps = Vec::new(alloc);
     let none = S::empty(alloc);
-    add_path(alloc, Strategy::Shortest, &mut steps, now, target, &none)?;
-    Ok(Plan::of_steps(steps))
+    match plan_by(alloc, Strategy::Shortest, now, target, &none) {
+        Ok(path) => Ok(Plan::of_path(path)),
+        Err(NoPath::NoVoterNow) => Err(PlanFault::NoVoterNow),
+        Err(NoPath::NoVoterTarget) => Err(PlanFault::NoVoterTarget),
+        Err(NoPath::JointTarget) => unreachable!(),
+        Err(NoPath::NoMemory) => Err(PlanFault::NoMemory),
+    }
 }
 
 // Appends the path from one configuration to another by a strategy, while these ids are down. Every path out of a joint configuration begins with

@@ -1,26 +1,36 @@
-//! Plans: lists of at most four steps.
-ghost use Rattle.std.specs.Prelude.{◌≡◌, ◌≤◌, length, option_copied, slice_get};
-ghost use Rattle.conf_plan.specs.PlanSteps.{IsPlan};
+//! Plans: paths of at most four steps.
+ghost use Rattle.std.specs.Prelude.{◌≡◌, ◌≤◌, length};
 
+use crate::path::Path;
 use conf_change::Step;
 use std::marker::Model;
+use std::ops::Deref;
 
-/// At most four steps that follow one another. No two configurations with voters are further apart (own).
+/// A [`Path`] of at most four steps. No two configurations with voters are further apart (own).
 #[derive(Debug, Drop)]
 pub struct Plan {
-    steps: Vec<Step>,
+    path: Path,
 }
 
 impl Model for Plan {
-    ghost use Rattle.std.specs.Prelude.{List};
+    ghost use Rattle.std.specs.Prelude.{◌≤◌, List, length};
     ghost use Rattle.conf_change.specs.declared.step.Step.{Step};
-    ghost use Rattle.conf_plan.specs.PlanSteps.{IsPlan};
 
     ghost Value = { List Step };
 
-    ghost view = { λ plan. plan.steps.items };
+    ghost view = { λ plan. plan.path };
 
-    ghost invariant = { λ plan. IsPlan plan.steps.items };
+    ghost invariant = { λ plan. length plan.path ≤ 4 };
+}
+
+impl Deref for Plan {
+    type Target = Path;
+
+    ghost deref_gives = { λ plan path. (path ≡ plan) × (length path ≤ 4) };
+
+    fn deref(&self) -> &Path {
+        &self.path
+    }
 }
 
 impl PartialEq for Plan {
@@ -31,40 +41,16 @@ impl PartialEq for Plan {
     ghost laws = { is_same_plan-laws };
 
     fn eq(&self, other: &Plan) -> bool {
-        self.steps == other.steps
+        self.as_slice() == other.as_slice()
     }
 }
 
 impl Plan {
-    // The plan of these steps.
-    pub(crate) fn of_steps(steps: Vec<Step>) -> Plan
-        requires { IsPlan steps.items }
-        ensures { result ≡ steps.items }
+    // The plan of this path.
+    pub(crate) fn of_path(path: Path) -> Plan
+        requires { length path ≤ 4 }
+        ensures { result ≡ path }
     {
-        Plan { steps }
-    }
-
-    /// The steps in the order in which they are taken.
-    pub fn as_slice(&self) -> &[Step]
-        ensures steps { result.now ≡ self.now }
-        ensures plan { IsPlan self.now }
-    {
-        self.steps.as_slice()
-    }
-
-    /// How many steps it has, 0 to 4.
-    pub fn len(&self) -> usize
-        ensures len { result ≡ length self.now }
-        ensures at_most_four { result ≤ 4 }
-        ensures plan { IsPlan self.now }
-    {
-        self.steps.len()
-    }
-
-    /// The step at an index, counted from 0.
-    pub fn step(&self, index: usize) -> Option<&Step>
-        ensures { option_copied result ≡ slice_get self.now index }
-    {
-        self.steps.get(index)
+        Plan { path }
     }
 }

@@ -1,7 +1,7 @@
 //! The strategies by which a path is chosen: for few steps, or so that new voters can catch up before they vote.
 ghost use Rattle.std.specs.Prelude.{◌≡◌, ◌↔◌, true, false, Err, IfOk};
 ghost use Rattle.conf_change.specs.Configuration.{is_valid, has_voter};
-ghost use Rattle.conf_plan.specs.PathBy.{has_path, path_by, Serves};
+ghost use Rattle.conf_plan.specs.PathBy.{has_path, path_by, KeepsPromises};
 
 use crate::path::Path;
 use crate::planner::add_path;
@@ -10,7 +10,7 @@ use quorum_sets::{MemberSet, NoMemory};
 use std::alloc::Global;
 use thiserror::Error;
 
-/// How a path is chosen: for as few steps as possible, or so that the cluster can keep serving on the way.
+/// How a path is chosen: for as few steps as possible, or so that new voters can catch up before they vote.
 #[derive(Clone, Copy, Debug, PartialEq, Eq)]
 pub enum Strategy {
     /// As few steps as possible: the path is that of [`plan`](crate::plan).
@@ -48,10 +48,10 @@ impl From<NoMemory> for NoPath {
     }
 }
 
-/// The path from one configuration to another by a strategy, which keeps the strategy's promises (`Serves`). Refused,
-/// before anything is allocated, if a configuration has no voter, and by [`Strategy::OneAtATime`] also if the target is
-/// joint and is not the current configuration (own). [`Strategy::OneAtATime`] looks at the ids that are down: if both
-/// configurations commit without them, voters that are down retire first and join last.
+/// The path from one configuration to another by a strategy, which keeps the strategy's promises (`KeepsPromises`).
+/// Refused, before anything is allocated, if a configuration has no voter, and by [`Strategy::OneAtATime`] also if the
+/// target is joint and is not the current configuration (own). [`Strategy::OneAtATime`] looks at the ids that are down:
+/// if both configurations commit without them, voters that are down retire first and join last.
 pub fn plan_by<S: MemberSet>(
     alloc: Global,
     strategy: Strategy,
@@ -62,7 +62,7 @@ pub fn plan_by<S: MemberSet>(
     requires valid_now { is_valid now.now ≡ true }
     requires valid_target { is_valid target.now ≡ true }
     ensures path { IfOk result (λ path. path ≡ path_by strategy (S.ids down.now) now.now target.now) }
-    ensures serves { IfOk result (λ path. Serves strategy (S.ids down.now) now.now path target.now) }
+    ensures promises { IfOk result (λ path. KeepsPromises strategy (S.ids down.now) now.now path target.now) }
     ensures no_voter_now { (result ≡ Err NoPath.NoVoterNow) ↔ (has_voter now.now ≡ false) }
     ensures no_voter_target { (result ≡ Err NoPath.NoVoterTarget) ↔ ((has_voter now.now ≡ true) × (has_voter target.now ≡ false)) }
     ensures joint_target { (result ≡ Err NoPath.JointTarget) ↔ ((has_voter now.now ≡ true) × (has_voter target.now ≡ true) × (has_path strategy now.now target.now ≡ false)) }

@@ -1,4 +1,4 @@
-//! The text of a plan: a line for each step, or `nothing to do`. A line is the command of the step, as in a script, and
+//! The text of a path: a line for each step, or `nothing to do`. A line is the command of the step, as in a script, and
 //! then its changes. The form is own:
 //!
 //! ```text
@@ -12,9 +12,9 @@ ghost use Rattle.ascii_text.specs.Tokens.{tokens_in};
 ghost use Rattle.conf_change.specs.ChangeList.{letter_of};
 ghost use Rattle.conf_change.specs.Text.{Extends};
 ghost use Rattle.conf_change.specs.declared.step.Step.{Step};
-ghost use Rattle.conf_plan.specs.PlanText.{ParsesToPlan, HasFault, command_tokens, change_text, spaced_change, line_and_newline, plan_text, plan_lines};
+ghost use Rattle.conf_plan.specs.PlanText.{ParsesToPath, ParsesToPlan, HasPathFault, HasPlanFault, command_tokens, change_text, spaced_change, line_and_newline, plan_text, plan_lines};
 ghost use Rattle.conf_plan.specs.PlanCode as code;
-ghost use Rattle.conf_plan.specs.PlanCode.{plan_in, step_in, enter_in, list_in};
+ghost use Rattle.conf_plan.specs.PlanCode.{path_in, plan_in, step_in, enter_in, list_in};
 ghost use Rattle.conf_plan.specs.declared.text.PlanTextFault.{PlanTextFault};
 
 use crate::path::Path;
@@ -27,13 +27,13 @@ use quorum_sets::NoMemory;
 use std::alloc::{AllocFailed, Global};
 use thiserror::Error;
 
-/// Why a text is not parsed as a plan.
+/// Why a text is not parsed as a path, or not as a plan.
 #[derive(Clone, Copy, Debug, PartialEq, Eq, Error)]
 pub enum PlanTextFault {
     /// The line with this number, counted from 1, is the first that is not parsed as a step.
     #[error("line {0}: bad line")]
     BadLine(usize),
-    /// A fifth line follows four steps.
+    /// A plan has a fifth line, after four steps.
     #[error("too many steps")]
     TooManySteps,
     /// An allocation failed.
@@ -63,33 +63,25 @@ impl From<AllocFailed<Step>> for PlanTextFault {
 
 /// Appends the lines of a plan, each with a newline: `simple v1 r2`, `enter-joint autoleave=false l3`, `leave-joint`,
 /// or `nothing to do` if it has no step (own). [`read_plan`] reads it back as the same plan.
-#[tactic(auto, using(crate::proofs::PlanText::PrintedPlan::printed_laws))]
 pub fn print_plan(text: &mut Vec<u8>, plan: &Plan) -> Result<(), NoMemory>
     ensures ok { OnOk result (text.new.items ≡ text.old.items ++ plan_text plan.now) }
     ensures denotes { ParsesToPlan (plan_text plan.now) plan.now }
     ensures reads_back { plan_in (plan_text plan.now) ≡ Ok plan.now }
     ensures err { OnErr result (text.new.items ≡ text.old.items) }
 {
-    print_steps(text, plan.as_slice())
+    print_path(text, plan)
 }
 
-/// Appends the lines of a path, in the form of [`print_plan`] (own). If there are at most four, [`read_plan`] reads
-/// them as a plan of the same steps.
+/// Appends the lines of a path, in the form of [`print_plan`] (own). [`read_path`] reads it back as the same path.
+#[tactic(auto, using(crate::proofs::PlanText::PrintedPlan::printed_laws))]
 pub fn print_path(text: &mut Vec<u8>, path: &Path) -> Result<(), NoMemory>
     ensures ok { OnOk result (text.new.items ≡ text.old.items ++ plan_text path.now) }
-    ensures reads_back { length path.now ≤ 4 → plan_in (plan_text path.now) ≡ Ok path.now }
-    ensures err { OnErr result (text.new.items ≡ text.old.items) }
-{
-    print_steps(text, path.as_slice())
-}
-
-// Appends the lines of these steps, or nothing if memory runs out.
-fn print_steps(text: &mut Vec<u8>, steps: &[Step]) -> Result<(), NoMemory>
-    ensures ok { OnOk result (text.new.items ≡ text.old.items ++ plan_text steps.now) }
+    ensures denotes { ParsesToPath (plan_text path.now) path.now }
+    ensures reads_back { path_in (plan_text path.now) ≡ Ok path.now }
     ensures err { OnErr result (text.new.items ≡ text.old.items) }
 {
     let len = text.len();
-    let printed = append_plan(text, steps);
+    let printed = append_plan(text, path.as_slice());
     if printed.is_err() {
         text.truncate(len);
     }
@@ -197,41 +189,68 @@ fn letter(kind: Kind) -> u8
     }
 }
 
-/// Reads the lines of a plan, in the form of [`print_plan`]; tokens may have any white space around them, and ids
-/// leading zeros. Refused at the first line that is not parsed as a step, or at a fifth line. A blank line is not a
-/// step, and the empty text is one blank line (own).
-#[tactic(auto, using(crate::proofs::PlanText::PlanFromLines::answer_laws))]
+/// Reads the lines of a plan: a path of at most four steps. Refused as by [`read_path`], and at a fifth line, whatever
+/// it is (own).
 pub fn read_plan(alloc: Global, text: &[u8]) -> Result<Plan, PlanTextFault>
     ensures denotes { IfOk result (ParsesToPlan text.now) }
-    ensures fault { IfErr result (λ fault. (fault ≡ PlanTextFault.NoMemory) ⊎ HasFault text.now fault) }
+    ensures fault { IfErr result (λ fault. (fault ≡ PlanTextFault.NoMemory) ⊎ HasPlanFault text.now fault) }
     ensures read { (steps : List Step) → ParsesToPlan text.now steps → (result ≡ Ok steps) ⊎ (result ≡ Err PlanTextFault.NoMemory) }
-    ensures refused { (fault : PlanTextFault) → HasFault text.now fault → (result ≡ Err fault) ⊎ (result ≡ Err PlanTextFault.NoMemory) }
+    ensures refused { (fault : PlanTextFault) → HasPlanFault text.now fault → (result ≡ Err fault) ⊎ (result ≡ Err PlanTextFault.NoMemory) }
 
     // As a function of the text.
     ensures value { (result ≡ plan_in text.now) ⊎ (result ≡ Err PlanTextFault.NoMemory) }
+{
+    at_most_four(read_path(alloc, text))
+}
+
+// The plan of a path that was read, if its lines are at most four.
+fn at_most_four(read: Result<Path, PlanTextFault>) -> Result<Plan, PlanTextFault>
+    ensures { result ≡ code.at_most_four read }
+{
+    match read {
+        Ok(path) => {
+            if path.len() <= 4 {
+                Ok(Plan::of_path(path))
+            } else {
+                Err(PlanTextFault::TooManySteps)
+            }
+        }
+        Err(PlanTextFault::BadLine(number)) if number > 4 => Err(PlanTextFault::TooManySteps),
+        Err(fault) => Err(fault),
+    }
+}
+
+/// Reads the lines of a path of any length, in the form of [`print_path`]; tokens may have any white space around them,
+/// and ids leading zeros. Refused at the first line that is not parsed as a step, and never with `TooManySteps`. A blank
+/// line is not a step, and the empty text is one blank line (own).
+pub fn read_path(alloc: Global, text: &[u8]) -> Result<Path, PlanTextFault>
+    ensures denotes { IfOk result (ParsesToPath text.now) }
+    ensures fault { IfErr result (λ fault. (fault ≡ PlanTextFault.NoMemory) ⊎ HasPathFault text.now fault) }
+    ensures read { (steps : List Step) → ParsesToPath text.now steps → (result ≡ Ok steps) ⊎ (result ≡ Err PlanTextFault.NoMemory) }
+    ensures refused { (fault : PlanTextFault) → HasPathFault text.now fault → (result ≡ Err fault) ⊎ (result ≡ Err PlanTextFault.NoMemory) }
+
+    // As a function of the text.
+    ensures value { (result ≡ path_in text.now) ⊎ (result ≡ Err PlanTextFault.NoMemory) }
 {
     read_lines(alloc, text)
 }
 
 // Reads one step per line, up to the last line or the first error.
-fn read_lines(alloc: Global, text: &[u8]) -> Result<Plan, PlanTextFault>
-    ensures { (result ≡ plan_in text.now) ⊎ (result ≡ Err PlanTextFault.NoMemory) }
+fn read_lines(alloc: Global, text: &[u8]) -> Result<Path, PlanTextFault>
+    ensures { (result ≡ path_in text.now) ⊎ (result ≡ Err PlanTextFault.NoMemory) }
 {
     let (line, after) = first_line(text);
     if after.is_empty() && is_nothing(line) {
-        return Ok(Plan::of_steps(Vec::new(alloc)));
+        return Ok(Path::of_steps(Vec::new(alloc)));
     }
     let mut steps = Vec::new(alloc);
     let mut rest = text;
     loop {
-        if steps.len() == 4 {
-            return Err(PlanTextFault::TooManySteps);
-        }
         let (line, after) = first_line(rest);
         let step = read_step(alloc, line)?.ok_or(PlanTextFault::BadLine(steps.len() + 1))?;
         steps.push(step)?;
         if after.is_empty() {
-            return Ok(Plan::of_steps(steps));
+            return Ok(Path::of_steps(steps));
         }
         rest = after;
     }

@@ -1,17 +1,14 @@
 -- The plan names each id no more often than any run.
-use Rattle.std.proofs.Common.{◌≡◌, ℕ, zero, suc, ◌+◌, ◌≤◌, Bool, true, false, cond, not, ◌&&◌, ◌||◌, ◌==◌, List, [], ◌∷◌, ◌++◌, refl, sym, ap, subst, ◌∙◌, arith, eqb-true}
-use Rattle.std.proofs.Math.Bool.{or-false, and-true}
+use Rattle.std.proofs.Common.{◌≡◌, ℕ, zero, suc, ◌+◌, ◌≤◌, Bool, true, false, cond, not, ◌&&◌, ◌||◌, ◌==◌, List, [], ◌∷◌, ◌++◌, refl, sym, ap, subst, ◌∙◌, arith, eqb-true, is_some}
+use Rattle.std.proofs.Math.Bool.{or-false}
 use Rattle.std.specs.Prelude.{Option, Some, None, option_map, filter_map, count_by, nat_le}
 use Rattle.std.specs.List.{cons_option}
-use Rattle.std.specs.List.Sorted.{IsStrictlySortedBy}
-use Rattle.std.specs.Ordering.{nat_cmp}
-use Rattle.std.specs.Cmp.{nat_eq_equiv}
-use Rattle.std.proofs.lemmas.Bool.{true≢false, false_from_ne_true, cond_both, and_right, or_from}
+use Rattle.std.proofs.lemmas.Bool.{true≢false, false_from_ne_true, cond_both, or_from}
 use Rattle.std.proofs.lemmas.List.Sums.{sum_by-cons, sum_by-append}
 use Rattle.quorum_sets.specs.Ids.{Ids, has, difference_count, union}
-use Rattle.quorum_sets.proofs.Offered.{has-no_ids, ascending-is_sorted}
+use Rattle.quorum_sets.proofs.Offered.{has-no_ids}
 use Rattle.conf_change.specs.Configuration.{Configuration, is_joint, is_member}
-use Rattle.conf_change.specs.Change.{names, is_update}
+use Rattle.conf_change.specs.Change.{names}
 use Rattle.conf_change.specs.Outcome.{after_leave}
 use Rattle.conf_change.specs.Step.{changes_of}
 use Rattle.conf_change.specs.declared.change.Change.{Change}
@@ -27,7 +24,7 @@ use Rattle.conf_plan.proofs.FindingMoves.ResultingConfiguration.{IsSingle, IsSin
 use Rattle.conf_plan.proofs.FindingMoves.OfEachId.{change_of, has-union}
 use Rattle.conf_plan.proofs.Runs.PartOfEachId.{run-same_part}
 use Rattle.conf_plan.proofs.PlannedSteps.RunToTarget.{single_with-own, after_leave-is_single}
-use Rattle.conf_plan.proofs.FindingMoves.AscendingIds.{holds-above, holds}
+use Rattle.conf_plan.proofs.FindingMoves.AscendingIds.{times, times-ascending, times-cons}
 use Rattle.conf_plan.proofs.Runs.JointEnds.{LeavesFirst-from_IsRun, EntersLast-from_IsRun}
 use Rattle.conf_plan.proofs.Runs.Chains.{run-is_valid, IsRun-one}
 use Rattle.conf_plan.proofs.PlannedSteps.Shapes.{planned_from_single-of_shapes, planned-of_shapes}
@@ -45,47 +42,24 @@ once None = 0
 once (Some _) = 1
 
 -- the list of moves names an id once at most
-first_names : (kind_for : ℕ → Option Kind) (x q : ℕ) (rest : List Change) (later : Bool) (o : Option Kind) (same : Bool) → (x == q) ≡ same → kind_for x ≡ o
-    → (same ≡ true → later ≡ false) → count_by (names q) rest ≤ cond later (once (kind_for q)) 0
-    → count_by (names q) (cons_option (option_map (change_of x) o) rest) ≤ cond (same || later) (once (kind_for q)) 0
-first_names kind_for x q rest later None true here is apart fewer =
-    let none = subst (λ b. count_by (names q) rest ≤ cond b (once (kind_for q)) 0) (apart refl) fewer in omega arith
-first_names kind_for x q rest later None false here is apart fewer = fewer
-first_names kind_for x q rest later (Some kind) true here is apart fewer =
-    let none = subst (λ b. count_by (names q) rest ≤ cond b (once (kind_for q)) 0) (apart refl) fewer in
-    let one : once (kind_for q) ≡ 1 = ap (λ id. once (kind_for id)) (sym (eqb-true x q here)) ∙ ap once is in
-    let head = at_most_one (names q (change_of x kind)) in
-    let whole = sum_by-cons (λ y. cond (names q y) 1 0) (change_of x kind) rest in
-    omega arith
-  where
-    at_most_one : (b : Bool) → cond b 1 0 ≤ 1
-    at_most_one true = omega arith
-    at_most_one false = omega arith
-first_names kind_for x q rest later (Some kind) false here is apart fewer =
-    let whole = sum_by-cons (λ y. cond (names q y) 1 0) (change_of x kind) rest in
-    let without_effect : names q (change_of x kind) ≡ false = ap (λ b. b && not (q == 0) && not (is_update kind)) here in
-    let head : ◌≡◌ {A = ℕ} (cond (names q (change_of x kind)) 1 0) 0 = ap (λ b. cond b 1 0) without_effect in
-    omega arith
+named_first : (kind_for : ℕ → Option Kind) (q x n : ℕ) (rest : List Change) (o : Option Kind) → kind_for x ≡ o → count_by (names q) rest ≤ cond (is_some (kind_for q)) n 0
+    → count_by (names q) (cons_option (option_map (change_of x) o) rest) ≤ cond (is_some (kind_for q)) (cond (q == x) 1 0 + n) 0
+named_first kind_for q x n rest None is few = grind arith
+named_first kind_for q x n rest (Some kind) is few = grind (arith, sum_by-cons (λ y. cond (names q y) 1 0) (change_of x kind) rest, eqb-true x q)
 
-each_named_once : (kind_for : ℕ → Option Kind) (ids : List ℕ) (q : ℕ) → IsStrictlySortedBy nat_cmp ids
-    → count_by (names q) (filter_map (λ id. option_map (change_of id) (kind_for id)) ids) ≤ cond (holds q ids) (once (kind_for q)) 0
-unfolding IsStrictlySortedBy
-each_named_once kind_for [] q up = omega arith
-each_named_once kind_for (x ∷ ids) q up =
-    subst (λ b. count_by (names q) (filter_map (λ id. option_map (change_of id) (kind_for id)) (x ∷ ids)) ≤ cond (b || holds q ids) (once (kind_for q)) 0)
-    (nat_eq_equiv.symm x q)
-    (first_names kind_for x q _ (holds q ids) (kind_for x) (x == q) refl refl
-    (λ same. false_from_ne_true (holds q ids) (λ later. let past = holds-above x q ids up.0 later in let is = eqb-true x q same in absurd (omega arith)))
-    (each_named_once kind_for ids q up.1))
+named_each : (kind_for : ℕ → Option Kind) (ids : List ℕ) (q : ℕ) → count_by (names q) (filter_map (λ id. option_map (change_of id) (kind_for id)) ids) ≤ cond (is_some (kind_for q)) (times q ids) 0
+named_each kind_for [] q = grind arith
+named_each kind_for (x ∷ ids) q =
+    subst (λ n. count_by (names q) (filter_map (λ id. option_map (change_of id) (kind_for id)) (x ∷ ids)) ≤ cond (is_some (kind_for q)) n 0) (sym (times-cons q x ids))
+    (named_first kind_for q x (times q ids) _ (kind_for x) refl (named_each kind_for ids q))
 
-in_either : (b : Bool) (n m : ℕ) → n ≤ cond b m 0 → n ≤ m
-in_either true n m le = le
-in_either false n m le = omega arith
+at_most_once : (o : Option Kind) (n t : ℕ) (here : Bool) → n ≤ cond (is_some o) t 0 → t ≡ cond here 1 0 → n ≤ once o
+at_most_once o n t here few is = grind arith
 
 pub moves-name_once : (c : Configuration) (voters learners : Ids) (q : ℕ)
     → count_by (names q) (moves c voters learners) ≤ once (kind_by (has voters q) (has learners q) (has c.incoming q) (has c.learners q))
 moves-name_once c voters learners q =
-    in_either _ _ _ (each_named_once (kind_of_move c voters learners) _ q (ascending-is_sorted (union (union voters learners) (union c.incoming c.learners))))
+    at_most_once (kind_of_move c voters learners q) _ _ _ (named_each (kind_of_move c voters learners) _ q) (times-ascending q (union (union voters learners) (union c.incoming c.learners)))
 
 -- ---- an id whose part has to change is named
 -- once, if the id is an incoming voter, a learner of either kind or neither in the one configuration, and something else in the other
@@ -93,13 +67,10 @@ abbrev differing : Configuration → Configuration → ℕ → ℕ
 differing c d q = once (kind_by (has d.incoming q) (is_any_learner d q) (has c.incoming q) (is_any_learner c q))
 
 nothing_to_change : (v m : Bool) → once (kind_by v m v m) ≡ 0
-nothing_to_change true m = refl
-nothing_to_change false true = refl
-nothing_to_change false false = refl
+nothing_to_change v m = grind arith
 
 once-le : (o : Option Kind) → once o ≤ 1
-once-le None = omega arith
-once-le (Some kind) = omega arith
+once-le o = grind arith
 
 named_where_differing : (c d : Configuration) (steps : List Step) (q : ℕ) → IsRun c steps d → differing c d q ≤ times_named q steps
 named_where_differing c d steps q run = by (times_named q steps) refl
@@ -135,43 +106,10 @@ entering_step-names c target q single =
     omega arith
 
 -- ---- by way of the target's outgoing voters
--- who is none of them is passed on as a learner, if it is a member of both, or else not at all; and no other way is better
-as_learner_if_shared : (dl ci cl ti tl : Bool)
-    → once (kind_by false ((ti || tl) && (ci || cl)) ci cl) + once (kind_by ti tl false ((ti || tl) && (ci || cl)))
-    ≤ once (kind_by false dl ci cl) + once (kind_by ti tl false dl)
-as_learner_if_shared true true cl true tl = omega arith
-as_learner_if_shared true true cl false true = omega arith
-as_learner_if_shared true true cl false false = omega arith
-as_learner_if_shared true false true true tl = omega arith
-as_learner_if_shared true false true false true = omega arith
-as_learner_if_shared true false true false false = omega arith
-as_learner_if_shared true false false true tl = omega arith
-as_learner_if_shared true false false false true = omega arith
-as_learner_if_shared true false false false false = omega arith
-as_learner_if_shared false true true true tl = omega arith
-as_learner_if_shared false true false true tl = omega arith
-as_learner_if_shared false true true false true = omega arith
-as_learner_if_shared false true false false true = omega arith
-as_learner_if_shared false true cl false false = omega arith
-as_learner_if_shared false false true true tl = omega arith
-as_learner_if_shared false false true false true = omega arith
-as_learner_if_shared false false true false false = omega arith
-as_learner_if_shared false false false true tl = omega arith
-as_learner_if_shared false false false false true = omega arith
-as_learner_if_shared false false false false false = omega arith
-
--- an outgoing voter of the target is passed on as a voter
+-- An outgoing voter of the target is passed on as a voter. Who is none is passed on as a learner, if it is a member of both, or else not at all. No other way is better.
 way_by_shared : (p s dl ci cl ti tl tn : Bool) → s ≡ ((ti || p || tl) && not p && (ci || cl)) → (p ≡ true → dl ≡ false) → (tn ≡ true → p ≡ true)
     → once (kind_by p s ci cl) + once (kind_by ti (tl || tn) p s) ≤ once (kind_by p dl ci cl) + once (kind_by ti (tl || tn) p dl)
-way_by_shared true s dl ci cl ti tl tn is apart waits =
-    let same : s ≡ dl = is ∙ ap (λ b. b && (ci || cl)) (and_right (ti || true || tl) false refl) ∙ sym (apart refl) in
-    subst (λ b. once (kind_by true s ci cl) + once (kind_by ti (tl || tn) true s) ≤ once (kind_by true b ci cl) + once (kind_by ti (tl || tn) true b)) same (omega arith)
-way_by_shared false s dl ci cl ti tl true is apart waits = let no : false ≡ true = waits refl in cc
-way_by_shared false s dl ci cl ti tl false is apart waits =
-    let shared : s ≡ ((ti || tl) && (ci || cl)) = is ∙ ap (λ b. b && (ci || cl)) (and-true (ti || false || tl) ∙ ap (λ b. b || tl) (or-false ti)) in
-    subst (λ b. once (kind_by false b ci cl) + once (kind_by ti (tl || false) false b) ≤ once (kind_by false dl ci cl) + once (kind_by ti (tl || false) false dl)) (sym shared)
-    (subst (λ l. once (kind_by false ((ti || tl) && (ci || cl)) ci cl) + once (kind_by ti l false ((ti || tl) && (ci || cl))) ≤ once (kind_by false dl ci cl) + once (kind_by ti l false dl))
-    (sym (or-false tl)) (as_learner_if_shared dl ci cl ti tl))
+way_by_shared p s dl ci cl ti tl tn is apart waits = grind arith
 
 is_member-single : (c : Configuration) (q : ℕ) → IsSingle c → is_member c q ≡ (has c.incoming q || is_any_learner c q)
 is_member-single c q single =

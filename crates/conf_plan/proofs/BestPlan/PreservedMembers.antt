@@ -1,5 +1,5 @@
 -- The plan preserves_all what any run preserves_all.
-use Rattle.std.proofs.Common.{◌≡◌, ℕ, Bool, true, false, not, ◌&&◌, ◌||◌, ◌==◌, ◌↔◌, List, [], ◌∷◌, refl, sym, ap, subst, ◌∙◌, eqb-true}
+use Rattle.std.proofs.Common.{◌≡◌, ℕ, Bool, true, false, not, ◌&&◌, ◌||◌, ◌↔◌, List, [], ◌∷◌, refl, sym, ap, subst, ◌∙◌, eqb-true, arith}
 use Rattle.std.proofs.Math.Bool.{or-false}
 use Rattle.std.specs.Prelude.{Option, Some, None, IfSome, option_map, filter_map}
 use Rattle.std.specs.List.{cons_option}
@@ -55,13 +55,7 @@ preserves-outlasts before after (LeaveJoint ∷ steps) q preserves_all =
 plain_or_no_removal : (kind_for : ℕ → Option Kind) (x q : ℕ) (rest : List Change) (o : Option Kind) → kind_for x ≡ o → IfSome (kind_for q) (λ kind. is_removal kind ≡ false)
     → removes rest q ≡ false → removes (cons_option (option_map (change_of x) o) rest) q ≡ false
 plain_or_no_removal kind_for x q rest None is kept none = none
-plain_or_no_removal kind_for x q rest (Some kind) is kept none = (λ i. first (x == q) refl i || none i)
-  where
-    first : (same : Bool) → (x == q) ≡ same → (same && is_removal kind) ≡ false
-    first true same =
-        let P : Option Kind → Type 0 = λ o. IfSome o (λ k. is_removal k ≡ false) in
-        subst P (ap kind_for (sym (eqb-true x q same)) ∙ is) kept
-    first false same = refl
+plain_or_no_removal kind_for x q rest (Some kind) is kept none = grind (arith, eqb-true x q)
 
 removes-each : (kind_for : ℕ → Option Kind) (ids : List ℕ) (q : ℕ) → IfSome (kind_for q) (λ kind. is_removal kind ≡ false)
     → removes (filter_map (λ id. option_map (change_of id) (kind_for id)) ids) q ≡ false
@@ -69,11 +63,7 @@ removes-each kind_for [] q kept = refl
 removes-each kind_for (x ∷ ids) q kept = plain_or_no_removal kind_for x q _ (kind_for x) refl kept (removes-each kind_for ids q kept)
 
 wanted_kind : (v m i l : Bool) → (v || m) ≡ true → IfSome (kind_by v m i l) (λ kind. is_removal kind ≡ false)
-wanted_kind true m true l wanted = tt
-wanted_kind true m false l wanted = refl
-wanted_kind false true i true wanted = tt
-wanted_kind false true i false wanted = refl
-wanted_kind false false i l wanted = cc
+wanted_kind v m i l wanted = grind arith
 
 pub moves-remove_no_wanted : (c : Configuration) (voters learners : Ids) (q : ℕ) → (has voters q || has learners q) ≡ true → removes (moves c voters learners) q ≡ false
 moves-remove_no_wanted c voters learners q wanted =
@@ -102,20 +92,14 @@ single_steps-preserve c voters learners q single wanted member stays =
     )
   where
     voter_or_learner : (v out m : Bool) → (v || m) ≡ true → (v || out || (m && not out)) ≡ true
-    voter_or_learner true out m stays = refl
-    voter_or_learner false true m stays = refl
-    voter_or_learner false false true stays = refl
-    voter_or_learner false false false stays = stays
+    voter_or_learner v out m stays = grind arith
 
 -- who goes out in the target keeps_progress-of_member its progress, and the others are wanted
 pub entering_step-keeps : (c target : Configuration) (q : ℕ) → is_member c q ≡ true → is_member target q ≡ true → keeps_progress c (entering_step c target) target q ≡ true
 entering_step-keeps c target q member stays = keeps_progress-of_member q c (entering_step c target) target member stays (same (has target.outgoing q) refl)
   where
     voter_or_learner : (v out l n : Bool) → out ≡ false → (v || out || l) ≡ true → (v || (l || n)) ≡ true
-    voter_or_learner true out l n apart stays = refl
-    voter_or_learner false true l n apart stays = cc
-    voter_or_learner false false true n apart stays = refl
-    voter_or_learner false false false n apart stays = cc
+    voter_or_learner v out l n apart stays = grind arith
 
     same : (out : Bool) → has target.outgoing q ≡ out → is_replaced (entering_step c target) target q ≡ false
     same true goes = and_right _ _ (not_from_true (has target.outgoing q) goes)
@@ -131,8 +115,7 @@ shared_or_out c target q member stays =
     ap (λ b. has target.outgoing q || b) (has-shared_members c target q) ∙ either (has target.outgoing q) (is_member target q) (is_member c q) stays member
   where
     either : (out is was : Bool) → is ≡ true → was ≡ true → (out || ((is && not out) && was)) ≡ true
-    either true is was stays member = refl
-    either false is was stays member = rw (stays, member) refl
+    either out is was stays member = grind arith
 
 pub planned_from_single-preserves : (c target : Configuration) (q : ℕ) → IsSingle c → IsValidWithVoter target → is_member c q ≡ true → is_member target q ≡ true
     → Preserves c (planned_from_single c target) target q

@@ -1,11 +1,11 @@
 -- The one walk over four sets by which the moves are found.
-use Rattle.std.proofs.Common.{◌≡◌, ℕ, ◌+◌, ◌≤◌, ◌<◌, ◌^◌, Bool, true, false, cond, ◌||◌, List, [], ◌∷◌, ◌++◌, ◌⊎◌, inl, inr, drop, length, refl, sym, ap, subst, ◌∙◌, arith, slice_get, drop-cons, add-one}
-use Rattle.std.specs.Prelude.{Option, Some, None, nat_lt, option_map, filter_map}
+use Rattle.std.proofs.Common.{◌≡◌, ℕ, ◌+◌, ◌≤◌, ◌<◌, ◌^◌, Bool, true, false, cond, ◌||◌, List, [], ◌∷◌, ◌++◌, ◌⊎◌, inl, inr, drop, length, refl, sym, ap, subst, ◌∙◌, arith, slice_get}
+use Rattle.std.specs.Prelude.{Option, Some, None, option_map, filter_map}
 use Rattle.std.specs.List.{All, cons_option}
-use Rattle.std.proofs.lemmas.Bool.{true≢false, or_left, or_right, ltb-true, ltb-false}
-use Rattle.std.proofs.lemmas.List.{drop_all, append_assoc, append-nil}
+use Rattle.std.proofs.lemmas.Bool.{true≢false}
+use Rattle.std.proofs.lemmas.List.{drop_all, drop_more, append_assoc, append-nil}
 use Rattle.std.proofs.lemmas.List.Elements.{All-nil, All-push}
-use Rattle.std.proofs.lemmas.Option.{slice_get_within, get_or_from_slice_get, slice_get-get_or}
+use Rattle.std.proofs.lemmas.Option.{slice_get_cases}
 use Rattle.quorum_sets.specs.Ids.{Ids, has, ascending, union}
 use Rattle.quorum_sets.proofs.Offered.{has-ascending, ascending-is_sorted}
 use Rattle.conf_change.specs.Configuration.{Configuration}
@@ -21,19 +21,11 @@ use Rattle.conf_plan.proofs.FindingMoves.AscendingIds.{ids_from, ids_from-start,
 abbrev pub IsLeft : ℕ → ℕ → Ids → Type 0
 IsLeft position bound s = drop position (ascending s) ≡ ids_from bound (ascending s)
 
-none-some : (x : ℕ) → None ≡ Some x → ⊥
-none-some x e = cc
+left-none : (xs : List ℕ) (k : ℕ) → slice_get xs k ≡ None → drop k xs ≡ []
+left-none xs k none = grind (arith, slice_get_cases, drop_all)
 
-pub left-none : (xs : List ℕ) (k : ℕ) → slice_get xs k ≡ None → drop k xs ≡ []
-left-none xs k none = by (nat_lt k (length xs)) refl
-  where
-    by : (c : Bool) → nat_lt k (length xs) ≡ c → drop k xs ≡ []
-    by true p = absurd (none-some _ (sym none ∙ slice_get-get_or xs k 0 (ltb-true k (length xs) p)))
-    by false p = drop_all k xs (ltb-false k (length xs) p)
-
-pub left-some : (xs : List ℕ) (k x : ℕ) → slice_get xs k ≡ Some x → drop k xs ≡ x ∷ drop (k + 1) xs
-left-some xs k x here =
-    drop-cons xs k x (slice_get_within xs k x here) ∙ (λ i. get_or_from_slice_get xs k x x here i ∷ drop (sym (add-one k) i) xs)
+left-some : (xs : List ℕ) (k x : ℕ) → slice_get xs k ≡ Some x → drop k xs ≡ x ∷ drop (k + 1) xs
+left-some xs k x here = grind (arith, slice_get_cases, drop_more)
 
 same_tail : (x : ℕ) (xs ys : List ℕ) → x ∷ xs ≡ x ∷ ys → xs ≡ ys
 same_tail x xs ys e = ap (drop 1) e
@@ -96,14 +88,8 @@ IsStep-from_IsPassed s bound position id next false left up no_later passed =
 -- what is after the position gets shorter where the id was found
 pub IsAdvanced-shorter : (s : Ids) (position id next : ℕ) (found : Bool) → IsAdvanced s position id found next
     → length (drop next (ascending s)) + cond found 1 0 ≡ length (drop position (ascending s))
-IsAdvanced-shorter s position id next true passed =
-    let here : length (drop position (ascending s)) ≡ length (id ∷ drop (position + 1) (ascending s)) = ap length (left-some (ascending s) position id (passed.here.0 refl)) in
-    let P : ℕ → Type 0 = λ k. length (drop k (ascending s)) + 1 ≡ length (drop position (ascending s)) in
-    subst P (sym passed.after) (omega (arith, here))
-IsAdvanced-shorter s position id next false passed =
-    let same : next ≡ position = omega (arith, passed.after) in
-    let P : ℕ → Type 0 = λ k. length (drop k (ascending s)) + 0 ≡ length (drop position (ascending s)) in
-    subst P (sym same) (omega arith)
+IsAdvanced-shorter s position id next true passed = grind (arith, passed.after, left-some (ascending s) position id (passed.here.0 refl))
+IsAdvanced-shorter s position id next false passed = grind (arith, passed.after)
 
 -- ---- the first of four
 abbrev pub id_at : Ids → ℕ → Option ℕ
@@ -118,10 +104,7 @@ pub record IsFirstOfFour (a b c d : Ids) (p q r s : ℕ) (id : ℕ) : Type 0 whe
   pub one : (id_at a p ≡ Some id) ⊎ ((id_at b q ≡ Some id) ⊎ ((id_at c r ≡ Some id) ⊎ (id_at d s ≡ Some id)))
 
 no_later-chain : (a b c : Option ℕ) → IsNoLater a b → IsNoLater b c → IsNoLater a c
-no_later-chain a b None ab bc = tt
-no_later-chain a None (Some z) ab bc = absurd bc
-no_later-chain None (Some y) (Some z) ab bc = absurd ab
-no_later-chain (Some x) (Some y) (Some z) ab bc = omega (arith, ab, bc)
+no_later-chain a b c ab bc = grind arith
 
 pub four-first : (a b c d ab cd : Option ℕ) (id : ℕ) (xs ys zs ws : Ids) (p q r s : ℕ) → a ≡ id_at xs p → b ≡ id_at ys q → c ≡ id_at zs r → d ≡ id_at ws s
     → IsEarliest a b ab → IsEarliest c d cd → IsEarliest ab cd (Some id) → IsFirstOfFour xs ys zs ws p q r s id
@@ -141,8 +124,7 @@ four-first a b c d ab cd id xs ys zs ws p q r s ea eb ec ed left right both = re
     by (inr e) f (inr g) = inr (inr (inr (sym (e ∙ g ∙ ed))))
 
 no_later-none : (a : Option ℕ) → IsNoLater None a → a ≡ None
-no_later-none None e = refl
-no_later-none (Some x) e = absurd e
+no_later-none a e = grind arith
 
 -- nothing is at any of the four positions
 pub record IsNoneOfFour (a b c d : Ids) (p q r s : ℕ) : Type 0 where
@@ -269,10 +251,7 @@ IsWalked-one_more c voters learners i l v m i' l' v' m' id changes in_i in_l in_
     }
   where
     holds_one : (a b c d : Bool) → (a ≡ true) ⊎ ((b ≡ true) ⊎ ((c ≡ true) ⊎ (d ≡ true))) → ((a || b) || (c || d)) ≡ true
-    holds_one a b c d (inl e) = or_left (a || b) (c || d) (or_left a b e)
-    holds_one a b c d (inr (inl e)) = or_left (a || b) (c || d) (or_right a b e)
-    holds_one a b c d (inr (inr (inl e))) = or_right (a || b) (c || d) (or_left c d e)
-    holds_one a b c d (inr (inr (inr e))) = or_right (a || b) (c || d) (or_right c d e)
+    holds_one a b c d one = grind arith
 
     some_has : (has voters id ≡ true) ⊎ ((has learners id ≡ true) ⊎ ((has c.incoming id ≡ true) ⊎ (has c.learners id ≡ true)))
         → has (all_ids voters learners c.incoming c.learners) id ≡ true

@@ -1,5 +1,5 @@
 -- What the list of moves states of each id.
-use Rattle.std.proofs.Common.{◌≡◌, ℕ, Bool, true, false, cond, not, ◌&&◌, ◌||◌, ◌==◌, List, [], ◌∷◌, reverse, refl, sym, ap, ◌∙◌, eqb-true}
+use Rattle.std.proofs.Common.{◌≡◌, ℕ, Bool, true, false, cond, not, ◌&&◌, ◌||◌, ◌==◌, List, [], ◌∷◌, reverse, refl, sym, ap, ◌∙◌, eqb-true, arith}
 use Rattle.std.specs.Prelude.{Option, Some, None, IfSome, option_map, filter_map, find}
 use Rattle.std.specs.Option.{option_or}
 use Rattle.std.specs.Cmp.{nat_eq_equiv}
@@ -21,8 +21,7 @@ abbrev pub change_of : ℕ → Kind → Change
 change_of id kind = record { kind = kind; id = id }
 
 kind_or : (a b : Option Change) → option_map (λ change. change.kind) (option_or a b) ≡ option_or (option_map (λ change. change.kind) a) (option_map (λ change. change.kind) b)
-kind_or None b = refl
-kind_or (Some x) b = refl
+kind_or a b = grind arith
 
 -- the first change has its say where the others have none
 pub last_effective-cons : (x : Change) (xs : List Change) (q : ℕ) → last_effective (x ∷ xs) q ≡ option_or (last_effective xs q) (cond (names q x) (Some x.kind) None)
@@ -32,34 +31,12 @@ last_effective-cons x xs q =
     ∙ kind_or (find (names q) (reverse xs)) (find (names q) (x ∷ []))
     ∙ ap (option_or (last_effective xs q)) (last_effective-one x q)
 
-no_kind : (same later rest : Bool) (o : Option Kind) → (same ≡ true → o ≡ None) → cond (later && rest) o None ≡ cond ((same || later) && rest) o None
-no_kind false later rest o none = refl
-no_kind true true rest o none = refl
-no_kind true false true o none = sym (none refl)
-no_kind true false false o none = refl
-
-or_none : (o : Option Kind) → option_or o None ≡ o
-or_none None = refl
-or_none (Some kind) = refl
-
-own_kind : (same later rest : Bool) (o : Option Kind) (kind : Kind) → (same ≡ true → o ≡ Some kind)
-    → option_or (cond (later && rest) o None) (cond (same && rest && true) (Some kind) None) ≡ cond ((same || later) && rest) o None
-own_kind true true true o kind own = rw (own refl) refl
-own_kind true true false o kind own = refl
-own_kind true false true o kind own = sym (own refl)
-own_kind true false false o kind own = refl
-own_kind false later rest o kind own = or_none (cond (later && rest) o None)
-
 -- the id x goes before those of the list
 with_first : (kind_for : ℕ → Option Kind) (x q : ℕ) (xs : List Change) (later : Bool) (o : Option Kind) → kind_for x ≡ o → IfSome o (λ kind. is_update kind ≡ false)
     → last_effective xs q ≡ cond (later && not (q == 0)) (kind_for q) None
     → last_effective (cons_option (option_map (change_of x) o) xs) q ≡ cond (((q == x) || later) && not (q == 0)) (kind_for q) None
-with_first kind_for x q xs later None e plain rest =
-    rest ∙ no_kind (q == x) later (not (q == 0)) (kind_for q) (λ same. ap kind_for (eqb-true q x same) ∙ e)
-with_first kind_for x q xs later (Some kind) e plain rest =
-    last_effective-cons (change_of x kind) xs q
-    ∙ (λ i. option_or (rest i) (cond (nat_eq_equiv.symm x q i && not (q == 0) && not (plain i)) (Some kind) None))
-    ∙ own_kind (q == x) later (not (q == 0)) (kind_for q) kind (λ same. ap kind_for (eqb-true q x same) ∙ e)
+with_first kind_for x q xs later None e plain rest = grind (arith, eqb-true q x)
+with_first kind_for x q xs later (Some kind) e plain rest = grind (arith, last_effective-cons (change_of x kind) xs q, eqb-true q x)
 
 -- where each id of a list gets the change that is for it, each other than 0 goes by that change
 last_effective-each : (kind_for : ℕ → Option Kind) → ((id : ℕ) → IfSome (kind_for id) (λ kind. is_update kind ≡ false)) → (ids : List ℕ) (q : ℕ)
@@ -73,26 +50,11 @@ has-union a b q =
     has-ids_of _ q ∙ list_any-append (λ x. q == x) (ascending a) (ascending b) ∙ sym (λ i. has-ascending a q i || has-ascending b q i)
 
 pub kind_by-no_update : (v m i l : Bool) → IfSome (kind_by v m i l) (λ kind. is_update kind ≡ false)
-kind_by-no_update true m true l = tt
-kind_by-no_update true m false l = refl
-kind_by-no_update false true i true = tt
-kind_by-no_update false true i false = refl
-kind_by-no_update false false true l = refl
-kind_by-no_update false false false true = refl
-kind_by-no_update false false false false = tt
+kind_by-no_update v m i l = grind arith
 
 -- an id that is nothing and is wanted as nothing has no move, nor has 0
 moves_all : (v m i l rest : Bool) → (rest ≡ false → kind_by v m i l ≡ None) → cond (((v || m) || (i || l)) && rest) (kind_by v m i l) None ≡ kind_by v m i l
-moves_all true m i l true zero = refl
-moves_all false true i l true zero = refl
-moves_all false false true l true zero = refl
-moves_all false false false true true zero = refl
-moves_all false false false false true zero = refl
-moves_all v m i l false zero = none ((v || m) || (i || l)) (kind_by v m i l) (zero refl)
-  where
-    none : (b : Bool) (o : Option Kind) → o ≡ None → cond (b && false) o None ≡ o
-    none true o e = sym e
-    none false o e = sym e
+moves_all v m i l rest zero = grind arith
 
 pub last_effective-moves : (c : Configuration) (voters learners : Ids) (q : ℕ) → kind_of_move c voters learners 0 ≡ None
     → last_effective (moves c voters learners) q ≡ kind_by (has voters q) (has learners q) (has c.incoming q) (has c.learners q)

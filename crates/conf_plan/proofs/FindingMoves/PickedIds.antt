@@ -1,5 +1,5 @@
 -- The ids that pass a test, found in one walk.
-use Rattle.std.proofs.Common.{◌≡◌, ℕ, ◌+◌, ◌≤◌, Bool, true, false, ◌&&◌, ◌||◌, ◌==◌, ◌++◌, refl, sym, ap, ◌∙◌, slice_get, eqb-true}
+use Rattle.std.proofs.Common.{◌≡◌, ℕ, ◌+◌, ◌≤◌, Bool, true, false, ◌&&◌, ◌||◌, ◌==◌, ◌++◌, refl, sym, ap, ◌∙◌, slice_get, eqb-true, arith}
 use Rattle.std.specs.Prelude.{Some}
 use Rattle.std.specs.List.{list_any}
 use Rattle.std.proofs.Math.Bool.{and_comm, or-false}
@@ -23,17 +23,7 @@ IsPickedSoFar-one_more before ids now after passes position id here so_far share
     ∙ sym (ap (λ b. has before q || (b && passes q)) (is_passed-more ids position id q here))
   where
     in_turn : (x y z s : Bool) → (x ≡ true → s ≡ true) → (x || (y || (z && s))) ≡ (y || ((z || x) && s))
-    in_turn true true z s own = refl
-    in_turn true false true true own = refl
-    in_turn true false false true own = refl
-    in_turn true false z false own = sym (own refl) ∙ no_more z
-      where
-        no_more : (b : Bool) → false ≡ ((b || true) && false)
-        no_more true = refl
-        no_more false = refl
-    in_turn false true z s own = refl
-    in_turn false false true s own = refl
-    in_turn false false false s own = refl
+    in_turn x y z s own = grind arith
 
 -- one that does not pass is left out
 pub IsPickedSoFar-same : (before ids now : Ids) (passes : ℕ → Bool) (position id : ℕ) → slice_get (ascending ids) position ≡ Some id → IsPickedSoFar before ids passes position now
@@ -43,10 +33,7 @@ IsPickedSoFar-same before ids now passes position id here so_far apart q =
     ∙ sym (ap (λ b. has before q || (b && passes q)) (is_passed-more ids position id q here))
   where
     left_out : (x z s : Bool) → (x ≡ true → s ≡ false) → (z && s) ≡ ((z || x) && s)
-    left_out true true s own = refl
-    left_out true false s own = sym (own refl)
-    left_out false true s own = refl
-    left_out false false s own = refl
+    left_out x z s own = grind arith
 
 pub IsPickedSoFar-all : (before ids now : Ids) (passes : ℕ → Bool) (position : ℕ) → size ids ≤ position → IsPickedSoFar before ids passes position now
     → (q : ℕ) → has now q ≡ (has before q || (has ids q && passes q))

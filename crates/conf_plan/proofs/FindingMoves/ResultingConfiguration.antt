@@ -1,5 +1,5 @@
 -- What the moves make of a configuration that is not joint.
-use Rattle.std.proofs.Common.{◌≡◌, ℕ, Bool, true, false, not, ◌&&◌, refl, sym, ap, ◌∙◌}
+use Rattle.std.proofs.Common.{◌≡◌, ℕ, Bool, true, false, not, ◌&&◌, refl, sym, ap, ◌∙◌, arith}
 use Rattle.std.specs.Prelude.{None}
 use Rattle.std.proofs.lemmas.Bool.{not-false, true≢false, false_from_ne_true}
 use Rattle.quorum_sets.specs.Ids.{Ids, has, is_empty}
@@ -31,33 +31,14 @@ pub record AreWanted (voters learners : Ids) : Type 0 where
 
 -- ---- each id by itself
 incoming_wanted : (v m i l : Bool) → (l ≡ true → i ≡ false) → is_incoming_after (kind_by v m i l) i ≡ v
-incoming_wanted true m true l apart = refl
-incoming_wanted true m false l apart = refl
-incoming_wanted false true i true apart = apart refl
-incoming_wanted false true i false apart = refl
-incoming_wanted false false true l apart = refl
-incoming_wanted false false false true apart = refl
-incoming_wanted false false false false apart = refl
+incoming_wanted v m i l apart = grind arith
 
 learners_wanted : (v m i l o : Bool) → (v ≡ true → m ≡ false) → (l ≡ true → i ≡ false) → (l ≡ true → o ≡ false)
     → is_learner_after (kind_by v m i l) o l ≡ (m && not o)
-learners_wanted true m true true o wanted apart out = absurd (true≢false (apart refl))
-learners_wanted true m true false o wanted apart out = rw (wanted refl) refl
-learners_wanted true m false l o wanted apart out = rw (wanted refl) refl
-learners_wanted false true i true o wanted apart out = rw (out refl) refl
-learners_wanted false true i false o wanted apart out = refl
-learners_wanted false false true l o wanted apart out = refl
-learners_wanted false false false true o wanted apart out = refl
-learners_wanted false false false false o wanted apart out = refl
+learners_wanted v m i l o wanted apart out = grind arith
 
 next_wanted : (v m i l o : Bool) → (v ≡ true → m ≡ false) → (l ≡ true → o ≡ false) → is_next_after (kind_by v m i l) o false ≡ (m && o)
-next_wanted true m true l o wanted out = rw (wanted refl) refl
-next_wanted true m false l o wanted out = rw (wanted refl) refl
-next_wanted false true i true o wanted out = sym (out refl)
-next_wanted false true i false o wanted out = refl
-next_wanted false false true l o wanted out = refl
-next_wanted false false false true o wanted out = refl
-next_wanted false false false false o wanted out = refl
+next_wanted v m i l o wanted out = grind arith
 
 -- ---- all of them
 -- it has the wanted voters, and the wanted learners, of which those wait that are outgoing voters

@@ -1,118 +1,65 @@
--- The function that reads the lines of a plan, against the relations.
-use Rattle.std.proofs.Common.{◌≡◌, ℕ, ◌+◌, ◌≤◌, Bool, true, false, ◌&&◌, eqb, ◌⊎◌, inl, inr, List, [], ◌∷◌, ◌++◌, length, Option, Some, None, Result, Ok, Err, cond, refl, sym, ap, ◌∙◌, subst, arith}
-use Rattle.std.specs.Prelude.{codes, bytes_eq, IfOk, IfErr}
+-- The functions that read the lines of a path and of a plan, against the relations.
+use Rattle.std.proofs.Common.{◌≡◌, ℕ, zero, suc, ◌+◌, ◌<◌, ◌≤◌, Bool, true, false, ◌&&◌, ◌⊎◌, inl, inr, List, [], ◌∷◌, ◌++◌, length, take, Option, Some, None, Result, Ok, Err, cond, leb, refl, sym, ap, ◌∙◌, subst, arith}
+use Rattle.std.specs.Prelude.{codes, bytes_eq, IfOk, IfErr, MatchResult}
 use Rattle.std.specs.List.{AllZip}
-use Rattle.std.proofs.lemmas.Bool.{ne_eqb, true≢false, and_parts}
-use Rattle.std.proofs.lemmas.Bool.Decides.{nat_tests}
-use Rattle.std.proofs.lemmas.List.{length-append}
+use Rattle.std.proofs.lemmas.Bool.{le-leb, lt-leb, leb-true, leb-false, cond-true, cond-false, true≢false, and_parts}
+use Rattle.std.proofs.lemmas.List.{length-append, take-append-le}
 use Rattle.std.proofs.lemmas.Slice.Eq.{bytes_eq-Decides}
+use Rattle.std.proofs.lemmas.Slice.Zip.{AllZip-long}
 use Rattle.ascii_text.specs.Tokens.{tokens_in}
 use Rattle.conf_change.specs.declared.step.Step.{Step}
-use Rattle.conf_plan.specs.PlanText.{plan_lines, IsLineOf, IsNothingToDo, ParsesToPlan, HasFault}
-use Rattle.conf_plan.specs.PlanCode.{step_in, and_steps, steps_in, is_nothing, plan_in_lines, plan_in}
+use Rattle.conf_plan.specs.PlanText.{plan_lines, IsLineOf, IsNothingToDo, IsFirstBadLine, IsTooLong, ParsesToPath, ParsesToPlan, HasPathFault, HasPlanFault}
+use Rattle.conf_plan.specs.PlanCode.{step_in, and_steps, steps_in, is_nothing, path_in_lines, path_in, at_most_four, plan_in}
 use Rattle.conf_plan.specs.declared.text.PlanTextFault.{PlanTextFault}
 use Rattle.conf_plan.specs.declared.text.PlanTextFault.TheVariants.{BadLine, TooManySteps, NoMemory}
 use Rattle.conf_plan.proofs.PlanText.LineByLine.{lines_of-some}
 use Rattle.conf_plan.proofs.PlanText.StepFromTokens.{step_in-some, IsLineOf-from_some, IsLineOf-none, step_in-none}
 
 -- ---- from the relations to the function
-steps_in-ok : (before : ℕ) (lines : List (List ℕ)) (steps : List Step) → AllZip IsLineOf lines steps → before + length steps ≤ 4 → steps_in before lines ≡ Ok steps
-steps_in-ok before [] [] h few = refl
-steps_in-ok before [] (step ∷ steps) h few = absurd h
-steps_in-ok before (line ∷ lines) [] h few = absurd h
-steps_in-ok before (line ∷ lines) (step ∷ steps) h few =
-    rw (ne_eqb before 4 (λ same. omega arith), step_in-some line step h.0, steps_in-ok (before + 1) lines steps h.1 (omega arith)) refl
+steps_in-ok : (lines : List (List ℕ)) (steps : List Step) → AllZip IsLineOf lines steps → steps_in lines ≡ Ok steps
+steps_in-ok [] [] h = refl
+steps_in-ok [] (step ∷ steps) h = absurd h
+steps_in-ok (line ∷ lines) [] h = absurd h
+steps_in-ok (line ∷ lines) (step ∷ steps) h = rw (step_in-some line step h.0, steps_in-ok lines steps h.1) refl
 
-steps_in-bad : (before number : ℕ) (lines : List (List ℕ)) (steps : List Step) (line : List ℕ) (after : List (List ℕ)) → AllZip IsLineOf lines steps → number ≡ before + length lines + 1 → number ≤ 4
-    → ((step : Step) → ¬ (IsLineOf line step)) → steps_in before (lines ++ line ∷ after) ≡ Err (BadLine number)
-steps_in-bad before number [] [] line after h is few bad = rw (ne_eqb before 4 (λ same. omega arith), step_in-none line bad) (ap (λ n. Err (BadLine n)) (omega arith))
-steps_in-bad before number [] (step ∷ steps) line after h is few bad = absurd h
-steps_in-bad before number (first ∷ lines) [] line after h is few bad = absurd h
-steps_in-bad before number (first ∷ lines) (step ∷ steps) line after h is few bad =
-    rw (ne_eqb before 4 (λ same. omega arith), step_in-some first step h.0, steps_in-bad (before + 1) number lines steps line after h.1 (omega arith) few bad) refl
-
-steps_in-long : (before : ℕ) (lines : List (List ℕ)) (steps : List Step) (fifth : List ℕ) (after : List (List ℕ)) → AllZip IsLineOf lines steps → before + length lines ≡ 4
-    → steps_in before (lines ++ fifth ∷ after) ≡ Err TooManySteps
-steps_in-long before [] [] fifth after h four = let here : before ≡ 4 = omega arith in rw here refl
-steps_in-long before [] (step ∷ steps) fifth after h four = absurd h
-steps_in-long before (first ∷ lines) [] fifth after h four = absurd h
-steps_in-long before (first ∷ lines) (step ∷ steps) fifth after h four =
-    rw (ne_eqb before 4 (λ same. omega arith), step_in-some first step h.0, steps_in-long (before + 1) lines steps fifth after h.1 (omega arith)) refl
+steps_in-bad : (lines : List (List ℕ)) (steps : List Step) (line : List ℕ) (after : List (List ℕ)) → AllZip IsLineOf lines steps → ((step : Step) → ¬ (IsLineOf line step))
+    → steps_in (lines ++ line ∷ after) ≡ Err (BadLine (length lines + 1))
+steps_in-bad [] [] line after h bad = rw (step_in-none line bad) refl
+steps_in-bad [] (step ∷ steps) line after h bad = absurd h
+steps_in-bad (first ∷ lines) [] line after h bad = absurd h
+steps_in-bad (first ∷ lines) (step ∷ steps) line after h bad =
+    rw (step_in-some first step h.0, steps_in-bad lines steps line after h.1 bad) (ap (λ n. Err (BadLine n)) (omega arith))
 
 -- ---- from the function to the relations
--- the first bad line, after this many lines
-record IsBadAfter (count : ℕ) (lines : List (List ℕ)) (number : ℕ) : Type 0 where
-  before : List (List ℕ)
-  line : List ℕ
-  after : List (List ℕ)
-  steps : List Step
-  position : lines ≡ before ++ line ∷ after
-  counted : number ≡ count + length before + 1
-  in_first_four : number ≤ 4
-  parsed : AllZip IsLineOf before steps
-  bad : (step : Step) → ¬ (IsLineOf line step)
+-- what an answer states of lines
+abbrev IsAnswerOfLines : List (List ℕ) → Result (List Step) PlanTextFault → Type 0
+IsAnswerOfLines lines (Ok steps) = AllZip IsLineOf lines steps
+IsAnswerOfLines lines (Err (BadLine number)) = IsFirstBadLine lines number
+IsAnswerOfLines lines (Err TooManySteps) = ⊥
+IsAnswerOfLines lines (Err NoMemory) = ⊥
 
-record IsLongAfter (count : ℕ) (lines : List (List ℕ)) : Type 0 where
-  before : List (List ℕ)
-  fifth : List ℕ
-  after : List (List ℕ)
-  steps : List Step
-  position : lines ≡ before ++ fifth ∷ after
-  four : count + length before ≡ 4
-  parsed : AllZip IsLineOf before steps
-
--- what an answer states of the lines that follow this many
-abbrev IsAnswerAfter : ℕ → List (List ℕ) → Result (List Step) PlanTextFault → Type 0
-IsAnswerAfter count lines (Ok steps) = (count + length steps ≤ 4) × AllZip IsLineOf lines steps
-IsAnswerAfter count lines (Err (BadLine number)) = IsBadAfter count lines number
-IsAnswerAfter count lines (Err TooManySteps) = IsLongAfter count lines
-IsAnswerAfter count lines (Err NoMemory) = ⊥
-
-IsAnswerAfter-step : (count : ℕ) (line : List ℕ) (lines : List (List ℕ)) (step : Step) (rest : Result (List Step) PlanTextFault) → IsLineOf line step → IsAnswerAfter (count + 1) lines rest
-    → IsAnswerAfter count (line ∷ lines) (and_steps (count + 1) (Some step) rest)
-IsAnswerAfter-step count line lines step (Ok steps) is h = (omega (arith, h.0), (is, h.1))
-IsAnswerAfter-step count line lines step (Err (BadLine number)) is h = record {
+with_step : (line : List ℕ) (lines : List (List ℕ)) (step : Step) (rest : Result (List Step) PlanTextFault) → IsLineOf line step → IsAnswerOfLines lines rest
+    → IsAnswerOfLines (line ∷ lines) (and_steps (Some step) rest)
+with_step line lines step (Ok steps) is h = (is, h)
+with_step line lines step (Err (BadLine number)) is h = record {
   before = line ∷ h.before;
   line = h.line;
   after = h.after;
   steps = step ∷ h.steps;
   position = ap (λ ls. line ∷ ls) h.position;
   counted = omega (arith, h.counted);
-  in_first_four = h.in_first_four;
   parsed = (is, h.parsed);
   bad = h.bad;
 }
-IsAnswerAfter-step count line lines step (Err TooManySteps) is h = record {
-  before = line ∷ h.before;
-  fifth = h.fifth;
-  after = h.after;
-  steps = step ∷ h.steps;
-  position = ap (λ ls. line ∷ ls) h.position;
-  four = omega (arith, h.four);
-  parsed = (is, h.parsed);
-}
-IsAnswerAfter-step count line lines step (Err NoMemory) is h = absurd h
+with_step line lines step (Err TooManySteps) is h = absurd h
+with_step line lines step (Err NoMemory) is h = absurd h
 
-IsAnswerAfter-steps_in : (count : ℕ) (lines : List (List ℕ)) → count ≤ 4 → IsAnswerAfter count lines (steps_in count lines)
-IsAnswerAfter-steps_in count [] small = (omega arith, tt)
-IsAnswerAfter-steps_in count (line ∷ lines) small = go (eqb count 4) (step_in (tokens_in line)) refl refl (IsAnswerAfter-steps_in (count + 1) lines) where
-  go : (full : Bool) (found : Option Step) → eqb count 4 ≡ full → step_in (tokens_in line) ≡ found → (count + 1 ≤ 4 → IsAnswerAfter (count + 1) lines (steps_in (count + 1) lines))
-      → IsAnswerAfter count (line ∷ lines) (cond full (Err TooManySteps) (and_steps (count + 1) found (steps_in (count + 1) lines)))
-  go true found is_full is_found later = record { before = []; fifth = line; after = lines; steps = []; position = refl; four = grind (arith, nat_tests); parsed = tt }
-  go false None is_full is_found later = record {
-    before = [];
-    line = line;
-    after = lines;
-    steps = [];
-    position = refl;
-    counted = omega arith;
-    in_first_four = grind (arith, nat_tests);
-    parsed = tt;
-    bad = IsLineOf-none line is_found;
-  }
-  go false (Some step) is_full is_found later =
-      let room : count + 1 ≤ 4 = grind (arith, nat_tests) in
-      IsAnswerAfter-step count line lines step (steps_in (count + 1) lines) (IsLineOf-from_some line step is_found) (later room)
+IsAnswerOfLines-steps_in : (lines : List (List ℕ)) → IsAnswerOfLines lines (steps_in lines)
+IsAnswerOfLines-steps_in [] = tt
+IsAnswerOfLines-steps_in (line ∷ lines) = go (step_in (tokens_in line)) refl (IsAnswerOfLines-steps_in lines) where
+  go : (found : Option Step) → step_in (tokens_in line) ≡ found → IsAnswerOfLines lines (steps_in lines) → IsAnswerOfLines (line ∷ lines) (and_steps found (steps_in lines))
+  go None is later = record { before = []; line = line; after = lines; steps = []; position = refl; counted = refl; parsed = tt; bad = IsLineOf-none line is }
+  go (Some step) is later = with_step line lines step (steps_in lines) (IsLineOf-from_some line step is) later
 
 -- ---- the line that states that there is nothing to do
 nothing_tokens-from_true : (tokens : List (List ℕ)) → is_nothing tokens ≡ true → tokens ≡ codes "nothing" ∷ codes "to" ∷ codes "do" ∷ []
@@ -125,8 +72,8 @@ nothing_tokens-from_true (a ∷ b ∷ c ∷ []) e =
     rw ((bytes_eq-Decides a (codes "nothing")).0 prefix.0, (bytes_eq-Decides b (codes "to")).0 prefix.1, (bytes_eq-Decides c (codes "do")).0 all.1) refl
 nothing_tokens-from_true (a ∷ b ∷ c ∷ d ∷ tokens) e = absurd (true≢false (sym e))
 
-plan_in-nothing_to_do : (text : List ℕ) → IsNothingToDo text → plan_in text ≡ Ok []
-plan_in-nothing_to_do text h = ap plan_in_lines h.alone ∙ rw h.line_tokens refl
+path_in-nothing_to_do : (text : List ℕ) → IsNothingToDo text → path_in text ≡ Ok []
+path_in-nothing_to_do text h = ap path_in_lines h.alone ∙ rw h.line_tokens refl
 
 alone_same : (a b : List ℕ) → a ∷ [] ≡ b ∷ [] → a ≡ b
 alone_same a b e = cc
@@ -142,115 +89,175 @@ pub something-more_lines : (text line rest : List ℕ) → plan_lines text ≡ l
 something-more_lines text line rest are h = let none = sym (are ∙ ap (λ lines. line ∷ lines) (lines_of-some rest).are) ∙ h.alone in absurd cc
 
 -- whether it is said, by the lines of the text
-decided : (text : List ℕ) → IsNothingToDo text ⊎ (¬ (IsNothingToDo text) × (plan_in text ≡ steps_in 0 (plan_lines text)))
+decided : (text : List ℕ) → IsNothingToDo text ⊎ (¬ (IsNothingToDo text) × (path_in text ≡ steps_in (plan_lines text)))
 decided text = go (plan_lines text) refl where
-  single : (line : List ℕ) (is_alone : Bool) → plan_lines text ≡ line ∷ [] → is_nothing (tokens_in line) ≡ is_alone → IsNothingToDo text ⊎ (¬ (IsNothingToDo text) × (plan_in text ≡ steps_in 0 (plan_lines text)))
+  single : (line : List ℕ) (is_alone : Bool) → plan_lines text ≡ line ∷ [] → is_nothing (tokens_in line) ≡ is_alone → IsNothingToDo text ⊎ (¬ (IsNothingToDo text) × (path_in text ≡ steps_in (plan_lines text)))
   single line true are is_alone = inl (record { line = line; alone = are; line_tokens = nothing_tokens-from_true (tokens_in line) is_alone })
   single line false are is_alone = inr (
     something-other_tokens text line are is_alone,
-    ap plan_in_lines are ∙ rw is_alone (sym (ap (steps_in 0) are)),
+    ap path_in_lines are ∙ rw is_alone (sym (ap steps_in are)),
   )
 
-  go : (lines : List (List ℕ)) → plan_lines text ≡ lines → IsNothingToDo text ⊎ (¬ (IsNothingToDo text) × (plan_in text ≡ steps_in 0 (plan_lines text)))
-  go [] are = inr ((λ h. let none = sym are ∙ h.alone in absurd cc), ap plan_in_lines are ∙ sym (ap (steps_in 0) are))
+  go : (lines : List (List ℕ)) → plan_lines text ≡ lines → IsNothingToDo text ⊎ (¬ (IsNothingToDo text) × (path_in text ≡ steps_in (plan_lines text)))
+  go [] are = inr ((λ h. let none = sym are ∙ h.alone in absurd cc), ap path_in_lines are ∙ sym (ap steps_in are))
   go (line ∷ []) are = single line (is_nothing (tokens_in line)) are refl
-  go (line ∷ next ∷ lines) are = inr ((λ h. let none = sym are ∙ h.alone in absurd cc), ap plan_in_lines are ∙ sym (ap (steps_in 0) are))
+  go (line ∷ next ∷ lines) are = inr ((λ h. let none = sym are ∙ h.alone in absurd cc), ap path_in_lines are ∙ sym (ap steps_in are))
 
-pub plan_in-steps : (text : List ℕ) → ¬ (IsNothingToDo text) → plan_in text ≡ steps_in 0 (plan_lines text)
-plan_in-steps text none = elim (decided text) [
+path_in-steps : (text : List ℕ) → ¬ (IsNothingToDo text) → path_in text ≡ steps_in (plan_lines text)
+path_in-steps text none = elim (decided text) [
   | inl is_alone ↦ absurd (none is_alone)
   | inr other ↦ other.1
 ]
 
--- ---- the whole text
+-- ---- answers of a function that is exact for two relations
+pub record IsExact (Means : List Step → Type 0) (Refuses : PlanTextFault → Type 0) (answer : Result (List Step) PlanTextFault) : Type 0 where
+  pub ok : (steps : List Step) → Means steps → answer ≡ Ok steps
+  pub err : (fault : PlanTextFault) → Refuses fault → answer ≡ Err fault
+  pub is : MatchResult answer Means Refuses
+
+pub Means-from_ok : (Means : List Step → Type 0) (Refuses : PlanTextFault → Type 0) (answer : Result (List Step) PlanTextFault) → IsExact Means Refuses answer
+    → (steps : List Step) → answer ≡ Ok steps → Means steps
+Means-from_ok Means Refuses answer h steps e = subst (λ r. MatchResult r Means Refuses) e h.is
+
+pub Refuses-from_err : (Means : List Step → Type 0) (Refuses : PlanTextFault → Type 0) (answer : Result (List Step) PlanTextFault) → IsExact Means Refuses answer
+    → (fault : PlanTextFault) → answer ≡ Err fault → Refuses fault
+Refuses-from_err Means Refuses answer h fault e = subst (λ r. MatchResult r Means Refuses) e h.is
+
+pub means-or_refuses : (Means : List Step → Type 0) (Refuses : PlanTextFault → Type 0) (answer : Result (List Step) PlanTextFault) → MatchResult answer Means Refuses
+    → ((steps : List Step) × Means steps) ⊎ ((fault : PlanTextFault) × Refuses fault)
+means-or_refuses Means Refuses (Ok steps) h = inl (steps, h)
+means-or_refuses Means Refuses (Err fault) h = inr (fault, h)
+
+-- a result that is the answer, or out of memory
+pub record IsGiven (Means : List Step → Type 0) (Refuses : PlanTextFault → Type 0) (result : Result (List Step) PlanTextFault) : Type 0 where
+  pub holds : IfOk result Means
+  pub fault : IfErr result (λ fault. (fault ≡ NoMemory) ⊎ Refuses fault)
+  pub read : (steps : List Step) → Means steps → (result ≡ Ok steps) ⊎ (result ≡ Err NoMemory)
+  pub refused : (fault : PlanTextFault) → Refuses fault → (result ≡ Err fault) ⊎ (result ≡ Err NoMemory)
+
+pub IsGiven-from_exact : (Means : List Step → Type 0) (Refuses : PlanTextFault → Type 0) (answer result : Result (List Step) PlanTextFault) → IsExact Means Refuses answer
+    → (result ≡ answer) ⊎ (result ≡ Err NoMemory) → IsGiven Means Refuses result
+IsGiven-from_exact Means Refuses answer result exact (inl same) = record {
+  holds = holds result (subst (λ r. MatchResult r Means Refuses) (sym same) exact.is);
+  fault = fault result (subst (λ r. MatchResult r Means Refuses) (sym same) exact.is);
+  read = λ steps means. inl (same ∙ exact.ok steps means);
+  refused = λ why refuses. inl (same ∙ exact.err why refuses);
+} where
+  holds : (r : Result (List Step) PlanTextFault) → MatchResult r Means Refuses → IfOk r Means
+  holds (Ok steps) h = h
+  holds (Err why) h = tt
+
+  fault : (r : Result (List Step) PlanTextFault) → MatchResult r Means Refuses → IfErr r (λ why. (why ≡ NoMemory) ⊎ Refuses why)
+  fault (Ok steps) h = tt
+  fault (Err why) h = inr h
+IsGiven-from_exact Means Refuses answer result exact (inr none) = record {
+  holds = subst (λ r. IfOk r Means) (sym none) tt;
+  fault = subst (λ r. IfErr r (λ why. (why ≡ NoMemory) ⊎ Refuses why)) (sym none) (inl refl);
+  read = λ steps means. inr none;
+  refused = λ why refuses. inr none;
+}
+
+-- ---- paths
 steps_are_something : (text : List ℕ) (steps : List Step) → AllZip IsLineOf (plan_lines text) steps → ¬ (IsNothingToDo text)
 steps_are_something text steps lines h = go steps (rw h.alone at lines) where
   go : (steps : List Step) → AllZip IsLineOf (h.line ∷ []) steps → ⊥
   go [] none = none
   go (step ∷ steps) is = let some = sym (step_in-some h.line step is.0) ∙ ap step_in h.line_tokens in cc
 
-pub plan_in-ok : (text : List ℕ) (steps : List Step) → ParsesToPlan text steps → plan_in text ≡ Ok steps
-plan_in-ok text steps h = elim h [
-  | inl nothing ↦ plan_in-nothing_to_do text nothing.1 ∙ ap (λ all. Ok all) (sym nothing.0)
-  | inr is ↦ plan_in-steps text (steps_are_something text steps is.lines) ∙ steps_in-ok 0 (plan_lines text) steps is.lines (omega (arith, is.at_most_four))
-]
+path_in-ok : (text : List ℕ) (steps : List Step) → ParsesToPath text steps → path_in text ≡ Ok steps
+path_in-ok text steps (inl nothing) = path_in-nothing_to_do text nothing.1 ∙ ap (λ all. Ok all) (sym nothing.0)
+path_in-ok text steps (inr lines) = path_in-steps text (steps_are_something text steps lines) ∙ steps_in-ok (plan_lines text) steps lines
 
-pub plan_in-fault : (text : List ℕ) (fault : PlanTextFault) → HasFault text fault → plan_in text ≡ Err fault
-plan_in-fault text (BadLine number) h =
-    plan_in-steps text h.something ∙ ap (steps_in 0) h.position ∙ steps_in-bad 0 number h.before h.steps h.line h.after h.parsed (omega (arith, h.counted)) h.in_first_four h.bad
-plan_in-fault text TooManySteps h =
-    let long : ¬ (IsNothingToDo text) = λ s. omega (arith, ap length (sym s.alone ∙ h.position), length-append h.before (h.fifth ∷ h.after), h.four) in
-    plan_in-steps text long ∙ ap (steps_in 0) h.position ∙ steps_in-long 0 h.before h.steps h.fifth h.after h.parsed (omega (arith, h.four))
+path_in-fault : (text : List ℕ) (fault : PlanTextFault) → HasPathFault text fault → path_in text ≡ Err fault
+path_in-fault text (BadLine number) h =
+    let first = h.1 in
+    path_in-steps text h.0 ∙ ap steps_in first.position ∙ steps_in-bad first.before first.steps first.line first.after first.parsed first.bad
+    ∙ ap (λ n. Err (BadLine n)) (sym first.counted)
+path_in-fault text TooManySteps h = absurd h
+path_in-fault text NoMemory h = absurd h
+
+of_lines : (text : List ℕ) → ¬ (IsNothingToDo text) → (answer : Result (List Step) PlanTextFault) → IsAnswerOfLines (plan_lines text) answer → MatchResult answer (ParsesToPath text) (HasPathFault text)
+of_lines text something (Ok steps) h = inr h
+of_lines text something (Err (BadLine number)) h = (something, h)
+of_lines text something (Err TooManySteps) h = absurd h
+of_lines text something (Err NoMemory) h = absurd h
+
+pub path_in-is_exact : (text : List ℕ) → IsExact (ParsesToPath text) (HasPathFault text) (path_in text)
+path_in-is_exact text = record { ok = path_in-ok text; err = path_in-fault text; is = is } where
+  is : MatchResult (path_in text) (ParsesToPath text) (HasPathFault text)
+  is = elim (decided text) [
+    | inl is_alone ↦ subst (λ r. MatchResult r (ParsesToPath text) (HasPathFault text)) (sym (path_in-nothing_to_do text is_alone)) (inl (refl, is_alone))
+    | inr other ↦ subst (λ r. MatchResult r (ParsesToPath text) (HasPathFault text)) (sym other.1) (of_lines text other.0 (steps_in (plan_lines text)) (IsAnswerOfLines-steps_in (plan_lines text)))
+  ]
+
+-- ---- at most four lines
+AllZip-take : (n : ℕ) (lines : List (List ℕ)) (steps : List Step) → AllZip IsLineOf lines steps → AllZip IsLineOf (take n lines) (take n steps)
+AllZip-take zero lines steps h = tt
+AllZip-take (suc n) [] [] h = tt
+AllZip-take (suc n) [] (step ∷ steps) h = absurd h
+AllZip-take (suc n) (line ∷ lines) [] h = absurd h
+AllZip-take (suc n) (line ∷ lines) (step ∷ steps) h = (h.0, AllZip-take n lines steps h.1)
+
+-- a bad line is not among those that are parsed
+bad_is_later : (n : ℕ) (before : List (List ℕ)) (line : List ℕ) (after : List (List ℕ)) (steps : List Step) → ((step : Step) → ¬ (IsLineOf line step))
+    → AllZip IsLineOf (take n (before ++ line ∷ after)) steps → n ≤ length before
+bad_is_later zero before line after steps bad h = omega arith
+bad_is_later (suc n) [] line after [] bad h = absurd h
+bad_is_later (suc n) [] line after (step ∷ steps) bad h = absurd (bad step h.0)
+bad_is_later (suc n) (first ∷ before) line after [] bad h = absurd h
+bad_is_later (suc n) (first ∷ before) line after (step ∷ steps) bad h = let rest = bad_is_later n before line after steps bad h.1 in omega (arith, rest)
+
+is_long : (text : List ℕ) → IsTooLong text → (answer : Result (List Step) PlanTextFault) → MatchResult answer (ParsesToPath text) (HasPathFault text) → at_most_four answer ≡ Err TooManySteps
+is_long text long (Ok steps) (inl nothing) = absurd (let fifth = long.fifth in let one = ap length nothing.1.alone in omega (arith, fifth, one))
+is_long text long (Ok steps) (inr lines) = cond-false (leb (length steps) 4) _ _ (lt-leb (length steps) 4 (omega (arith, long.fifth, AllZip-long IsLineOf (plan_lines text) steps lines)))
+is_long text long (Err (BadLine number)) h =
+    let first = h.1 in
+    let four = bad_is_later 4 first.before first.line first.after long.steps first.bad (subst (λ lines. AllZip IsLineOf (take 4 lines) long.steps) first.position long.parsed) in
+    cond-false (leb number 4) _ _ (lt-leb number 4 (omega (arith, four, first.counted)))
+is_long text long (Err TooManySteps) h = absurd h
+is_long text long (Err NoMemory) h = absurd h
+
+plan_in-ok : (text : List ℕ) (steps : List Step) → ParsesToPlan text steps → plan_in text ≡ Ok steps
+plan_in-ok text steps h = ap at_most_four (path_in-ok text steps h.path) ∙ cond-true (leb (length steps) 4) _ _ (le-leb (length steps) 4 h.at_most_four)
+
+plan_in-fault : (text : List ℕ) (fault : PlanTextFault) → HasPlanFault text fault → plan_in text ≡ Err fault
+plan_in-fault text (BadLine number) h = ap at_most_four (path_in-fault text (BadLine number) h.1) ∙ cond-true (leb number 4) _ _ (le-leb number 4 h.0)
+plan_in-fault text TooManySteps h = is_long text h (path_in text) (path_in-is_exact text).is
 plan_in-fault text NoMemory h = absurd h
 
--- what an answer states of the text
-abbrev IsAnswerOf : List ℕ → Result (List Step) PlanTextFault → Type 0
-IsAnswerOf text (Ok steps) = ParsesToPlan text steps
-IsAnswerOf text (Err fault) = HasFault text fault
-
-IsAnswerOf-lines : (text : List ℕ) → ¬ (IsNothingToDo text) → (answer : Result (List Step) PlanTextFault) → IsAnswerAfter 0 (plan_lines text) answer → IsAnswerOf text answer
-IsAnswerOf-lines text something (Ok steps) h = inr (record { at_most_four = omega (arith, h.0); lines = h.1 })
-IsAnswerOf-lines text something (Err (BadLine number)) h = record {
-  before = h.before;
-  line = h.line;
-  after = h.after;
-  steps = h.steps;
-  position = h.position;
-  counted = omega (arith, h.counted);
-  in_first_four = h.in_first_four;
-  parsed = h.parsed;
-  bad = h.bad;
-  something = something;
+long-from_steps : (text : List ℕ) (steps : List Step) → ParsesToPath text steps → 4 < length steps → IsTooLong text
+long-from_steps text steps (inl nothing) many = absurd (let none = ap length nothing.0 in omega (arith, none, many))
+long-from_steps text steps (inr lines) many = record {
+  steps = take 4 steps;
+  parsed = AllZip-take 4 (plan_lines text) steps lines;
+  fifth = omega (arith, many, AllZip-long IsLineOf (plan_lines text) steps lines);
 }
-IsAnswerOf-lines text something (Err TooManySteps) h = record { before = h.before; fifth = h.fifth; after = h.after; steps = h.steps; position = h.position; four = omega (arith, h.four); parsed = h.parsed }
-IsAnswerOf-lines text something (Err NoMemory) h = absurd h
 
-IsAnswerOf-plan_in : (text : List ℕ) → IsAnswerOf text (plan_in text)
-IsAnswerOf-plan_in text = elim (decided text) [
-  | inl is_alone ↦ subst (IsAnswerOf text) (sym (plan_in-nothing_to_do text is_alone)) (inl (refl, is_alone))
-  | inr other ↦ subst (IsAnswerOf text) (sym other.1) (IsAnswerOf-lines text other.0 (steps_in 0 (plan_lines text)) (IsAnswerAfter-steps_in 0 (plan_lines text) (omega arith)))
-]
+long-from_bad : (text : List ℕ) (number : ℕ) → IsFirstBadLine (plan_lines text) number → 4 < number → IsTooLong text
+long-from_bad text number h late = record {
+  steps = take 4 h.steps;
+  parsed = subst (λ lines. AllZip IsLineOf lines (take 4 h.steps)) (sym (ap (take 4) h.position ∙ take-append-le 4 h.before (h.line ∷ h.after) (omega (arith, h.counted, late))))
+      (AllZip-take 4 h.before h.steps h.parsed);
+  fifth = omega (arith, h.counted, late, ap length h.position, length-append h.before (h.line ∷ h.after));
+}
 
-pub ParsesToPlan-from_ok : (text : List ℕ) (steps : List Step) → plan_in text ≡ Ok steps → ParsesToPlan text steps
-ParsesToPlan-from_ok text steps e = subst (IsAnswerOf text) e (IsAnswerOf-plan_in text)
+of_path : (text : List ℕ) (answer : Result (List Step) PlanTextFault) → MatchResult answer (ParsesToPath text) (HasPathFault text)
+    → MatchResult (at_most_four answer) (ParsesToPlan text) (HasPlanFault text)
+of_path text (Ok steps) h = go (leb (length steps) 4) refl where
+  go : (few : Bool) → leb (length steps) 4 ≡ few → MatchResult (cond few (Ok steps) (Err TooManySteps)) (ParsesToPlan text) (HasPlanFault text)
+  go true few = record { at_most_four = leb-true (length steps) 4 few; path = h }
+  go false many = long-from_steps text steps h (leb-false (length steps) 4 many)
+of_path text (Err (BadLine number)) h = go (leb number 4) refl where
+  go : (early : Bool) → leb number 4 ≡ early → MatchResult (cond early (Err (BadLine number)) (Err TooManySteps)) (ParsesToPlan text) (HasPlanFault text)
+  go true early = (leb-true number 4 early, h)
+  go false late = long-from_bad text number h.1 (leb-false number 4 late)
+of_path text (Err TooManySteps) h = absurd h
+of_path text (Err NoMemory) h = absurd h
 
-pub HasFault-from_err : (text : List ℕ) (fault : PlanTextFault) → plan_in text ≡ Err fault → HasFault text fault
-HasFault-from_err text fault e = subst (IsAnswerOf text) e (IsAnswerOf-plan_in text)
+pub plan_in-is_exact : (text : List ℕ) → IsExact (ParsesToPlan text) (HasPlanFault text) (plan_in text)
+plan_in-is_exact text = record { ok = plan_in-ok text; err = plan_in-fault text; is = of_path text (path_in text) (path_in-is_exact text).is }
 
-pub text-plan_or_fault : (text : List ℕ) → ((steps : List Step) × ParsesToPlan text steps) ⊎ ((fault : PlanTextFault) × HasFault text fault)
-text-plan_or_fault text = go (plan_in text) (IsAnswerOf-plan_in text) where
-  go : (answer : Result (List Step) PlanTextFault) → IsAnswerOf text answer → ((steps : List Step) × ParsesToPlan text steps) ⊎ ((fault : PlanTextFault) × HasFault text fault)
-  go (Ok steps) h = inl (steps, h)
-  go (Err fault) h = inr (fault, h)
-
--- ---- an answer that is the function's, or want of memory
-abbrev IsAnswer : List ℕ → Result (List Step) PlanTextFault → Type 0
-IsAnswer text result = (result ≡ plan_in text) ⊎ (result ≡ Err NoMemory)
-
-pub IsAnswer-holds : (text : List ℕ) (result : Result (List Step) PlanTextFault) → IsAnswer text result → IfOk result (ParsesToPlan text)
-IsAnswer-holds text (Ok steps) h = elim h [
-  | inl same ↦ ParsesToPlan-from_ok text steps (sym same)
-  | inr none ↦ absurd cc
-]
-IsAnswer-holds text (Err fault) h = tt
-
-pub IsAnswer-fault : (text : List ℕ) (result : Result (List Step) PlanTextFault) → IsAnswer text result → IfErr result (λ fault. (fault ≡ NoMemory) ⊎ HasFault text fault)
-IsAnswer-fault text (Ok steps) h = tt
-IsAnswer-fault text (Err fault) h = elim h [
-  | inl same ↦ inr (HasFault-from_err text fault (sym same))
-  | inr none ↦ inl cc
-]
-
-pub IsAnswer-read : (text : List ℕ) (result : Result (List Step) PlanTextFault) → IsAnswer text result → (steps : List Step) → ParsesToPlan text steps → (result ≡ Ok steps) ⊎ (result ≡ Err NoMemory)
-IsAnswer-read text result h steps holds = elim h [
-  | inl same ↦ inl (same ∙ plan_in-ok text steps holds)
-  | inr none ↦ inr none
-]
-
-pub IsAnswer-refused : (text : List ℕ) (result : Result (List Step) PlanTextFault) → IsAnswer text result → (fault : PlanTextFault) → HasFault text fault → (result ≡ Err fault) ⊎ (result ≡ Err NoMemory)
-IsAnswer-refused text result h fault has = elim h [
-  | inl same ↦ inl (same ∙ plan_in-fault text fault has)
-  | inr none ↦ inr none
-]
-
-pub ruleset answer_laws = (IsAnswer-holds, IsAnswer-fault)
+pub plan_in-from_path : (text : List ℕ) (read result : Result (List Step) PlanTextFault) → (read ≡ path_in text) ⊎ (read ≡ Err NoMemory) → result ≡ at_most_four read
+    → (result ≡ plan_in text) ⊎ (result ≡ Err NoMemory)
+plan_in-from_path text read result (inl same) is = inl (is ∙ ap at_most_four same)
+plan_in-from_path text read result (inr none) is = inr (is ∙ ap at_most_four none)

@@ -1,4 +1,4 @@
--- The printed lines of a plan stand for its steps.
+-- The printed lines of a path denote its steps.
 use Rattle.std.proofs.Common.{◌≡◌, ℕ, ◌<◌, ◌≤◌, ◌^◌, Bool, true, false, not, List, [], ◌∷◌, ◌++◌, length, get_or, map, Ok, refl, sym, ap, ◌∙◌, arith, inl, inr}
 use Rattle.std.specs.Prelude.{codes, decimal, flat_map}
 use Rattle.std.specs.List.{All, AllZip, list_all, join_with_byte}
@@ -21,10 +21,10 @@ use Rattle.conf_change.specs.declared.step.Step.{Step}
 use Rattle.conf_change.specs.declared.step.Step.TheVariants.{Simple, EnterJoint, LeaveJoint}
 use Rattle.conf_change.specs.Step.{changes_of}
 use Rattle.conf_plan.specs.PlanSteps.{HasU64Ids, IsPlan}
-use Rattle.conf_plan.specs.PlanText.{flag_token, command_tokens, change_text, line_text, line_and_newline, plan_text, is_newline, plan_lines, IsLineOf, ParsesToPlan}
-use Rattle.conf_plan.specs.PlanCode.{plan_in}
+use Rattle.conf_plan.specs.PlanText.{flag_token, command_tokens, change_text, line_text, line_and_newline, plan_text, is_newline, plan_lines, IsLineOf, ParsesToPath, ParsesToPlan}
+use Rattle.conf_plan.specs.PlanCode.{path_in}
 use Rattle.conf_plan.proofs.PlanText.LineByLine.{lines_of-on, lines_of-alone}
-use Rattle.conf_plan.proofs.PlanText.PlanFromLines.{plan_in-ok}
+use Rattle.conf_plan.proofs.PlanText.PlanFromLines.{path_in-is_exact}
 
 -- ---- tokens
 -- it is no white space
@@ -161,14 +161,14 @@ lines-printed : (steps : List Step) → All HasU64Ids steps → AllZip IsLineOf 
 lines-printed [] h = tt
 lines-printed (step ∷ steps) h = (IsLineOf-printed step (All-head HasU64Ids step steps h), lines-printed steps (All-tail HasU64Ids step steps h))
 
+pub ParsesToPath-printed : (steps : List Step) → All HasU64Ids steps → ParsesToPath (plan_text steps) steps
+ParsesToPath-printed [] h = inl (refl, record { line = codes "nothing to do"; alone = refl; line_tokens = refl })
+ParsesToPath-printed (step ∷ steps) h = inr (rw (lines_of-printed step steps h) (lines-printed (step ∷ steps) h))
+
+pub path_in-printed : (steps : List Step) → All HasU64Ids steps → path_in (plan_text steps) ≡ Ok steps
+path_in-printed steps h = (path_in-is_exact (plan_text steps)).ok steps (ParsesToPath-printed steps h)
+
 pub ParsesToPlan-printed : (steps : List Step) → IsPlan steps → ParsesToPlan (plan_text steps) steps
-ParsesToPlan-printed [] h = inl (refl, record { line = codes "nothing to do"; alone = refl; line_tokens = refl })
-ParsesToPlan-printed (step ∷ steps) h = inr (record {
-  at_most_four = h.at_most_four;
-  lines = rw (lines_of-printed step steps h.u64_ids) (lines-printed (step ∷ steps) h.u64_ids);
-})
+ParsesToPlan-printed steps h = record { at_most_four = h.at_most_four; path = ParsesToPath-printed steps h.u64_ids }
 
-pub plan_in-printed : (steps : List Step) → IsPlan steps → plan_in (plan_text steps) ≡ Ok steps
-plan_in-printed steps h = plan_in-ok (plan_text steps) steps (ParsesToPlan-printed steps h)
-
-pub ruleset printed_laws = (ParsesToPlan-printed, plan_in-printed)
+pub ruleset printed_laws = (ParsesToPath-printed, path_in-printed)

@@ -1,5 +1,5 @@
 -- The steps between two configurations that are not joint.
-use Rattle.std.proofs.Common.{◌≡◌, ℕ, ◌≤◌, Bool, true, false, not, ◌&&◌, ◌||◌, List, length, refl, sym, ap, subst, ◌∙◌, arith}
+use Rattle.std.proofs.Common.{◌≡◌, ℕ, ◌≤◌, Bool, false, not, ◌&&◌, ◌||◌, List, length, refl, sym, ap, subst, ◌∙◌, arith}
 use Rattle.std.proofs.Math.Bool.{and-true}
 use Rattle.std.specs.Prelude.{Ok, nat_le}
 use Rattle.std.proofs.lemmas.Bool.{cond_both, cond-true, leb-true, le-leb, not_from_false, and_right}
@@ -29,9 +29,7 @@ simple_moves c voters learners single wanted =
 
 -- ---- by a joint configuration
 either_way : (a b : Bool) → ((a && not b) || (a && b)) ≡ a
-either_way true true = refl
-either_way true false = refl
-either_way false b = refl
+either_way a b = grind arith
 
 leave_moves : (c : Configuration) (voters learners : Ids) → IsSingle c → AreWanted voters learners
     → after_leave (result_of (with_outgoing c false) (moves c voters learners)) ≡ single_with voters learners

@@ -66,14 +66,10 @@ inserted_steps-at_most_two c target =
 
 -- ---- into the joint configuration
 learners_kept : (l n o : Bool) → (l ≡ true → o ≡ false) → (n ≡ true → o ≡ true) → ((l || n) && not o) ≡ l
-learners_kept true n o learns waits = ap not (learns refl)
-learners_kept false true o learns waits = ap not (waits refl)
-learners_kept false false o learns waits = refl
+learners_kept l n o learns waits = grind arith
 
 next_kept : (l n o : Bool) → (l ≡ true → o ≡ false) → (n ≡ true → o ≡ true) → (l ≡ true → n ≡ false) → ((l || n) && o) ≡ n
-next_kept true n o learns waits apart = learns refl ∙ sym (apart refl)
-next_kept false true o learns waits apart = waits refl
-next_kept false false o learns waits apart = refl
+next_kept l n o learns waits apart = grind arith
 
 pub incoming-are_wanted : (target : Configuration) → IsValidWithVoter target → AreWanted target.incoming (union target.learners target.learners_next)
 incoming-are_wanted target valid_with_voter =

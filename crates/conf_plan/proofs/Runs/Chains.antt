@@ -1,5 +1,5 @@
 -- What holds along a run, and of runs one after another.
-use Rattle.std.proofs.Common.{◌≡◌, true, List, [], ◌∷◌, ◌++◌, sym, ap, subst, ◌∙◌}
+use Rattle.std.proofs.Common.{◌≡◌, true, List, [], ◌∷◌, ◌++◌, refl, sym, ap, subst, ◌∙◌}
 use Rattle.std.specs.Prelude.{Ok}
 use Rattle.std.specs.Result.{result_unwrap_or}
 use Rattle.std.proofs.lemmas.Bool.{and_parts, and_from, or_left}
@@ -24,6 +24,12 @@ pub IsChain-append : {S : Type 0} (Leads : S → Step → S → Type 0) (a b c :
     → IsChain Leads a xs b → IsChain Leads b ys c → IsChain Leads a (xs ++ ys) c
 IsChain-append {S} Leads a b c [] ys first second = let P : S → Type 0 = λ d. IsChain Leads d ys c in subst P (sym first) second
 IsChain-append Leads a b c (x ∷ xs) ys first second = (first.0, first.1, IsChain-append Leads first.0 b c xs ys first.2 second)
+
+-- a chain in two parts
+pub IsChain-split : {S : Type 0} (Leads : S → Step → S → Type 0) (a c : S) (xs ys : List Step)
+    → IsChain Leads a (xs ++ ys) c → (b : S) × IsChain Leads a xs b × IsChain Leads b ys c
+IsChain-split Leads a c [] ys all = (a, refl, all)
+IsChain-split Leads a c (x ∷ xs) ys all = let rest = IsChain-split Leads all.0 c xs ys all.2 in (rest.0, (all.0, all.1, rest.1), rest.2)
 
 -- a run at each step of which something holds is a run
 pub IsRun-from_IsRunWith : (Holds : Configuration → Step → Configuration → Type 0) (a b : Configuration) (steps : List Step) → IsRunWith Holds a steps b → IsRun a steps b

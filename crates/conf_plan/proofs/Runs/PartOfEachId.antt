@@ -1,8 +1,9 @@
 -- What a step makes of an id: an incoming voter, a learner of either kind, or neither.
-use Rattle.std.proofs.Common.{◌≡◌, ℕ, ◌+◌, Bool, true, false, cond, ◌||◌, List, [], ◌∷◌, refl, sym, ap, subst, ◌∙◌, arith}
+use Rattle.std.proofs.Common.{◌≡◌, ℕ, zero, suc, ◌+◌, ◌<◌, Bool, true, false, cond, ◌||◌, ◌⊎◌, inl, inr, List, [], ◌∷◌, refl, sym, ap, subst, ◌∙◌, arith}
 use Rattle.std.proofs.Math.Bool.{or-false}
 use Rattle.std.specs.Prelude.{Option, Some, None, Ok, count_by}
 use Rattle.std.specs.Option.{option_or}
+use Rattle.std.proofs.lemmas.Bool.{true≢false, or_left, or_right}
 use Rattle.std.proofs.lemmas.List.Sums.{sum_by-cons}
 use Rattle.quorum_sets.specs.Ids.{has}
 use Rattle.quorum_sets.proofs.Offered.{has-no_ids}
@@ -12,12 +13,11 @@ use Rattle.conf_change.specs.Outcome.{outcome, with_outgoing}
 use Rattle.conf_change.specs.Step.{changes_of}
 use Rattle.conf_change.specs.declared.change.Change.{Change}
 use Rattle.conf_change.specs.declared.change.Kind.{Kind}
-use Rattle.conf_change.specs.declared.change.Kind.TheVariants.{Voter, Learner, Remove, Update}
 use Rattle.conf_change.specs.declared.step.Step.{Step}
 use Rattle.conf_change.specs.declared.step.Step.TheVariants.{Simple, EnterJoint, LeaveJoint}
 use Rattle.conf_change.proofs.Offered.{SimpleTaken-from_outcome, EnterTaken-from_outcome, LeaveTaken-from_outcome, has-incoming_after, has-learners_after, has-next_after, has-after_leave}
 use Rattle.conf_plan.specs.Run.{IsRun}
-use Rattle.conf_plan.specs.Best.{times_named, is_any_learner, HasSameRoles}
+use Rattle.conf_plan.specs.Best.{times_named, is_any_learner, is_in, HasSameRoles}
 use Rattle.conf_plan.proofs.FindingMoves.OfEachId.{last_effective-cons}
 
 -- ---- a step decides by its last effective change alone, whether the id goes out or not
@@ -26,12 +26,7 @@ record PartAfter (before after : Configuration) (token : Option Kind) (id : ℕ)
   learner : is_any_learner after id ≡ is_learner_after token false (is_any_learner before id)
 
 learns_or_waits : (token : Option Kind) (out learns waits : Bool) → (is_learner_after token out learns || is_next_after token out waits) ≡ is_learner_after token false (learns || waits)
-learns_or_waits None out learns waits = refl
-learns_or_waits (Some Voter) out learns waits = refl
-learns_or_waits (Some Learner) true learns waits = refl
-learns_or_waits (Some Learner) false learns waits = refl
-learns_or_waits (Some Remove) out learns waits = refl
-learns_or_waits (Some Update) out learns waits = refl
+learns_or_waits token out learns waits = grind arith
 
 result_of-part : (c : Configuration) (xs : List Change) (q : ℕ) → PartAfter c (result_of c xs) (last_effective xs q) q
 result_of-part c xs q = record {
@@ -58,8 +53,7 @@ outcome-part c after LeaveJoint q e =
 
 -- ---- an id that is not named
 not_counted : (b : Bool) → ◌≡◌ {A = ℕ} (cond b 1 0) 0 → b ≡ false
-not_counted true e = absurd (omega arith)
-not_counted false e = refl
+not_counted b e = grind arith
 
 no_token : (q : ℕ) (xs : List Change) → count_by (names q) xs ≡ 0 → last_effective xs q ≡ None
 no_token q [] none = refl
@@ -84,3 +78,40 @@ run-same_part before after (step ∷ steps) q run none =
     let first = outcome-same_part before run.0 step q run.1 (omega arith) in
     let rest = run-same_part run.0 after steps q run.2 (omega arith) in
     record { voter = rest.voter ∙ first.voter; learner = rest.learner ∙ first.learner }
+
+-- ---- an id that comes in
+outgoing_from : (c after : Configuration) (step : Step) (q : ℕ) → outcome c step ≡ Ok after → has after.outgoing q ≡ true → (has c.incoming q || has c.outgoing q) ≡ true
+outgoing_from c after (Simple changes) q e is =
+    or_right (has c.incoming q) _ (ap (λ (d : Configuration). has d.outgoing q) (SimpleTaken-from_outcome c after changes e).made ∙ is)
+outgoing_from c after (EnterJoint auto_leave changes) q e is =
+    or_left _ (has c.outgoing q) (ap (λ (d : Configuration). has d.outgoing q) (EnterTaken-from_outcome c after auto_leave changes e).made ∙ is)
+outgoing_from c after LeaveJoint q e is =
+    absurd (true≢false (sym is ∙ ap (λ (d : Configuration). has d.outgoing q) (sym (LeaveTaken-from_outcome c after e).made) ∙ has-no_ids q))
+
+outcome-is_in : (c after : Configuration) (step : Step) (q : ℕ) → outcome c step ≡ Ok after → count_by (names q) (changes_of step) ≡ 0 → is_in after q ≡ true → is_in c q ≡ true
+outcome-is_in c after step q e none is =
+    let same = outcome-same_part c after step q e none in
+    go (has after.incoming q) (has after.outgoing q) refl refl same.voter same.learner is
+  where
+    go : (voter out : Bool) → has after.incoming q ≡ voter → has after.outgoing q ≡ out → has after.incoming q ≡ has c.incoming q → is_any_learner after q ≡ is_any_learner c q
+        → is_in after q ≡ true → is_in c q ≡ true
+    go true out is_voter is_out voters learners all = or_left _ (is_any_learner c q) (or_left _ (has c.outgoing q) (sym voters ∙ is_voter))
+    go false true is_voter is_out voters learners all = or_left _ (is_any_learner c q) (outgoing_from c after step q e is_out)
+    go false false is_voter is_out voters learners all =
+        or_right (has c.incoming q || has c.outgoing q) _ (sym learners ∙ (λ i. sym is_voter i || sym is_out i || is_any_learner after q) ∙ all)
+
+pub run-is_in : (before after : Configuration) (steps : List Step) (q : ℕ) → IsRun before steps after → is_in after q ≡ true → (is_in before q ≡ true) ⊎ (0 < times_named q steps)
+run-is_in before after [] q run is = inl (ap (λ c. is_in c q) run ∙ is)
+run-is_in before after (step ∷ steps) q run is =
+    let counted : times_named q (step ∷ steps) ≡ count_by (names q) (changes_of step) + times_named q steps = sum_by-cons (λ s. count_by (names q) (changes_of s)) step steps in
+    elim (run-is_in run.0 after steps q run.2 is) [
+      | inr named ↦ inr (omega (arith, named, counted))
+      | inl was ↦ elim (zero_or_more (count_by (names q) (changes_of step))) [
+        | inl none ↦ inl (outcome-is_in before run.0 step q run.1 none was)
+        | inr some ↦ inr (omega (arith, some, counted))
+      ]
+    ]
+  where
+    zero_or_more : (n : ℕ) → (n ≡ 0) ⊎ (0 < n)
+    zero_or_more zero = inl refl
+    zero_or_more (suc n) = inr (omega arith)

@@ -1,6 +1,6 @@
 use Rattle.std.proofs.Common.{sym, ap, ◌∙◌}
 use Rattle.quorum_sets.specs.Ids.{has}
-use Rattle.conf_plan.proofs.AliveOnTheWay.CatchingUp.{RemovedSoFar-one_more, RemovedSoFar-same}
+use Rattle.conf_plan.proofs.OnTheWay.CatchingUp.{RemovedSoFar-one_more, RemovedSoFar-same}
 use Rattle.conf_plan.proofs.catching.add_removed.Goals as goal
 use Rattle.conf_plan.proofs.catching.add_removed.Goals.{then-is_removal+in_ok-insert, else-is_removal}
 

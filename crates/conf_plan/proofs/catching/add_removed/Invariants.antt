@@ -1,4 +1,4 @@
-use Rattle.conf_plan.proofs.AliveOnTheWay.CatchingUp.{RemovedSoFar}
+use Rattle.conf_plan.proofs.OnTheWay.CatchingUp.{RemovedSoFar}
 use Rattle.conf_plan.proofs.catching.add_removed.Given as goal
 
 abbrev pub invariant-loop-change : goal.invariant-loop-change

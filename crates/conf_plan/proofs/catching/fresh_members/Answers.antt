@@ -6,7 +6,7 @@ use Rattle.conf_change.specs.Change.{removes}
 use Rattle.conf_change.specs.Configuration.{Configuration, is_member}
 use Rattle.conf_change.specs.Step.{changes_of}
 use Rattle.conf_change.specs.declared.step.Step.{Step}
-use Rattle.conf_plan.proofs.AliveOnTheWay.CatchingUp.{catching_up-picked}
+use Rattle.conf_plan.proofs.OnTheWay.CatchingUp.{catching_up-picked}
 use Rattle.conf_plan.proofs.catching.fresh_members.Goals as goal
 
 pub returns : goal.returns

@@ -1,20 +1,20 @@
 use Rattle.std.proofs.Common.{sym, ◌∙◌}
 use Rattle.conf_change.specs.Step.{changes_of}
-use Rattle.conf_plan.proofs.PlanText.PlanFromLines.{plan_in-ok, plan_in-fault, text-plan_or_fault, ParsesToPlan-from_ok, HasFault-from_err}
+use Rattle.conf_plan.proofs.PlanText.PlanFromLines.{plan_in-is_exact, Means-from_ok, Refuses-from_err, means-or_refuses}
 use Rattle.conf_plan.proofs.PlanText.PrintedPlan.{Denotes-printed, ParsesToPlan-printed}
 use Rattle.conf_plan.proofs.laws.one_plan_per_text.Goals as goal
 
 pub returns-clause-ok : goal.returns-clause-ok
-returns-clause-ok c = λ text steps. (plan_in-ok text steps, ParsesToPlan-from_ok text steps)
+returns-clause-ok c = λ text steps. ((plan_in-is_exact text).ok steps, Means-from_ok _ _ _ (plan_in-is_exact text) steps)
 
 pub returns-clause-err : goal.returns-clause-err
-returns-clause-err c = λ text fault. (plan_in-fault text fault, HasFault-from_err text fault)
+returns-clause-err c = λ text fault. ((plan_in-is_exact text).err fault, Refuses-from_err _ _ _ (plan_in-is_exact text) fault)
 
 pub returns-clause-each : goal.returns-clause-each
-returns-clause-each c = text-plan_or_fault
+returns-clause-each c = λ text. means-or_refuses _ _ _ (plan_in-is_exact text).is
 
 pub returns-clause-one : goal.returns-clause-one
-returns-clause-one c = λ text a b first second. let same = sym (plan_in-ok text a first) ∙ plan_in-ok text b second in cc
+returns-clause-one c = λ text a b first second. let same = sym ((plan_in-is_exact text).ok a first) ∙ (plan_in-is_exact text).ok b second in cc
 
 pub returns-clause-printed : goal.returns-clause-printed
 returns-clause-printed c = ParsesToPlan-printed

@@ -8,8 +8,8 @@ use Rattle.conf_plan.specs.LearnersFirst.{learners_first_from_single}
 use Rattle.conf_plan.specs.Planned.{single_with, single_steps, planned_from_single}
 use Rattle.conf_plan.specs.Run.{IsValidWithVoter}
 use Rattle.conf_plan.specs.Walking.{IsAdded}
-use Rattle.conf_plan.proofs.AliveOnTheWay.LearnersFirst.{learners_first-no_voter, learners_first-some_voter}
-use Rattle.conf_plan.proofs.AliveOnTheWay.Newcomers.{with_newcomers-is_single}
+use Rattle.conf_plan.proofs.OnTheWay.LearnersFirst.{learners_first-no_voter, learners_first-some_voter}
+use Rattle.conf_plan.proofs.OnTheWay.Newcomers.{with_newcomers-is_single}
 use Rattle.conf_plan.proofs.PlannedSteps.Cases.{OnOk-weaker, single_with-is_single, added-more}
 use Rattle.conf_plan.proofs.learners_first.add_learners_first.Goals as goal
 

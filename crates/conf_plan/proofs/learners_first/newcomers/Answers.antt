@@ -2,7 +2,7 @@ use Rattle.std.proofs.Common.{rules, ◌≡◌, ◌∙◌, ◌++◌, not, ◌&&�
 use Rattle.std.proofs.lemmas.Result.{IfOk-weaker}
 use Rattle.quorum_sets.specs.Ids.{has, ascending, ids_of, ids_where}
 use Rattle.conf_change.specs.Configuration.{Configuration}
-use Rattle.conf_plan.proofs.AliveOnTheWay.Newcomers.{newcomers-picked}
+use Rattle.conf_plan.proofs.OnTheWay.Newcomers.{newcomers-picked}
 use Rattle.conf_plan.proofs.learners_first.newcomers.Goals as goal
 
 pub returns : goal.returns

@@ -5,7 +5,7 @@ use Rattle.quorum_sets.specs.Ids.{ascending}
 use Rattle.conf_plan.specs.OneAtATime.{steps_of}
 use Rattle.conf_plan.specs.Planned.{single_with}
 use Rattle.conf_plan.specs.Walking.{IsAdded}
-use Rattle.conf_plan.proofs.AliveOnTheWay.InTurn.{AreAddedSoFar-if_any}
+use Rattle.conf_plan.proofs.OnTheWay.InTurn.{AreAddedSoFar-if_any}
 use Rattle.conf_plan.proofs.one_at_a_time.add_steps_of_all.Goals as goal
 
 pub loop-index-preserved : goal.loop-index-preserved

@@ -1,7 +1,7 @@
 use Rattle.quorum_sets.specs.Ids.{ascending}
 use Rattle.conf_plan.specs.OneAtATime.{steps_of}
 use Rattle.conf_plan.specs.Planned.{single_with}
-use Rattle.conf_plan.proofs.AliveOnTheWay.InTurn.{AreAddedSoFar}
+use Rattle.conf_plan.proofs.OnTheWay.InTurn.{AreAddedSoFar}
 use Rattle.conf_plan.proofs.one_at_a_time.add_steps_of_all.Given as goal
 
 abbrev pub invariant-loop-index : goal.invariant-loop-index

@@ -1,10 +1,10 @@
 use Rattle.quorum_sets.specs.Ids.{ascending}
 use Rattle.conf_plan.specs.OneAtATime.{steps_of}
 use Rattle.conf_plan.specs.Planned.{single_with}
-use Rattle.conf_plan.proofs.AliveOnTheWay.InTurn.{IsInTurn}
+use Rattle.conf_plan.proofs.OnTheWay.InTurn.{AreInTurn}
 use Rattle.conf_plan.proofs.one_at_a_time.add_turns.Given as goal
 
 abbrev pub invariant-loop-index : goal.invariant-loop-index
 invariant-loop-index g l =
-    IsInTurn l.fn.steps.items (steps_of (single_with (g.S.MemberSet.ids l.start.incoming.now) (g.S.MemberSet.ids l.start.learners.now)) l.target)
+    AreInTurn l.fn.steps.items (steps_of (single_with (g.S.MemberSet.ids l.start.incoming.now) (g.S.MemberSet.ids l.start.learners.now)) l.target)
     (ascending (g.S.MemberSet.ids l.joining)) (ascending (g.S.MemberSet.ids l.retiring)) l.index l.steps.items

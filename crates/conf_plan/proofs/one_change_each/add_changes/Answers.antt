@@ -3,7 +3,7 @@ use Rattle.std.proofs.lemmas.List.Concat.{flat_map_single}
 use Rattle.conf_change.specs.declared.change.Change.{Change}
 use Rattle.conf_change.specs.declared.step.Step.TheVariants.{Simple}
 use Rattle.conf_plan.specs.Walking.{IsAdded}
-use Rattle.conf_plan.proofs.AliveOnTheWay.InTurn.{AreAddedSoFar-item, AreAddedSoFar-ended}
+use Rattle.conf_plan.proofs.OnTheWay.InTurn.{AreAddedSoFar-item, AreAddedSoFar-ended}
 use Rattle.conf_plan.proofs.one_change_each.add_changes.Goals as goal
 
 pub loop-change-preserved : goal.loop-change-preserved

@@ -1,5 +1,5 @@
 use Rattle.conf_plan.specs.OneChangeEach.{each_change}
-use Rattle.conf_plan.proofs.AliveOnTheWay.InTurn.{AreAddedSoFar}
+use Rattle.conf_plan.proofs.OnTheWay.InTurn.{AreAddedSoFar}
 use Rattle.conf_plan.proofs.one_change_each.add_one_change_each.Given as goal
 
 abbrev pub invariant-loop-step : goal.invariant-loop-step

@@ -1,0 +1,18 @@
+-- What is kept on the way of a path: quorums, failures that are tolerated, and voters that are no newcomers.
+
+pub mod Quorums
+pub mod Tolerance
+pub mod Newcomers
+pub mod Preserving
+pub mod ReadyVoters
+pub mod LearnersFirst
+pub mod OneChange
+pub mod OneAtATime
+pub mod OrderOfIds
+pub mod InTurn
+pub mod FewestSingleChanges
+pub mod OneAtATimeTolerance
+pub mod OneAtATimePath
+pub mod EachStrategy
+pub mod OneChangeEach
+pub mod CatchingUp
