@@ -1,10 +1,9 @@
 -- The JSON of a saved configuration: an object whose keys are those of raftpb.ConfState.
-use Rattle.std.specs.Prelude.{◌≡◌, ℕ, Bool, true, false, ◌&&◌, ◌||◌, List, codes, Option, Some, None, option_map, option_and_then, if◌then◌else◌, IsUtf8}
+use Rattle.std.specs.Prelude.{ℕ, Bool, true, false, ◌&&◌, ◌||◌, List, codes, Option, Some, None, option_map, option_and_then, if◌then◌else◌}
 use Rattle.std.specs.Str.{bytes_eq}
 use Rattle.conf_change.specs.ConfState.{ConfStateLists}
 use Rattle.serde_json.specs.Data.{Data, null, boolean, object, Members, no_members, member}
 use Rattle.serde_json.specs.Find.{as_object, get}
-use Rattle.serde_json.specs.Read.{read}
 use Rattle.raft_json.specs.IdsJson.{ids_json, ids_in}
 
 -- the key is one that raftpb.ConfState has
@@ -47,10 +46,6 @@ lists_in d =
 -- the saved configuration that a value denotes, if any
 abbrev pub conf_state_of_json : Data → Option ConfStateLists
 conf_state_of_json d = option_and_then (λ ms. if has_only_keys ms then lists_in d else None) (as_object d)
-
--- the text is the JSON of the saved configuration
-abbrev pub IsConfStateJson : List ℕ → ConfStateLists → Type 0
-IsConfStateJson text saved = IsUtf8 text × (option_and_then conf_state_of_json (read text) ≡ Some saved)
 
 -- the value of a saved configuration, with every key
 abbrev pub conf_state_json : ConfStateLists → Data

@@ -17,10 +17,10 @@ use serde_json::{Map, Value, put};
 use std::alloc::Global;
 
 /// The `raftpb.ConfChangeV2` to propose for a step from a configuration. By it etcd's raft ends in the configuration
-/// after the step, or with auto-leave in the one that leaving that gives (the module `laws`). The transition is Auto for a simple step and
-/// for leaving a joint configuration; for entering one it is JointImplicit with auto-leave, and JointExplicit without.
-/// If a simple or an entering step has no change, an update of the least incoming voter is proposed, since etcd's
-/// leader takes an empty list for leaving.
+/// after the step, or with auto-leave in the one that leaving that gives (the module `laws`). The transition is Auto for
+/// a simple step and for leaving a joint configuration; for entering one it is JointImplicit with auto-leave, and
+/// JointExplicit without. If a simple or an entering step has no change, an update of the least incoming voter is
+/// proposed, since etcd's leader takes an empty list for leaving.
 pub fn conf_change_value<S: MemberSet>(
     alloc: Global,
     before: &Config<S>,

@@ -1,10 +1,8 @@
 //! The JSON of a saved configuration, with the keys that Go's encoding/json uses for a `raftpb.ConfState`.
-ghost use Rattle.std.specs.Prelude.{◌≡◌, Some, None, Err, IfOk, IsUtf8, option_map};
-ghost use Rattle.conf_change.specs.ConfState.{ConfStateLists};
-ghost use Rattle.serde_json.specs.Read.{read};
+ghost use Rattle.std.specs.Prelude.{◌≡◌, Some, None, Err, IfOk, option_map};
 ghost use Rattle.serde_json.specs.View.{view, members_view};
 ghost use Rattle.raft_json.specs.ConfStateJson as spec;
-ghost use Rattle.raft_json.specs.ConfStateJson.{IsConfStateJson, conf_state_of_json, conf_state_json};
+ghost use Rattle.raft_json.specs.ConfStateJson.{conf_state_of_json, conf_state_json};
 
 use crate::ids_json::{ids_in, ids_value};
 use conf_change::ConfState;
@@ -16,8 +14,8 @@ use thiserror::Error;
 /// Why the JSON of a saved configuration was not read.
 #[derive(Clone, Copy, Debug, PartialEq, Eq, Error)]
 pub enum JsonFault {
-    /// The text is not JSON, or not an object of the form that [`read_conf_state_json`] reads.
-    #[error("bad JSON of a conf state")]
+    /// The text is not JSON, or not an object of a form that [`read_saved_json`](crate::read_saved_json) reads.
+    #[error("bad JSON of a configuration")]
     BadJson,
     /// An allocation failed.
     #[error("out of memory")]
@@ -44,30 +42,10 @@ impl From<AllocFailed<u64>> for JsonFault {
     }
 }
 
-/// Reads the JSON that Go's encoding/json writes for a `raftpb.ConfState`: an object whose keys are `voters`,
-/// `voters_outgoing`, `learners`, `learners_next` (lists of ids) and `auto_leave` (a boolean), in any order. A missing
-/// or null key is an empty list or false; if a key repeats, the last one counts. An id is a number up to 2^64-1 without
-/// a sign, a fraction or an exponent; ids may repeat, as in a ConfState line. Anything else is refused with BadJson.
-pub fn read_conf_state_json(alloc: Global, text: &[u8]) -> Result<ConfState, JsonFault>
-    ensures ok { IfOk result (λ state. IsConfStateJson text.now state) }
-    ensures bad { result ≡ Err JsonFault.BadJson → (state : ConfStateLists) → ¬ (IsConfStateJson text.now state) }
-{
-    let value = parsed(alloc, text)?;
-    conf_state_of(alloc, &value)
-}
-
-fn parsed(alloc: Global, text: &[u8]) -> Result<Value, JsonFault>
-    ensures ok { IfOk result (λ v. IsUtf8 text.now × (read text.now ≡ Some (view v))) }
-    ensures bad { result ≡ Err JsonFault.BadJson → IsUtf8 text.now → read text.now ≡ None }
-{
-    match Value::from_slice(alloc, text) {
-        Ok(value) => Ok(value),
-        Err(error) if error.is_memory() => Err(JsonFault::NoMemory),
-        Err(_) => Err(JsonFault::BadJson),
-    }
-}
-
-fn conf_state_of(alloc: Global, value: &Value) -> Result<ConfState, JsonFault>
+/// The saved configuration that an object with the keys of `raftpb.ConfState` denotes, as Go's encoding/json writes it:
+/// `voters`, `voters_outgoing`, `learners`, `learners_next` (lists of ids) and `auto_leave` (a boolean), in any order. A
+/// missing or null key is an empty list or false. Any other key is refused with BadJson.
+pub(crate) fn conf_state_of(alloc: Global, value: &Value) -> Result<ConfState, JsonFault>
     ensures ok { IfOk result (λ state. conf_state_of_json (view value.now) ≡ Some state) }
     ensures bad { result ≡ Err JsonFault.BadJson → conf_state_of_json (view value.now) ≡ None }
 {
@@ -103,7 +81,7 @@ fn is_key(key: &str) -> bool
 }
 
 // Reads a boolean, false if it is missing or null.
-fn flag_in(value: Option<&Value>) -> Option<bool>
+pub(crate) fn flag_in(value: Option<&Value>) -> Option<bool>
     ensures { result ≡ spec.boolean_in (option_map (λ v. view v.now) value.entry) }
 {
     match value {

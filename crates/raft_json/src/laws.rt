@@ -25,12 +25,12 @@ pub fn conf_change_json_reads_back()
     ensures { (transition : Transition) (changes : List Change) → conf_change_of_json (conf_change_json transition changes) ≡ Some (transition, changes) }
 {}
 
-/// The proposal for an accepted step leads etcd to the configuration after the step. For leaving and for a simple step
-/// of one change, etcd takes the same step; for entering, one with the same outcome. For a simple step of more changes,
-/// etcd enters a joint configuration with auto-leave and leaves it automatically; for this, the configuration before
-/// the step must be valid and have a voter. The proposal for an accepted step other than leaving has a change, so etcd
-/// does not take it for leaving.
-pub fn etcd_ends_where_the_step_does()
+/// What etcd takes for the proposal of an accepted step. For leaving and for a simple step of one change, it is the same
+/// step; for entering, one with the same outcome, which has an update if the step has no change, and is then left if it
+/// has auto-leave. For a simple step of more changes, etcd enters a joint configuration with auto-leave and leaves it
+/// automatically, which ends where the step does; for this, the configuration before the step must be valid and have a
+/// voter. The proposal for an accepted step other than leaving has a change, so etcd does not take it for leaving.
+pub fn proposed_step_leads_alike()
     ensures simple { (before after : Configuration) (changes : List Change) → is_valid before ≡ true → has_voter before ≡ true
         → outcome before (Simple changes) ≡ Ok after → final_outcome before (proposed_step before (Simple changes)) ≡ Ok after }
     ensures one { (before : Configuration) (change : Change) → proposed_step before (Simple (change ∷ [])) ≡ Simple (change ∷ []) }

@@ -1,12 +1,18 @@
 //! The JSON of raftpb messages: saved configurations, and changes to propose to a cluster of etcd's raft.
 //!
 //! A program that embeds etcd's raft keeps a `raftpb.ConfState` and proposes `raftpb.ConfChangeV2`. Go's encoding/json
-//! reads and writes both as objects. [`read_conf_state_json`] reads a saved configuration, whose keys may be in any
-//! order or missing, and [`conf_state_value`] makes its JSON, with all keys in alphabetical order:
+//! reads and writes both as objects. [`read_saved_json`] reads a saved configuration, whose keys may be in any order or
+//! missing, and [`conf_state_value`] makes its JSON, with all keys in alphabetical order:
 //!
 //! ```text
 //! {"voters":[1,2,3],"learners":[4]}
 //! {"auto_leave":false,"learners":[4],"learners_next":[],"voters":[1,2,3],"voters_outgoing":[]}
+//! ```
+//!
+//! [`read_saved_json`] reads also what `etcdctl member list -w json` prints, of which it takes the ids and who learns:
+//!
+//! ```text
+//! {"members":[{"ID":1,"name":"a"},{"ID":2,"name":"b","isLearner":true}]}   is   {"voters":[1],"learners":[2]}
 //! ```
 //!
 //! [`conf_change_value`] makes the proposal for a step:
@@ -18,7 +24,7 @@
 //!
 //! With the transition Auto, etcd makes several changes through a joint configuration, which it leaves automatically. As
 //! one proposal, a simple step of several changes ends in the same configuration
-//! ([`laws::etcd_ends_where_the_step_does`]):
+//! ([`laws::proposed_step_leads_alike`]):
 //!
 //! ```text
 //! (1 2 3)  --l4 l5-->  (1 2 3)&&(1 2 3) learners=(4 5) autoleave  --auto-leave-->  (1 2 3) learners=(4 5)
@@ -27,7 +33,7 @@
 //! [`conf_state_value`] and [`conf_change_value`] return a JSON value; print it to get its line:
 //!
 //! ```text
-//! let state = read_conf_state_json(alloc, b"{\"voters\":[1,2,3]}")?;
+//! let state = read_saved_json(alloc, b"{\"voters\":[1,2,3]}")?;
 //! let line = conf_state_value(alloc, &state)?.to_string(alloc)?;
 //! ```
 #![tactic(auto)]
@@ -36,6 +42,9 @@ pub mod conf_change_json;
 pub mod conf_state_json;
 mod ids_json;
 pub mod laws;
+mod member_list_json;
+pub mod saved_json;
 
 pub use conf_change_json::conf_change_value;
-pub use conf_state_json::{JsonFault, conf_state_value, read_conf_state_json};
+pub use conf_state_json::{JsonFault, conf_state_value};
+pub use saved_json::read_saved_json;

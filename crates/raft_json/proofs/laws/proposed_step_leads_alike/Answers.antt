@@ -1,6 +1,6 @@
 use Rattle.std.proofs.Common.{refl, ◌∙◌}
 use Rattle.raft_json.proofs.Proposals.{simple-proposed, enter-proposed, simple-named, enter-named}
-use Rattle.raft_json.proofs.laws.etcd_ends_where_the_step_does.Goals as goal
+use Rattle.raft_json.proofs.laws.proposed_step_leads_alike.Goals as goal
 
 pub returns : goal.returns
 returns c = record {

@@ -1,0 +1,5 @@
+pub mod Form
+pub mod ShortToken
+pub mod Changed
+pub mod Input
+pub mod Denoted

@@ -1,0 +1,52 @@
+//! The target of a list of changes.
+//!
+//! ```text
+//! (2 3 4)&&(1 2 3)  --leave-joint-->  (2 3 4)  --enter-joint r2-->  (3 4)&&(2 3 4)  --leave-joint-->  (3 4)
+//! ```
+ghost use Rattle.std.specs.Prelude.{◌≡◌, false, IfOk};
+ghost use Rattle.conf_change.specs.Outcome.{enter_outcome};
+ghost use Rattle.plan_input.specs.Changed as spec;
+ghost use Rattle.plan_input.specs.Changed.{left_or_empty, when_left};
+
+use conf_change::{Change, Config, Refused, StepKind, next_config};
+use quorum_sets::{MemberSet, NoMemory};
+use std::alloc::Global;
+
+/// What a configuration becomes if it is left first where it is joint, and the changes are then made all at once. It is
+/// empty if no voter is left. Only the last change of an id that is not an update counts, and changes of the id 0 have
+/// no effect, as in etcd.
+pub(crate) fn after_changes<S: MemberSet>(
+    alloc: Global,
+    now: &Config<S>,
+    changes: &[Change],
+) -> Result<Config<S>, NoMemory>
+    ensures { IfOk result (λ target. target ≡ spec.after_changes now.now changes.now) }
+{
+    made_at_once(alloc, &when_left(now)?, changes)
+}
+
+// The configuration after it is left, if it is joint.
+fn when_left<S: MemberSet>(config: &Config<S>) -> Result<Config<S>, NoMemory>
+    ensures { IfOk result (λ left. left ≡ when_left config.now) }
+{
+    match next_config(config, StepKind::Leave, &[]) {
+        Ok(left) => Ok(left),
+        Err(Refused::NoMemory) => Err(NoMemory),
+        Err(_) => config.try_clone(),
+    }
+}
+
+// The configuration after the changes, which are made by entering a joint configuration and leaving it.
+fn made_at_once<S: MemberSet>(
+    alloc: Global,
+    before: &Config<S>,
+    changes: &[Change],
+) -> Result<Config<S>, NoMemory>
+    ensures { IfOk result (λ target. target ≡ left_or_empty (enter_outcome before.now false changes.now)) }
+{
+    match next_config(before, StepKind::Enter(false), changes) {
+        Ok(joint) => when_left(&joint),
+        Err(Refused::NoMemory) => Err(NoMemory),
+        Err(_) => Ok(Config::empty(alloc)),
+    }
+}
