@@ -3,4 +3,3 @@
 pub mod PositionReached
 pub mod Faults
 pub mod LineReplies
-pub mod JsonLines

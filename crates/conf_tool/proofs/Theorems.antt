@@ -5,6 +5,6 @@ pub mod RewrittenScript
 pub mod PairByPair
 pub mod BestPlan
 pub mod UndoneScript
-pub mod ServingPaths
+pub mod PromisedPaths
 pub mod PlanScript
 pub mod PlanScriptLeads

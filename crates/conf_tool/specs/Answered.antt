@@ -13,7 +13,7 @@ use Rattle.conf_session.specs.SessionState.{SessionState}
 use Rattle.conf_tool.specs.Reports.{session_after_all, answered_entries, answered_text, differs, report, counts_line}
 use Rattle.conf_tool.specs.Outputs.{Output, clean_unless, check_status, undone_unless, worse_of, pair_then, session_after_pair, ends_within, planned_pairs}
 use Rattle.conf_change.specs.Configuration.{Configuration, is_valid}
-use Rattle.conf_tool.specs.Pairs.{NumberedLine, numbered, configuration_lines, configuration_at, both_of}
+use Rattle.conf_tool.specs.Pairs.{NumberedLine, numbered, configuration_lines, target_at, with_target}
 use Rattle.conf_tool.specs.declared.plan_options.PlanOptions.{PlanOptions}
 use Rattle.conf_tool.specs.declared.status.Status.{Status}
 use Rattle.conf_tool.specs.declared.plan_input_fault.PlanInputFault.{PlanInputFault}
@@ -84,7 +84,7 @@ pub record HasRun (session : SessionState) (rewriter : RewriterState) (count : �
 abbrev pub pairs_within : PlanOptions → SessionState → ℕ → Result Configuration PlanInputFault → List NumberedLine → Option FileFault → Output
 pairs_within options session number first [] fault = ends_within first fault
 pairs_within options session number first (second ∷ lines) fault =
-    let pair = both_of first (configuration_at second) in
+    let pair = with_target (target_at second) first in
     pair_then options session number pair (planned_pairs options (session_after_pair options session pair) (number + 1) lines fault)
 
 -- what is left of the output of `plan`, by the first configuration of the current pair, if it was read

@@ -11,9 +11,10 @@ use Rattle.conf_plan.specs.declared.strategy.Strategy.TheVariants.{Shortest, Lea
 use Rattle.conf_tool.specs.IdList.{ids_listed}
 use Rattle.conf_tool.specs.Ranges.{IsInRange}
 use Rattle.conf_tool.specs.declared.argument_fault.ArgumentFault.{ArgumentFault}
-use Rattle.conf_tool.specs.declared.argument_fault.ArgumentFault.TheVariants.{Clap, BadIds, NoMemory}
+use Rattle.conf_tool.specs.declared.argument_fault.ArgumentFault.TheVariants.{Clap, BadIds, BadPair, NoMemory}
 use Rattle.conf_tool.specs.declared.invocation.Invocation.{Invocation}
 use Rattle.conf_tool.specs.declared.mode.Mode.{Mode}
+use Rattle.conf_tool.specs.declared.pair_texts.PairTexts.{PairTexts}
 use Rattle.conf_tool.specs.declared.mode.Mode.TheVariants.{Lines, Check, Rewrite, Undo, Plan}
 use Rattle.conf_tool.specs.declared.plan_options.PlanOutput.{PlanOutput}
 use Rattle.conf_tool.specs.declared.plan_options.PlanOutput.TheVariants.{Steps, Script, Table, Json}
@@ -62,13 +63,46 @@ ids_down (Some text) = option_map (λ ids. Some (ids_of ids)) (ids_listed text)
 abbrev pub IsIdsFault : Option Text → ArgumentFault → Type 0
 IsIdsFault text (Clap error) = ⊥
 IsIdsFault text BadIds = ids_down text ≡ None
+IsIdsFault text BadPair = ⊥
 IsIdsFault text NoMemory = ⊤
 
--- The arguments are refused for this reason: that of `clap`, that the text of `--down` is not a list of ids, or that
--- memory ran out.
+-- the pair of --from and --to, beside FILE: Some None if neither is given, None if one is without the other or beside
+-- FILE
+abbrev pub pair_of : Option Text → Option Text → Option Text → Option (Option (Text × Text))
+pair_of file None None = Some None
+pair_of None (Some from) (Some to) = Some (Some (from, to))
+pair_of (Some file) (Some from) (Some to) = None
+pair_of file (Some from) None = None
+pair_of file None (Some to) = None
+
+-- the two texts of a pair
+abbrev pub texts_of : PairTexts → Text × Text
+texts_of pair = (pair.from.now, pair.to.now)
+
+-- the pair that a parsed subcommand gives
+abbrev pub pair_given : Option (Text × List Row) → Option (Option (Text × Text))
+pair_given matches = pair_of (option_text (codes "FILE") matches) (option_text (codes "from") matches) (option_text (codes "to") matches)
+
+-- the error of reading the pair
+abbrev pub IsPairFault : Option Text → Option Text → Option Text → ArgumentFault → Type 0
+IsPairFault file from to (Clap error) = ⊥
+IsPairFault file from to BadIds = ⊥
+IsPairFault file from to BadPair = pair_of file from to ≡ None
+IsPairFault file from to NoMemory = ⊥
+
+-- the error of reading the values of a parsed subcommand
+abbrev pub IsValueFault : Option (Text × List Row) → ArgumentFault → Type 0
+IsValueFault matches (Clap error) = ⊥
+IsValueFault matches BadIds = ids_down (option_text (codes "down") matches) ≡ None
+IsValueFault matches BadPair = pair_given matches ≡ None
+IsValueFault matches NoMemory = ⊤
+
+-- The arguments are refused for this reason: that of `clap`, that the text of `--down` is not a list of ids, that
+-- `--from` and `--to` are not a pair, or that memory ran out.
 abbrev pub IsRefusal : App → List Text → ArgumentFault → Type 0
 IsRefusal app arguments (Clap error) = HasKind (fault_of app arguments) error × (takes app arguments ≡ true → kind_of error ≡ OutOfMemory)
 IsRefusal app arguments BadIds = (fault_of app arguments ≡ []) × (ids_down (option_text (codes "down") (subcommand_of app arguments)) ≡ None)
+IsRefusal app arguments BadPair = (fault_of app arguments ≡ []) × (pair_given (subcommand_of app arguments) ≡ None)
 IsRefusal app arguments NoMemory = ⊤
 
 -- The number of an option: the default if it is left out, otherwise the one that its text denotes. If that is not from
@@ -82,6 +116,7 @@ IsOptionValue least most default (Some text) number =
 -- the invocation is that of the parsed subcommand
 pub record IsInvocation (matches : Option (Text × List Row)) (invocation : Invocation) : Type 0 where
   pub mode : invocation.mode ≡ selected_mode matches
+  pub pair : pair_given matches ≡ Some (option_map texts_of invocation.pair)
   pub file : option_map (λ name. name.now) invocation.file ≡ option_text (codes "FILE") matches
   pub history : IsOptionValue 0 1000 100 (option_text (codes "history") matches) invocation.options.history
   pub steps : IsOptionValue 1 1000 1 (option_text (codes "steps") matches) invocation.options.steps

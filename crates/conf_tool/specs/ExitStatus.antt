@@ -3,7 +3,7 @@ use Rattle.std.specs.Prelude.{◌≡◌, ℕ, List, Option, Result, Ok, Err}
 use Rattle.std.specs.Process.{exit_status}
 use Rattle.std.specs.declared.process.ExitCode.{ExitCode}
 use Rattle.conf_tool.specs.Outputs.{Output}
-use Rattle.conf_tool.specs.Run.{Answers}
+use Rattle.conf_tool.specs.Run.{Answers, Means}
 use Rattle.conf_tool.specs.declared.status.Status.{Status}
 use Rattle.conf_tool.specs.declared.status.Status.TheVariants.{Clean, Different}
 use Rattle.conf_tool.specs.declared.tool_fault.ToolFault.{ToolFault}
@@ -23,3 +23,7 @@ exit_status_of (Err NoMemory) = 3
 abbrev pub ExitsWith : (List ℕ → Output) → Option (List ℕ) → Option (List ℕ) → Option (List ℕ) → Option (List ℕ) → ExitCode → Type 0
 ExitsWith output left_before left_after before after code =
     (result : Result Status ToolFault) × Answers output left_before left_after before after result × (exit_status code ≡ exit_status_of result)
+
+-- a run with this output, of which only the exit status is known
+abbrev pub PlansWith : Output → Option (List ℕ) → Option (List ℕ) → ExitCode → Type 0
+PlansWith output before after code = (result : Result Status ToolFault) × Means output result before after × (exit_status code ≡ exit_status_of result)

@@ -1,33 +1,37 @@
 -- Laws of the modes' outputs: what a user can rely on, when one mode reads what another printed.
-use Rattle.std.specs.Prelude.{◌≡◌, ◌≤◌, ◌<◌, ◌+◌, ◌-◌, ◌^◌, ℕ, true, false, List, ◌++◌, [], ◌∷◌, length, slice_get, codes, Option, Result, Ok, Err, Some, None}
-use Rattle.quorum_sets.specs.Ids.{Ids, ascending}
+use Rattle.std.specs.Prelude.{◌≡◌, ◌≤◌, ◌+◌, ◌-◌, ℕ, ⊤, true, false, List, ◌++◌, [], ◌∷◌, length, slice_get, codes, Result, Ok, Err, Some, None}
 use Rattle.ascii_text.specs.Lines.{newline, lines_of}
 use Rattle.dd_file.specs.Laws.{ends_in_long_blank, directives_of, IsComplete}
 use Rattle.dd_file.specs.DirectiveText.{DirectiveText}
 use Rattle.dd_file.specs.Position.{longest_input}
 use Rattle.dd_file.specs.Grammar.{Script, script_of, listing_of}
 use Rattle.dd_file.specs.declared.item.Item.{Item}
+use Rattle.conf_change.specs.U64Lists.{HasU64Lists}
 use Rattle.conf_change.specs.declared.floor.Floor.{Floor}
 use Rattle.conf_change.specs.declared.floor.Floor.TheVariants.{One}
 use Rattle.conf_change.specs.Configuration.{Configuration, has_voter}
 use Rattle.conf_change.specs.declared.step.Step.{Step}
 use Rattle.conf_plan.specs.Best.{IsBest}
-use Rattle.conf_plan.specs.PathBy.{has_path, Serves}
+use Rattle.conf_plan.specs.OneChangeEach.{one_change_each}
+use Rattle.conf_plan.specs.PathBy.{has_path, KeepsPromises}
 use Rattle.conf_plan.specs.PlanSteps.{HasU64Ids, IsPlan}
-use Rattle.conf_plan.specs.PlanText.{plan_text}
 use Rattle.conf_session.specs.SessionState.{SessionState, new_session, current}
 use Rattle.conf_session.specs.Commands.{answer, after_answers}
 use Rattle.conf_session.specs.Undo.{undo_plan_of}
-use Rattle.conf_tool.specs.Pairs.{NumberedLine, numbered, configuration_lines, configuration_at, both_of}
+use Rattle.plan_output.specs.CarriedOut.{LinesLead}
+use Rattle.plan_output.specs.Json.{path_json}
+use Rattle.plan_output.specs.Stages.{AreOnTheWay, stages}
+use Rattle.conf_tool.specs.Pairs.{NumberedLine, numbered, configuration_lines, current_at, target_at, pair_at}
 use Rattle.conf_tool.specs.declared.plan_input_fault.PlanInputFault.{PlanInputFault}
 use Rattle.conf_tool.specs.PlanScript.{default_session}
-use Rattle.conf_tool.specs.PlanAnswer.{ids_down, stall_note, note_line, path_between, plan_text_between, session_between}
+use Rattle.plan_output.specs.Steps.{ids_down}
+use Rattle.conf_tool.specs.PlanAnswer.{path_text, path_between, plan_text_between, session_between}
 use Rattle.conf_tool.specs.declared.plan_options.PlanOptions.{PlanOptions}
-use Rattle.conf_tool.specs.declared.plan_options.PlanOutput.TheVariants.{Steps, Script as ScriptOutput}
+use Rattle.conf_tool.specs.declared.plan_options.PlanOutput.TheVariants.{Script as ScriptOutput}
 use Rattle.conf_plan.specs.declared.strategy.Strategy.TheVariants.{Shortest}
-use Rattle.std.specs.List.{All, AllZip}
+use Rattle.std.specs.List.{All}
 use Rattle.conf_tool.specs.Reports.{session_after_all}
-use Rattle.conf_tool.specs.Outputs.{checked, rewritten, undone_output, planned_output}
+use Rattle.conf_tool.specs.Outputs.{checked, rewritten, undone_output, planned_output, separator}
 use Rattle.conf_tool.specs.UndoScript.{TakesSteps}
 use Rattle.conf_tool.specs.declared.status.Status.TheVariants.{Clean}
 
@@ -42,7 +46,7 @@ RewrittenClean = (input : List ℕ) (history : ℕ) (floor : Floor) →
 -- also if there is nothing to do, or no plan.
 abbrev pub JoinedClean : Type 0
 JoinedClean = (script : List ℕ) (history : ℕ) (floor : Floor) (count : ℕ) →
-    IsComplete 1 (lines_of script) → (checked script history floor).outcome ≡ Ok Clean →
+    IsComplete (lines_of script) → (checked script history floor).outcome ≡ Ok Clean →
     let joined = (script ++ newline ++ newline) ++ (undone_output script history floor count).text in
     length joined ≤ longest_input → (checked joined history floor).outcome ≡ Ok Clean
 
@@ -63,7 +67,7 @@ UndoScriptLeadsBack = (script : List ℕ) (history : ℕ) (floor : Floor) (count
     (script_of script).fault ≡ None → 1 ≤ count → undo_plan_of session count ≡ Ok steps → IsPlan steps → length printed ≤ longest_input →
     LeadsBackBy session count steps (script_of printed)
 
--- pairs with one more before them, if both of its lines are configurations; else no pairs
+-- pairs with one more before them, if it was read; else no pairs
 abbrev pub pair_before : Result (Configuration × Configuration) PlanInputFault → List (Configuration × Configuration) → List (Configuration × Configuration)
 pair_before (Err bad) pairs = []
 pair_before (Ok pair) pairs = pair ∷ pairs
@@ -72,7 +76,7 @@ pair_before (Ok pair) pairs = pair ∷ pairs
 abbrev pub named_pairs : List NumberedLine → List (Configuration × Configuration)
 named_pairs [] = []
 named_pairs (line ∷ []) = []
-named_pairs (first ∷ second ∷ lines) = pair_before (both_of (configuration_at first) (configuration_at second)) (named_pairs lines)
+named_pairs (first ∷ second ∷ lines) = pair_before (pair_at first second) (named_pairs lines)
 
 -- the pairs of configurations that an input denotes, up to the first line that is not one
 abbrev pub pairs_in : List ℕ → List (Configuration × Configuration)
@@ -90,35 +94,53 @@ separated_by part [] = []
 separated_by part (text ∷ []) = text
 separated_by part (text ∷ next ∷ texts) = text ++ (part ++ separated_by part (next ∷ texts))
 
--- the text of a path by its steps; a comment before them reports that the path stalls with the ids that are down
-abbrev pub steps_text : Option Ids → Configuration → List Step → List ℕ
-steps_text down now steps = note_line (stall_note down now steps) ++ plan_text steps
+-- Texts for pairs in turn, the first of which has this number and is answered in this session. Holds is true of each
+-- pair and its text.
+abbrev pub EachInTurn : PlanOptions → (SessionState → ℕ → Configuration × Configuration → List ℕ → Type 0) → SessionState → ℕ → List (Configuration × Configuration) → List (List ℕ) → Type 0
+EachInTurn options Holds session number [] [] = ⊤
+EachInTurn options Holds session number [] (text ∷ texts) = ⊥
+EachInTurn options Holds session number (pair ∷ pairs) [] = ⊥
+EachInTurn options Holds session number (pair ∷ pairs) (text ∷ texts) =
+    Holds session number pair text × EachInTurn options Holds (session_between options session pair.0 pair.1) (number + 1) pairs texts
+
+-- `plan` prints texts for the pairs of the input with a separator between each two, and Holds is true of each.
+abbrev pub PrintsEach : PlanOptions → List ℕ → (SessionState → ℕ → Configuration × Configuration → List ℕ → Type 0) → Type 0
+PrintsEach options input Holds =
+    (texts : List (List ℕ)) × ((planned_output options input).text ≡ separated_by (separator options.output) texts) × EachInTurn options Holds default_session 1 (pairs_in input) texts
 
 -- the text is that of the best plan from the first configuration of a pair to the second, if both have a voter
-abbrev pub IsBestPlan : Option Ids → Configuration × Configuration → List ℕ → Type 0
-IsBestPlan down pair text = has_voter pair.0 ≡ true → has_voter pair.1 ≡ true → (steps : List Step) × (text ≡ steps_text down pair.0 steps) × IsBest pair.0 steps pair.1
+abbrev pub IsBestPlan : PlanOptions → SessionState → ℕ → Configuration × Configuration → List ℕ → Type 0
+IsBestPlan options session number pair text =
+    has_voter pair.0 ≡ true → has_voter pair.1 ≡ true → (steps : List Step) × (text ≡ path_text options session number pair.0 steps) × IsBest pair.0 steps pair.1
 
--- `plan` prints the texts of the pairs with an empty line between each two, and each is the best plan. For an input of
--- one pair nothing else is printed, and the run ends clean if no ids are down.
+-- In each form of the output, `plan` prints the best plan of each pair. For an input of one pair nothing else is
+-- printed, and the run ends clean if no ids are down.
 pub record PrintedPlanIsBest : Type 0 where
-  pub each : (options : PlanOptions) (input : List ℕ) → options.strategy ≡ Shortest → options.output ≡ Steps →
-      (texts : List (List ℕ)) × ((planned_output options input).text ≡ separated_by newline texts) × AllZip (IsBestPlan options.down) (pairs_in input) texts
-  pub alone : (options : PlanOptions) (input : List ℕ) (first second : NumberedLine) (now target : Configuration) → options.strategy ≡ Shortest → options.output ≡ Steps → options.down ≡ None →
-      (listing_of input).fault ≡ None → configuration_lines (numbered 1 (listing_of input).items) ≡ first ∷ second ∷ [] → configuration_at first ≡ Ok now → configuration_at second ≡ Ok target →
-      has_voter now ≡ true → has_voter target ≡ true → (steps : List Step) × (planned_output options input ≡ record { text = plan_text steps; outcome = Ok Clean }) × IsBest now steps target
+  pub each : (options : PlanOptions) (input : List ℕ) → options.strategy ≡ Shortest → PrintsEach options input (IsBestPlan options)
+  pub alone : (options : PlanOptions) (input : List ℕ) (first second : NumberedLine) (now target : Configuration) → options.strategy ≡ Shortest → options.down ≡ None →
+      (listing_of input).fault ≡ None → configuration_lines (numbered 1 (listing_of input).items) ≡ first ∷ second ∷ [] → current_at first ≡ Ok now → target_at second now ≡ Ok target →
+      has_voter now ≡ true → has_voter target ≡ true → (steps : List Step) × (planned_output options input ≡ record { text = path_text options default_session 1 now steps; outcome = Ok Clean }) × IsBest now steps target
 
--- The text is that of a path that keeps what the strategy promises, if both configurations of the pair have a voter and
+-- Steps that keep what the strategy promises. The stages, of which a table shows each, are the configurations on the
+-- way, so no step is refused, and the last one is the target. So are those of the steps of one change each, which JSON
+-- shows; its lines lead etcd's raft to the target.
+pub record LeadsAsPromised (options : PlanOptions) (number : ℕ) (now : Configuration) (steps : List Step) (target : Configuration) : Type 0 where
+  pub promised : KeepsPromises options.strategy (ids_down options.down) now steps target
+  pub on_the_way : AreOnTheWay (stages now steps) steps target
+  pub single_changes : AreOnTheWay (stages now (one_change_each steps)) (one_change_each steps) target
+  pub lines : LinesLead now now (path_json number now steps options.down) target
+
+-- The text is that of the path between the configurations of a pair, which leads as promised, if both have a voter and
 -- the strategy has a path.
-abbrev pub IsServingPath : PlanOptions → Configuration × Configuration → List ℕ → Type 0
-IsServingPath options pair text =
+abbrev pub IsPromisedPath : PlanOptions → SessionState → ℕ → Configuration × Configuration → List ℕ → Type 0
+IsPromisedPath options session number pair text =
     has_voter pair.0 ≡ true → has_voter pair.1 ≡ true → has_path options.strategy pair.0 pair.1 ≡ true →
-    (steps : List Step) × (text ≡ steps_text options.down pair.0 steps) × Serves options.strategy (ids_down options.down) pair.0 steps pair.1
+    (steps : List Step) × (path_between options pair.0 pair.1 ≡ Ok steps) × (text ≡ path_text options session number pair.0 steps) × LeadsAsPromised options number pair.0 steps pair.1
 
--- By each strategy, `plan` prints the texts of the pairs with an empty line between each two, and each is that of a
--- path that keeps what the strategy promises.
-abbrev pub PrintedPathServes : Type 0
-PrintedPathServes = (options : PlanOptions) (input : List ℕ) → options.output ≡ Steps →
-    (texts : List (List ℕ)) × ((planned_output options input).text ≡ separated_by newline texts) × AllZip (IsServingPath options) (pairs_in input) texts
+-- By each strategy and in each form of the output, `plan` prints for each pair a path that keeps what the strategy
+-- promises.
+abbrev pub PrintedPathKeepsPromises : Type 0
+PrintedPathKeepsPromises = (options : PlanOptions) (input : List ℕ) → PrintsEach options input (IsPromisedPath options)
 
 -- A session that runs these directives restores a configuration by the first, takes steps by the others, one by each,
 -- and is in another configuration then.
@@ -137,13 +159,6 @@ pub data LeadsThrough (options : PlanOptions) : SessionState → List DirectiveT
       LeadsThrough options (after_answers session (first ∷ others)) more pairs → LeadsThrough options session (first ∷ others ++ more) (pair ∷ pairs)
   WithoutPath : (session : SessionState) (directives : List DirectiveText) (pair : Configuration × Configuration) (pairs : List (Configuration × Configuration)) (why : List ℕ) →
       path_between options pair.0 pair.1 ≡ Err why → LeadsThrough options session directives pairs → LeadsThrough options session directives (pair ∷ pairs)
-
--- the ids of a configuration are numbers of 64 bits
-pub record HasU64Lists (c : Configuration) : Type 0 where
-  pub incoming : All (λ id. id < 2 ^ 64) (ascending c.incoming)
-  pub outgoing : All (λ id. id < 2 ^ 64) (ascending c.outgoing)
-  pub learners : All (λ id. id < 2 ^ 64) (ascending c.learners)
-  pub learners_next : All (λ id. id < 2 ^ 64) (ascending c.learners_next)
 
 -- the ids of the first configuration of a pair are numbers of 64 bits, and so are those of its path
 pub record HasU64Pair (options : PlanOptions) (pair : Configuration × Configuration) : Type 0 where

@@ -23,7 +23,7 @@ use Rattle.conf_tool.specs.declared.plan_options.PlanOutput.TheVariants.{Steps, 
 use Rattle.conf_tool.specs.declared.status.Status.{Status}
 use Rattle.conf_tool.specs.declared.status.Status.TheVariants.{Clean, Different}
 use Rattle.conf_session.specs.declared.undo_fault.UndoFault.{UndoFault}
-use Rattle.conf_tool.specs.Pairs.{NumberedLine, numbered, configuration_lines, configuration_at, both_of}
+use Rattle.conf_tool.specs.Pairs.{NumberedLine, numbered, configuration_lines, current_at, pair_at, pair_of_texts}
 use Rattle.conf_tool.specs.PlanAnswer.{plan_text_between, plan_status, session_between}
 use Rattle.conf_tool.specs.PlanScript.{default_session}
 use Rattle.conf_tool.specs.declared.plan_input_fault.PlanInputFault.{PlanInputFault}
@@ -149,9 +149,9 @@ ends_within (Ok now) None = ends (Err (Configurations NotTwoLines))
 -- the output of `plan` for these lines, the first pair of which has this number and is answered in this session
 abbrev pub planned_pairs : PlanOptions → SessionState → ℕ → List NumberedLine → Option FileFault → Output
 planned_pairs options session number [] fault = ends_before number fault
-planned_pairs options session number (line ∷ []) fault = ends_within (configuration_at line) fault
+planned_pairs options session number (line ∷ []) fault = ends_within (current_at line) fault
 planned_pairs options session number (first ∷ second ∷ lines) fault =
-    let pair = both_of (configuration_at first) (configuration_at second) in
+    let pair = pair_at first second in
     pair_then options session number pair (planned_pairs options (session_after_pair options session pair) (number + 1) lines fault)
 
 -- the output of `plan` for the lines of an input: one session answers all pairs
@@ -161,6 +161,10 @@ planned_script options listing = planned_pairs options default_session 1 (config
 -- the output of `plan`: for each pair of lines the path from the configuration of the first to that of the second
 abbrev pub planned_output : PlanOptions → List ℕ → Output
 planned_output options input = planned_script options (listing_of input)
+
+-- the output of `plan` for the values of --from and --to, which are one pair
+unfoldable pub planned_texts : PlanOptions → List ℕ → List ℕ → Output
+planned_texts options from to = pair_then options default_session 1 (pair_of_texts from to) (ends (Ok Clean))
 
 -- the output of a mode, by its options
 abbrev pub output_of : Mode → Options → List ℕ → Output

@@ -1,16 +1,16 @@
 -- The output of the mode `plan` for a pair: the path between two configurations, or why there is none.
-use Rattle.std.specs.Prelude.{ℕ, List, [], ◌++◌, Option, Some, None, Result, Ok, Err, codes, if◌then◌else◌}
-use Rattle.quorum_sets.specs.Ids.{Ids, no_ids}
+use Rattle.std.specs.Prelude.{ℕ, List, ◌++◌, Option, Some, None, Result, Ok, Err, codes, if◌then◌else◌}
+use Rattle.quorum_sets.specs.Ids.{Ids}
 use Rattle.conf_change.specs.Configuration.{Configuration, has_voter}
 use Rattle.conf_change.specs.declared.step.Step.{Step}
 use Rattle.conf_plan.specs.PathBy.{has_path, path_by}
-use Rattle.conf_plan.specs.PlanText.{plan_text}
 use Rattle.ascii_text.specs.Lines.{newline}
 use Rattle.plan_output.specs.Json.{json_text, value_line, no_plan_json}
 use Rattle.plan_output.specs.Stages.{stalls}
+use Rattle.plan_output.specs.Steps.{ids_down, stall_note, steps_text}
 use Rattle.plan_output.specs.Table.{table_text}
 use Rattle.conf_session.specs.SessionState.{SessionState}
-use Rattle.conf_tool.specs.PlanScript.{stall_text, script_items, script_text}
+use Rattle.conf_tool.specs.PlanScript.{script_items, script_text}
 use Rattle.conf_tool.specs.Reports.{session_after_all}
 use Rattle.conf_tool.specs.declared.plan_options.PlanOptions.{PlanOptions}
 use Rattle.conf_tool.specs.declared.plan_options.PlanOutput.{PlanOutput}
@@ -19,25 +19,10 @@ use Rattle.conf_tool.specs.declared.status.Status.{Status}
 use Rattle.conf_tool.specs.declared.status.Status.TheVariants.{Clean, Different}
 
 -- ---- a path
--- the ids that are down: none if none are given
-abbrev pub ids_down : Option Ids → Ids
-ids_down None = no_ids
-ids_down (Some down) = down
-
--- the note that a path stalls, if ids are down and it stalls then
-abbrev pub stall_note : Option Ids → Configuration → List Step → Option (List ℕ)
-stall_note None now steps = None
-stall_note (Some down) now steps = if stalls now steps down then Some (stall_text down) else None
-
--- a note as a comment line; nothing if there is none
-abbrev pub note_line : Option (List ℕ) → List ℕ
-note_line None = []
-note_line (Some note) = codes "# " ++ note ++ newline
-
 -- The text of a path in this form, for the pair with this number and with these ids down. A script has the actual
 -- output of this session.
 abbrev pub text_as : PlanOutput → SessionState → ℕ → Option Ids → Configuration → List Step → List ℕ
-text_as Steps session number down now steps = note_line (stall_note down now steps) ++ plan_text steps
+text_as Steps session number down now steps = steps_text down now steps
 text_as Script session number down now steps = script_text session (stall_note down now steps) now steps
 text_as Table session number down now steps = table_text now steps down
 text_as Json session number down now steps = json_text number now steps down

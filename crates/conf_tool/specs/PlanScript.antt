@@ -1,6 +1,5 @@
--- The script that takes the steps of a path, and the comment that a path stalls while ids are down.
+-- The script that takes the steps of a path.
 use Rattle.std.specs.Prelude.{ℕ, List, [], ◌∷◌, ◌++◌, Option, Some, None, codes}
-use Rattle.quorum_sets.specs.Ids.{Ids, ascending}
 use Rattle.dd_file.specs.Rewritten.{rewritten_text}
 use Rattle.dd_file.specs.Script.{directive}
 use Rattle.dd_file.specs.DirectiveLine.{CommandText}
@@ -8,16 +7,11 @@ use Rattle.dd_file.specs.declared.item.Item.{Item}
 use Rattle.conf_change.specs.Configuration.{Configuration}
 use Rattle.conf_change.specs.ConfState.{lists_of}
 use Rattle.conf_change.specs.ConfStateLine.{conf_state_text}
-use Rattle.conf_change.specs.Text.{spaced_numbers}
 use Rattle.conf_change.specs.declared.floor.Floor.TheVariants.{One}
 use Rattle.conf_change.specs.declared.step.Step.{Step}
 use Rattle.conf_session.specs.SessionState.{SessionState, new_session}
 use Rattle.conf_tool.specs.Reports.{answered_entries}
 use Rattle.conf_tool.specs.UndoScript.{comment, step_items}
-
--- that a path stalls while these ids are down: stalls with 4 5 down
-abbrev pub stall_text : Ids → List ℕ
-stall_text down = codes "stalls with " ++ spaced_numbers (ascending down) ++ codes " down"
 
 -- a note as a comment, if there is one
 abbrev pub note_items : Option (List ℕ) → List Item

@@ -40,7 +40,7 @@ undo_options names = script_options names ++ number_rule (codes "steps") 1 1000 
 -- the options of the mode plan
 abbrev pub plan_options : OptionNames → List Rule
 plan_options names =
-    names_rule (codes "strategy") names.strategies ∷ names_rule (codes "output") names.outputs ∷ text_rule (codes "down") ∷ []
+    names_rule (codes "strategy") names.strategies ∷ names_rule (codes "output") names.outputs ∷ text_rule (codes "down") ∷ text_rule (codes "from") ∷ text_rule (codes "to") ∷ []
 
 -- a mode, whose options have these names as values
 abbrev pub mode_command : OptionNames → Mode → Shape

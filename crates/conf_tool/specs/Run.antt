@@ -6,7 +6,7 @@ use Rattle.dd_file.specs.Device.{AppendsPart}
 use Rattle.dd_file.specs.ReaderState.{fresh}
 use Rattle.dd_file.specs.Answer.{Agrees}
 use Rattle.dd_file.specs.declared.fault.FileFault.{FileFault}
-use Rattle.dd_file.specs.declared.fault.FileFault.TheVariants.{InputTooLong, BadDirective, AfterDouble, UnclosedDouble, Read as ReadOfScript, NoMemory as NoMemoryForScript}
+use Rattle.dd_file.specs.declared.fault.FileFault.TheVariants.{InputTooLong, Syntax, Read as ReadOfScript, NoMemory as NoMemoryForScript}
 use Rattle.conf_tool.specs.Outputs.{Output}
 use Rattle.conf_tool.specs.declared.mode.Mode.{Mode}
 use Rattle.conf_tool.specs.declared.mode.Mode.TheVariants.{Lines, Check, Rewrite, Undo, Plan}
@@ -36,9 +36,7 @@ Answers output left_before left_after before after result =
 
 -- an error of the reader as an error of the run: a failed read and `NoMemory` are not errors in the input
 abbrev pub as_tool_fault : FileFault → ToolFault
-as_tool_fault (BadDirective line) = Script (BadDirective line)
-as_tool_fault (AfterDouble line) = Script (AfterDouble line)
-as_tool_fault (UnclosedDouble line) = Script (UnclosedDouble line)
+as_tool_fault (Syntax line fault) = Script (Syntax line fault)
 as_tool_fault (InputTooLong line) = Script (InputTooLong line)
 as_tool_fault ReadOfScript = Read
 as_tool_fault NoMemoryForScript = NoMemory
@@ -53,18 +51,14 @@ IsAnswerFault NoMemory = ⊤
 
 -- an error in the input of a mode that reads a script
 abbrev pub IsScriptFault : FileFault → Type 0
-IsScriptFault (BadDirective line) = ⊤
-IsScriptFault (AfterDouble line) = ⊤
-IsScriptFault (UnclosedDouble line) = ⊤
+IsScriptFault (Syntax line fault) = ⊤
 IsScriptFault (InputTooLong line) = ⊤
 IsScriptFault ReadOfScript = ⊥
 IsScriptFault NoMemoryForScript = ⊥
 
 -- the error of an input beyond the limit
 abbrev pub IsInputTooLong : FileFault → Type 0
-IsInputTooLong (BadDirective line) = ⊥
-IsInputTooLong (AfterDouble line) = ⊥
-IsInputTooLong (UnclosedDouble line) = ⊥
+IsInputTooLong (Syntax line fault) = ⊥
 IsInputTooLong (InputTooLong line) = ⊤
 IsInputTooLong ReadOfScript = ⊥
 IsInputTooLong NoMemoryForScript = ⊥

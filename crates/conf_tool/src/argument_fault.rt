@@ -13,6 +13,8 @@ pub enum ArgumentFault {
     Clap(Error),
     /// The value of `--down` is not a list of ids.
     BadIds,
+    /// One of `--from` and `--to` is without the other, or they are beside FILE.
+    BadPair,
     /// Memory ran out.
     NoMemory,
 }

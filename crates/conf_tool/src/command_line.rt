@@ -2,7 +2,7 @@
 ghost use Rattle.std.specs.Prelude.{◌≡◌, ◌≤◌, ◌<◌, [], Some, map, codes, option_map, MatchResult, IfOk, IfErr};
 ghost use Rattle.clap.specs.Words.{fault_of, first_of, found_of, rows_of, subcommand_of, subcommand_rows_of};
 ghost use Rattle.conf_tool.specs.Program.{program as the_program, OfProgram};
-ghost use Rattle.conf_tool.specs.CommandLine.{mode_named, option_text, floor_named, strategy_named, output_named, ids_down, IsOptionValue, IsInvocation, IsIdsFault, IsRefusal};
+ghost use Rattle.conf_tool.specs.CommandLine.{mode_named, option_text, floor_named, strategy_named, output_named, ids_down, pair_of, texts_of, IsOptionValue, IsInvocation, IsIdsFault, IsPairFault, IsValueFault, IsRefusal};
 ghost use Rattle.conf_tool.specs.Ranges.{IsInRange};
 
 use crate::argument_fault::ArgumentFault;
@@ -10,6 +10,7 @@ use crate::id_list::ids_listed;
 use crate::invocation::Invocation;
 use crate::mode::Mode;
 use crate::options::Options;
+use crate::pair_texts::PairTexts;
 use crate::plan_options::{PlanOptions, PlanOutput};
 use crate::program::{OptionNames, program};
 use clap::ArgMatches;
@@ -25,7 +26,8 @@ pub fn command_line<'a, S: AsStr>(
     alloc: Global,
     arguments: &'a [S],
 ) -> Result<Invocation<'a>, ArgumentFault>
-    // The arguments are refused exactly if `clap` refuses them, or if `--down` is not a list of ids.
+    // The arguments are refused exactly if `clap` refuses them, if `--down` is not a list of ids, or if `--from` and
+    // `--to` are not a pair.
     ensures refused { OfProgram (λ the_program. MatchResult result (λ _. fault_of the_program (map S.text arguments.entry.now) ≡ []) (IsRefusal the_program (map S.text arguments.entry.now))) }
 
     // The invocation has what `clap` reads in the arguments.
@@ -58,17 +60,22 @@ fn invocation_of<'a>(
     matches: &ArgMatches<'a>,
 ) -> Result<Invocation<'a>, ArgumentFault>
     ensures asked { IfOk result (IsInvocation (subcommand_rows_of matches.now)) }
-    ensures fault { IfErr result (IsIdsFault (option_text (codes "down") (subcommand_rows_of matches.now))) }
+    ensures fault { IfErr result (IsValueFault (subcommand_rows_of matches.now)) }
 {
     match matches.subcommand() {
-        Some((name, matches)) => Ok(Invocation {
-            mode: mode_named(name),
-            options: options_of(alloc, matches)?,
-            file: text_of(matches, "FILE"),
-        }),
+        Some((name, matches)) => {
+            let file = text_of(matches, "FILE");
+            Ok(Invocation {
+                mode: mode_named(name),
+                options: options_of(alloc, matches)?,
+                pair: pair_of(file, text_of(matches, "from"), text_of(matches, "to"))?,
+                file,
+            })
+        }
         None => Ok(Invocation {
             mode: Mode::Lines,
             options: Options::default(),
+            pair: None,
             file: None,
         }),
     }
@@ -115,6 +122,22 @@ fn text_of<'a>(matches: &ArgMatches<'a>, id: &str) -> Option<&'a str>
     ensures { option_map (λ text. text.now) result ≡ first_of id.now (rows_of (found_of matches.now)) }
 {
     matches.get_str(id)
+}
+
+// The pair of `--from` and `--to`, if they are given. They come together, and without FILE.
+fn pair_of<'a>(
+    file: Option<&'a str>,
+    from: Option<&'a str>,
+    to: Option<&'a str>,
+) -> Result<Option<PairTexts<'a>>, ArgumentFault>
+    ensures pair { IfOk result (λ pair. pair_of (option_map (λ text. text.now) file.entry) (option_map (λ text. text.now) from.entry) (option_map (λ text. text.now) to.entry) ≡ Some (option_map texts_of pair)) }
+    ensures fault { IfErr result (IsPairFault (option_map (λ text. text.now) file.entry) (option_map (λ text. text.now) from.entry) (option_map (λ text. text.now) to.entry)) }
+{
+    match (file, from, to) {
+        (_, None, None) => Ok(None),
+        (None, Some(from), Some(to)) => Ok(Some(PairTexts { from, to })),
+        _ => Err(ArgumentFault::BadPair),
+    }
 }
 
 // The number that a value denotes, or the default if there is no value. `clap` accepts only numbers from `least` to

@@ -28,7 +28,7 @@ pub(crate) const PROGRAM: &str = "Examples:
   printf 'v1\\nv2\\nl3\\n' | confscript lines
   confscript check script.txt
   confscript undo --steps 2 script.txt
-  confscript plan --strategy learners-first two_lines.txt
+  confscript plan --from 'voters=(1 2 3)' --to 'r1 v4'
 
 Exit statuses:
   0  done
@@ -173,18 +173,28 @@ it prints
 pub(crate) const PLAN: ModeHelp = ModeHelp {
     name: "plan",
     about: "Plans the changes from one configuration to another",
-    after: "Reads pairs of lines, the current configuration and the target, each as the
-command conf-state prints it, or as the JSON of a raftpb.ConfState. Prints for
-each pair the steps that lead from the one to the other; except in json, an
-empty line separates two pairs. Blank lines and lines that begin with # are
-skipped.
+    after: "Reads pairs of lines, the current configuration and the target, or one pair
+from --from and --to. Prints for each pair the steps that lead from the one to
+the other; except in json, an empty line separates two pairs. Blank lines and
+lines that begin with # are skipped.
+
+A configuration is written in one of these forms:
+  voters=(1 2 3)&&(1 2) learners=(4) learners_next=(1) autoleave
+              as this program prints it, without what is empty
+  Voters:[1 2 3] VotersOutgoing:[] Learners:[4] LearnersNext:[] AutoLeave:false
+              as the command conf-state prints it
+  {..}        the JSON of a raftpb.ConfState, or what etcdctl member list
+              -w json prints
+The target may also be a list of changes, as r1 r2 v4 v5 (see confscript help
+lines). They are made all at once. If the current configuration is joint, it is
+left first.
 
 Strategies:
-  shortest        at most four steps. No other plan has fewer, keeps the
-                  progress of a member that this one resets, or names a member
-                  in fewer changes
+  shortest        at most four steps. No plan has fewer steps, or names a member
+                  in fewer changes; a member that can keep its progress keeps it
   learners-first  at most one step more: new voters are learners first
-  one-at-a-time   each step changes one member; the target must not be joint
+  one-at-a-time   each step changes one member; a joint configuration is left
+                  first, and the target must not be joint
 
 Outputs:
   steps   one step a line
@@ -202,8 +212,8 @@ the first one among them, cannot commit with the ids of --down down. In steps
 and script a comment says so.
 
 For the lines
-  Voters:[1 2 3] VotersOutgoing:[] Learners:[] LearnersNext:[] AutoLeave:false
-  Voters:[2 3 5] VotersOutgoing:[] Learners:[] LearnersNext:[] AutoLeave:false
+  voters=(1 2 3)
+  voters=(2 3 5)
 
 it prints
   enter-joint autoleave=false r1 v5
@@ -260,5 +270,21 @@ pub(crate) const DOWN: OptionHelp = OptionHelp {
     name: "down",
     value_name: "IDS",
     about: "Ids that are down, separated by commas",
+    long: None,
+};
+
+/// The option `--from`.
+pub(crate) const FROM: OptionHelp = OptionHelp {
+    name: "from",
+    value_name: "TEXT",
+    about: "The current configuration, in place of FILE",
+    long: None,
+};
+
+/// The option `--to`.
+pub(crate) const TO: OptionHelp = OptionHelp {
+    name: "to",
+    value_name: "TEXT",
+    about: "The target, or changes of the current configuration",
     long: None,
 };

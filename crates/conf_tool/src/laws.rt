@@ -1,12 +1,15 @@
 //! Laws of this crate's definitions, each the contract of a function that does nothing.
-ghost use Rattle.conf_tool.specs.Laws.{RewrittenClean, JoinedClean, UndoScriptLeadsBack, PrintedPlanIsBest, PrintedPathServes, PlanScriptLeads};
+ghost use Rattle.conf_tool.specs.Laws.{RewrittenClean, JoinedClean, UndoScriptLeadsBack, PrintedPlanIsBest, PrintedPathKeepsPromises, PlanScriptLeads};
 
 use conf_change::laws::{conf_state_describes, one_list_per_text, restored_is_described};
-use conf_plan::laws::{one_plan_per_text, paths_serve, planned_is_best};
+use conf_plan::laws::{
+    one_change_each_leads, one_plan_per_text, paths_keep_promises, planned_is_best,
+};
 use conf_session::laws::{actual_output_is_valid, answers_keep_session, undo_plan_leads_back};
 use dd_file::laws::{
     directive_is_well_formed, items_are_well_formed, items_have_keys, joined_items, written_script,
 };
+use plan_output::laws::{json_lines_lead_to_the_target, stages_are_on_the_way};
 
 /// A rewritten script checks clean, if its last item is not a blank of several lines and the rewritten text is within
 /// the input limit (own). If the script has an error, what is written up to it checks clean.
@@ -45,19 +48,24 @@ pub fn undo_script_leads_back()
     one_list_per_text();
 }
 
-/// By default the mode `plan` prints the steps of the best plan between two configurations with voters (own).
+/// By default the mode `plan` prints, in each form of the output, the best plan between two configurations with voters
+/// (own).
 pub fn printed_plan_is_best()
     ensures { PrintedPlanIsBest }
 {
     planned_is_best();
 }
 
-/// By each strategy, the steps that the mode `plan` prints are a path that keeps what the strategy promises, such as
-/// that no configuration on the way tolerates fewer failures than the weaker end (own).
-pub fn printed_path_serves()
-    ensures { PrintedPathServes }
+/// By each strategy, and in each form of the output, the mode `plan` prints a path that keeps what the strategy
+/// promises, such as that no configuration on the way tolerates fewer failures than the weaker end. The stages that a
+/// table and JSON show are the configurations on the way, the last of which is the target (own).
+pub fn printed_path_keeps_promises()
+    ensures { PrintedPathKeepsPromises }
 {
-    paths_serve();
+    paths_keep_promises();
+    one_change_each_leads();
+    stages_are_on_the_way();
+    json_lines_lead_to_the_target();
 }
 
 /// The scripts that the mode `plan` prints for any number of pairs are one script, which checks clean if it is within
@@ -73,5 +81,5 @@ pub fn plan_script_leads()
     conf_state_describes();
     one_plan_per_text();
     one_list_per_text();
-    paths_serve();
+    paths_keep_promises();
 }

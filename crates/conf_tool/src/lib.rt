@@ -5,7 +5,7 @@
 //! check     a script                    -> each directive whose output differs, and the counts
 //! rewrite   a script                    -> the script with its actual output
 //! undo      a script                    -> a second script that undoes its last changes
-//! plan      pairs of ConfState lines    -> the steps from the first to the second of each
+//! plan      pairs of configurations     -> the steps from the first to the second of each
 //! ```
 //!
 //! The output of a mode is a function of its input and its options. Each mode is proved to print exactly this output,
@@ -23,9 +23,11 @@ pub mod laws;
 mod line_reply;
 pub mod mode;
 pub mod options;
+pub mod origin;
+mod pair_text;
+pub mod pair_texts;
 mod plan_answer;
 pub mod plan_input_fault;
-mod plan_line;
 pub mod plan_options;
 mod program;
 mod report;
@@ -38,6 +40,8 @@ pub use argument_fault::ArgumentFault;
 pub use invocation::Invocation;
 pub use mode::Mode;
 pub use options::Options;
+pub use origin::Origin;
+pub use pair_texts::PairTexts;
 pub use plan_input_fault::PlanInputFault;
 pub use plan_options::{PlanOptions, PlanOutput};
 pub use status::Status;

@@ -1,9 +1,9 @@
 //! What the mode `plan` answers: the plan between two configurations, or why there is none.
-ghost use Rattle.std.specs.Prelude.{◌≡◌, ◌↔◌, ◌++◌, true, false, Err, option_map, IfOk, OnOk, IsOkUnless};
+ghost use Rattle.std.specs.Prelude.{◌≡◌, ◌↔◌, true, false, Err, option_map, IfOk, OnOk, IsOkUnless};
 ghost use Rattle.conf_change.specs.Configuration.{has_voter, is_valid, is_restorable};
 ghost use Rattle.conf_plan.specs.PathBy.{has_path, path_by};
-ghost use Rattle.conf_tool.specs.PlanAnswer.{ids_down, no_plan_comment, no_plan_text, note_line, path_status, path_text, plan_text_between, plan_status, session_as, session_between, stall_note};
-ghost use Rattle.conf_tool.specs.PlanScript as script;
+ghost use Rattle.plan_output.specs.Steps.{ids_down, stall_note};
+ghost use Rattle.conf_tool.specs.PlanAnswer.{no_plan_comment, no_plan_text, path_status, path_text, plan_text_between, plan_status, session_as, session_between};
 ghost use Rattle.conf_tool.specs.declared.tool_fault.ToolFault.TheVariants.{NoMemory as OutOfMemory};
 
 use crate::plan_options::{PlanOptions, PlanOutput};
@@ -11,9 +11,9 @@ use crate::run::plan_script::script_text;
 use crate::status::Status;
 use crate::tool_fault::ToolFault;
 use conf_change::Config;
-use conf_plan::{NoPath, Path, plan_by, print_path};
+use conf_plan::{NoPath, Path, plan_by};
 use conf_session::{Session, SessionIds};
-use plan_output::{add_json_lines, add_no_plan_line, add_table, ids_text, stalls};
+use plan_output::{add_json_lines, add_no_plan_line, add_steps, add_table, stall_note};
 use quorum_sets::{MemberSet, NoMemory};
 use std::alloc::Global;
 
@@ -91,7 +91,7 @@ fn path_answer(
     ensures status { IfOk result (λ answer. answer.1 ≡ path_status options.now.down now.now path.now) }
     ensures memory { IsOkUnless result OutOfMemory }
 {
-    let note = stall_note(alloc, options, now, path)?;
+    let note = path_note(alloc, options, now, path)?;
     let text = path_text(alloc, options, session, number, now, path, note.as_ref())?;
     let status = if note.is_some() {
         Status::Different
@@ -102,29 +102,15 @@ fn path_answer(
 }
 
 // The note that a path stalls with the ids that are down, if it does.
-fn stall_note(
+fn path_note(
     alloc: Global,
     options: &PlanOptions,
     now: &Config<SessionIds>,
     path: &Path,
 ) -> Result<Option<Vec<u8>>, NoMemory>
-    requires { is_restorable now.now ≡ true }
     ensures { IfOk result (λ note. option_map (λ note. note.items) note ≡ stall_note options.now.down now.now path.now) }
 {
-    match &options.down {
-        Some(down) if stalls(alloc, now, path, down)? => Ok(Some(stall_text(alloc, down)?)),
-        _ => Ok(None),
-    }
-}
-
-// The text of that note.
-fn stall_text(alloc: Global, down: &SessionIds) -> Result<Vec<u8>, NoMemory>
-    ensures { IfOk result (λ text. text.items ≡ script.stall_text down.now) }
-{
-    let mut text = Vec::from_slice(alloc, b"stalls with ")?;
-    text.extend_from_slice(ids_text(alloc, down)?.as_slice())?;
-    text.extend_from_slice(b" down")?;
-    Ok(text)
+    stall_note(alloc, now, path, options.down.as_ref())
 }
 
 // The text of a path from a configuration, with the note that it stalls.
@@ -145,27 +131,12 @@ fn path_text(
     let mut text = Vec::new(alloc);
     let down = options.down.as_ref();
     match options.output {
-        PlanOutput::Steps => {
-            write_note(&mut text, note)?;
-            print_path(&mut text, path)?;
-        }
+        PlanOutput::Steps => add_steps(&mut text, note, path)?,
         PlanOutput::Script => return script_text(alloc, session, note, now, path),
         PlanOutput::Table => add_table(alloc, &mut text, now, path, down)?,
         PlanOutput::Json => add_json_lines(alloc, &mut text, number, now, path, down)?,
     }
     Ok(text)
-}
-
-// Appends a note as a comment line, if there is one.
-fn write_note(text: &mut Vec<u8>, note: Option<&Vec<u8>>) -> Result<(), NoMemory>
-    ensures { OnOk result (text.new.items ≡ text.old.items ++ note_line (option_map (λ note. note.now.items) note.entry)) }
-{
-    if let Some(note) = note {
-        text.extend_from_slice(b"# ")?;
-        text.extend_from_slice(note.as_slice())?;
-        text.push(b'\n')?;
-    }
-    Ok(())
 }
 
 // The answer to the pair with this number if it has no plan.

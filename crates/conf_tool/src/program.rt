@@ -4,8 +4,8 @@ ghost use Rattle.clap.specs.Words.{app_of, rule_of};
 ghost use Rattle.conf_tool.specs.Program.{program, without_modes, mode_command, command_with, option_of, script_options, undo_options, plan_options};
 
 use crate::help::{
-    CHECK, DOWN, HISTORY, LINES, ModeHelp, NEXT_FLOOR, OUTPUT, OptionHelp, PLAN, PROGRAM, REWRITE,
-    STEPS, STRATEGY, UNDO,
+    CHECK, DOWN, FROM, HISTORY, LINES, ModeHelp, NEXT_FLOOR, OUTPUT, OptionHelp, PLAN, PROGRAM,
+    REWRITE, STEPS, STRATEGY, TO, UNDO,
 };
 use crate::mode::Mode;
 use clap::builder::ValueParser;
@@ -107,7 +107,7 @@ fn undo_options<'a>(names: OptionNames<'a>) -> [ModeOption<'a>; 3]
 }
 
 // The options of `plan`.
-fn plan_options<'a>(names: OptionNames<'a>) -> [ModeOption<'a>; 3]
+fn plan_options<'a>(names: OptionNames<'a>) -> [ModeOption<'a>; 5]
     ensures { map option_of result ≡ plan_options names.entry }
 {
     [
@@ -121,6 +121,14 @@ fn plan_options<'a>(names: OptionNames<'a>) -> [ModeOption<'a>; 3]
         },
         ModeOption {
             help: DOWN,
+            parser: None,
+        },
+        ModeOption {
+            help: FROM,
+            parser: None,
+        },
+        ModeOption {
+            help: TO,
             parser: None,
         },
     ]

@@ -1,10 +1,11 @@
 //! Running a mode, over any reader and writer.
-ghost use Rattle.std.specs.Prelude.{◌≡◌, ◌||◌, true, false};
+ghost use Rattle.std.specs.Prelude.{◌≡◌, ◌||◌, ℕ, Bool, List, Option, true, false};
 ghost use Rattle.dd_file.specs.Device.{LosesPrefix};
 ghost use Rattle.dd_file.specs.Gathered.{buffered_writer, NothingBuffered};
-ghost use Rattle.conf_tool.specs.Outputs.{output_of};
+ghost use Rattle.conf_tool.specs.Outputs.{Output, output_of, planned_texts};
 ghost use Rattle.conf_tool.specs.Ranges.{IsInRange};
-ghost use Rattle.conf_tool.specs.Run.{Answers, CanAnswer, ReportsWrite, is_read_failure, is_write_failure, is_whole_output};
+ghost use Rattle.conf_tool.specs.Run.{Answers, CanAnswer, Means, ReportsWrite, is_read_failure, is_write_failure, is_whole_output};
+ghost use Rattle.conf_tool.specs.declared.mode.Mode.{Mode as ModeName};
 
 mod check;
 mod clean_unless;
@@ -20,11 +21,13 @@ mod undo;
 use self::check::Checking;
 use self::lines::LineByLine;
 use self::part_by_part::run_by_part;
-use self::plan::Planning;
+use self::plan::{Planning, answer_texts};
 use self::rewrite::Rewriting;
 use self::undo::Undoing;
 use crate::mode::Mode;
 use crate::options::Options;
+use crate::pair_texts::PairTexts;
+use crate::plan_options::PlanOptions;
 use crate::status::Status;
 use crate::tool_fault::ToolFault;
 use dd_file::blocks::Blocks;
@@ -117,6 +120,42 @@ pub fn run_and_flush<R: Source, W: Sink>(
 {
     let outcome = run(alloc, mode, options, reader, writer);
     nothing_waits::<W>();
+    flush_after(outcome, writer)
+}
+
+/// Runs `plan` over the pair on the command line, with a buffered writer whose buffer is empty, and flushes it at the
+/// end, as [`run_and_flush`] does.
+pub fn run_pair_and_flush<W: Sink>(
+    alloc: Global,
+    options: PlanOptions,
+    texts: PairTexts<'_>,
+    writer: &mut Blocks<W>,
+) -> Result<Status, ToolFault>
+    requires { NothingBuffered writer.old }
+    ensures output { Means (planned_texts options texts.entry.from.now texts.entry.to.now) result (⟦<Blocks<W> as Sink>⟧.contents writer.old) (⟦<Blocks<W> as Sink>⟧.contents writer.new) }
+    ensures whole { is_whole_output result ≡ true → NothingBuffered writer.new ×
+        Means (planned_texts options texts.entry.from.now texts.entry.to.now) result (W.contents (buffered_writer writer.old)) (W.contents (buffered_writer writer.new)) }
+    ensures flushed { W.has_failed (buffered_writer writer.new) ≡ false → NothingBuffered writer.new }
+    ensures read { is_read_failure result ≡ false }
+    ensures write { ReportsWrite (W.has_failed (buffered_writer writer.old)) (W.has_failed (buffered_writer writer.new)) result }
+{
+    let outcome = answer_texts(alloc, options, texts, writer);
+    nothing_waits::<W>();
+    flush_after(outcome, writer)
+}
+
+// Flushes the output of a run with this outcome. If the flush fails, success or an error in the input becomes `Write`.
+fn flush_after<W: Sink>(
+    outcome: Result<Status, ToolFault>,
+    writer: &mut Blocks<W>,
+) -> Result<Status, ToolFault>
+    ensures output { (output : Output) (before : Option (List ℕ)) → Means output outcome before (⟦<Blocks<W> as Sink>⟧.contents writer.old) → Means output result before (⟦<Blocks<W> as Sink>⟧.contents writer.new) }
+    ensures whole { is_whole_output result ≡ true → NothingBuffered writer.new }
+    ensures flushed { W.has_failed (buffered_writer writer.new) ≡ false → NothingBuffered writer.new }
+    ensures read { is_read_failure result ≡ is_read_failure outcome }
+    ensures write { (before : Bool) → W.has_failed (buffered_writer writer.old) ≡ (before || is_write_failure outcome) → ReportsWrite before (W.has_failed (buffered_writer writer.new)) result }
+    ensures kinds { (mode : ModeName) → CanAnswer mode outcome → CanAnswer mode result }
+{
     match writer.flush() {
         Err(_) if is_whole_output(&outcome) => Err(ToolFault::Write),
         _ => outcome,

@@ -16,15 +16,15 @@ ghost use Rattle.std.specs.Prelude.{◌≡◌, ◌≢◌, ◌⊎◌};
 ghost use Rattle.std.specs.Process.{exit_status as status_of};
 ghost use Rattle.clap.specs.Words.{kind_of};
 ghost use Rattle.dd_file.specs.Gathered.{NothingBuffered};
-ghost use Rattle.conf_tool.specs.ExitStatus.{exit_status_of, ExitsWith};
-ghost use Rattle.conf_tool.specs.Outputs.{output_of};
+ghost use Rattle.conf_tool.specs.ExitStatus.{exit_status_of, ExitsWith, PlansWith};
+ghost use Rattle.conf_tool.specs.Outputs.{output_of, planned_texts};
 ghost use Rattle.conf_tool.specs.Ranges.{IsInRange};
 
 use clap::error::ErrorKind;
 use conf_tool::command_line::command_line;
 use conf_tool::exit_status::exit_status;
-use conf_tool::run::run_and_flush;
-use conf_tool::{ArgumentFault, Invocation, Status, ToolFault};
+use conf_tool::run::{run_and_flush, run_pair_and_flush};
+use conf_tool::{ArgumentFault, Invocation, PairTexts, PlanOptions, Status, ToolFault};
 use dd_file::blocks::Blocks;
 use dd_file::device::{FromRead, Sink, Source, ToWrite};
 use std::fs::File;
@@ -65,12 +65,16 @@ fn report_arguments(rt: &HostRuntime, error: &io::Error) -> ExitCode {
 // Runs the mode that the arguments name.
 fn run_arguments(rt: &HostRuntime, arguments: &[String]) -> ExitCode {
     match command_line(rt.alloc(), arguments) {
-        Ok(invocation) => open(rt, invocation),
+        Ok(invocation) => run_invocation(rt, invocation),
         Err(ArgumentFault::Clap(error)) => explain(rt, &error),
         Err(ArgumentFault::BadIds) => {
             let _ = eprintln!(rt;
                 "confscript: --down expects ids from 1 with commas between them, as in 4,6"
             );
+            ExitCode::from(BAD_INPUT)
+        }
+        Err(ArgumentFault::BadPair) => {
+            let _ = eprintln!(rt; "confscript: --from and --to come together, without FILE");
             ExitCode::from(BAD_INPUT)
         }
         Err(ArgumentFault::NoMemory) => end(rt, Err(ToolFault::NoMemory)),
@@ -96,6 +100,40 @@ fn explain(rt: &HostRuntime, error: &clap::Error) -> ExitCode
         Ok(()) => ExitCode::from(DONE),
         Err(_) => end(rt, Err(ToolFault::Write)),
     }
+}
+
+// Runs the mode over what the arguments name: a pair of configurations, or a file.
+fn run_invocation(rt: &HostRuntime, invocation: Invocation<'_>) -> ExitCode
+    requires { IsInRange invocation.options }
+{
+    match invocation.pair {
+        Some(texts) => plan_pair(rt, invocation.options.plan, texts),
+        None => open(rt, invocation),
+    }
+}
+
+// Plans for the pair on the command line.
+fn plan_pair(rt: &HostRuntime, options: PlanOptions, texts: PairTexts<'_>) -> ExitCode {
+    match Blocks::new(rt.alloc(), ToWrite::new(rt.stdout())) {
+        Ok(mut writer) => plan_to(rt, options, texts, &mut writer),
+        Err(_) => end(rt, Err(ToolFault::NoMemory)),
+    }
+}
+
+// Plans for the pair over this writer.
+fn plan_to<W: Sink>(
+    rt: &HostRuntime,
+    options: PlanOptions,
+    texts: PairTexts<'_>,
+    writer: &mut Blocks<W>,
+) -> ExitCode
+    requires empty { NothingBuffered writer.old }
+
+    // The exit status is that of the plan from the one text to the other.
+    ensures { PlansWith (planned_texts options texts.entry.from.now texts.entry.to.now) (⟦<Blocks<W> as Sink>⟧.contents writer.old) (⟦<Blocks<W> as Sink>⟧.contents writer.new) result }
+{
+    let outcome = run_pair_and_flush(rt.alloc(), options, texts, writer);
+    end(rt, outcome)
 }
 
 // Runs the mode over the file that the arguments name, or over standard input if they name none, or `-`.

@@ -8,7 +8,7 @@ use Rattle.conf_change.specs.Outcome.{after_leave}
 use Rattle.conf_change.specs.declared.change.Change.{Change}
 use Rattle.conf_change.specs.declared.step.Step.{Step}
 use Rattle.conf_change.specs.declared.step.Step.TheVariants.{Simple, EnterJoint, LeaveJoint}
-use Rattle.conf_plan.specs.Alive.{ChangesOneLearnerFirst}
+use Rattle.conf_plan.specs.OnTheWay.{ChangesOneLearnerFirst}
 use Rattle.conf_plan.specs.LearnersFirst.{learner_changes, learners_first_from_single, newcomers, with_learners}
 use Rattle.conf_plan.specs.OneChangeEach.{one_change_each}
 use Rattle.conf_plan.specs.Planned.{configuration_after, entering_step, inserted_steps, joint_steps, moves, planned, planned_from_single, shared_members, single_steps}

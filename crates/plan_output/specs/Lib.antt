@@ -1,4 +1,5 @@
 pub mod Stages
+pub mod Steps
 pub mod Grid
 pub mod Table
 pub mod Json

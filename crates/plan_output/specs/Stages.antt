@@ -1,5 +1,5 @@
 -- The configurations along a path, and how many failures the cluster tolerates at each of them (own).
-use Rattle.std.specs.Prelude.{ℕ, Bool, List, [], ◌∷◌, Option, refl}
+use Rattle.std.specs.Prelude.{◌≡◌, ℕ, Bool, List, [], ◌∷◌, Option, refl}
 use Rattle.std.specs.Coded.{Coded, coded×, code_by}
 use Rattle.std.specs.List.{list_any}
 use Rattle.std.specs.Option.{is_none}
@@ -10,7 +10,8 @@ use Rattle.conf_change.specs.Configuration.{Configuration, voters_of}
 use Rattle.conf_change.specs.ConfigurationCode.{configuration_code, ids_code}
 use Rattle.conf_change.specs.Outcome.{outcome}
 use Rattle.conf_change.specs.declared.step.Step.{Step}
-use Rattle.conf_plan.specs.Alive.{catching_up}
+use Rattle.conf_plan.specs.OnTheWay.{catching_up}
+use Rattle.conf_plan.specs.Run.{Gives}
 
 -- A configuration on the way, and its members that have to catch up, since they did not keep their progress in the step
 -- that led there.
@@ -45,6 +46,16 @@ stages_after before (step ∷ steps) = stage_after before step ∷ stages_after 
 -- the stages of a path: one more than it has steps
 abbrev pub stages : Configuration → List Step → List StageState
 stages now steps = first_stage now ∷ stages_after now steps
+
+-- The stages are on the way of the steps to a target: each step is accepted in the configuration of one stage and gives
+-- that of the next, where the members catch up that do not keep their progress in it. The last one is the target.
+abbrev pub AreOnTheWay : List StageState → List Step → Configuration → Type 0
+AreOnTheWay [] steps target = ⊥
+AreOnTheWay (last ∷ []) [] target = last.config ≡ target
+AreOnTheWay (last ∷ []) (step ∷ steps) target = ⊥
+AreOnTheWay (before ∷ after ∷ all) [] target = ⊥
+AreOnTheWay (before ∷ after ∷ all) (step ∷ steps) target =
+    Gives before.config step after.config × (after.catching_up ≡ catching_up before.config step after.config) × AreOnTheWay (after ∷ all) steps target
 
 -- ---- the failures that it tolerates
 -- how many ids may be down, whichever they are, while the others are still a quorum; every member counts

@@ -36,8 +36,8 @@ pub(crate) fn step_name(alloc: Global, number: usize, step: &Step) -> Result<Vec
     Ok(name)
 }
 
-/// Ids, ascending, with one space between, as in `4 5`.
-pub fn ids_text<S: MemberSet>(alloc: Global, ids: &S) -> Result<Vec<u8>, NoMemory>
+// Ids, ascending, with one space between, as in `4 5`.
+pub(crate) fn ids_text<S: MemberSet>(alloc: Global, ids: &S) -> Result<Vec<u8>, NoMemory>
     ensures { IfOk result (λ text. text.items ≡ spaced_numbers (ascending (S.ids ids.now))) }
 {
     let mut text = Vec::new(alloc);

@@ -1,4 +1,4 @@
-//! How a path is printed: as a table, which an operator reads, and as JSON lines, which a program reads.
+//! How a path is printed: as its steps, as a table, which an operator reads, and as JSON lines, which a program reads.
 //!
 //! A path from one configuration to another is safe if each of its steps is accepted, but the cluster that takes it has
 //! to go on serving. A new member begins with an empty log and has to catch up. Until then it is no help to a quorum,
@@ -19,10 +19,10 @@
 //! Ongaro's dissertation).
 //!
 //! [`stages`] returns the configurations on the way, and [`stalls`] whether nothing commits in one of them.
-//! [`add_table`] appends the table. [`add_json_lines`] appends an object for each step, with the change to propose to
-//! etcd's raft for it, where a simple step of several changes is as many steps of one. Carried out one after another,
-//! they lead to the target ([`laws::json_lines_lead_to_the_target`]). The table, the marks and the keys of the objects
-//! are own.
+//! [`add_steps`] appends the lines of the steps, and [`add_table`] the table. [`add_json_lines`] appends an object for
+//! each step, with the change to propose to etcd's raft for it, where a simple step of several changes is as many steps
+//! of one. Carried out one after another, they lead to the target ([`laws::json_lines_lead_to_the_target`]). The table,
+//! the marks and the keys of the objects are own.
 #![tactic(auto)]
 
 mod cells;
@@ -30,9 +30,10 @@ mod grid;
 mod json;
 pub mod laws;
 mod stage;
+mod steps;
 mod table;
 
-pub use cells::ids_text;
 pub use json::{add_json_lines, add_no_plan_line};
 pub use stage::{Stage, stages, stalls};
+pub use steps::{add_steps, stall_note};
 pub use table::add_table;

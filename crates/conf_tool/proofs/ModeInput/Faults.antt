@@ -6,7 +6,7 @@ use Rattle.dd_file.specs.Answer.{IsInterrupted}
 use Rattle.dd_file.specs.Grammar.{Script as ScriptOf}
 use Rattle.dd_file.specs.Answer as reader
 use Rattle.dd_file.specs.declared.fault.FileFault.{FileFault}
-use Rattle.dd_file.specs.declared.fault.FileFault.TheVariants.{Read, NoMemory, InputTooLong, BadDirective, AfterDouble, UnclosedDouble}
+use Rattle.dd_file.specs.declared.fault.FileFault.TheVariants.{Read, NoMemory, InputTooLong, Syntax}
 use Rattle.conf_tool.specs.Outputs.{Output}
 use Rattle.conf_tool.specs.Run.{Means, Wrote, IsAnswerFault, IsStop, as_tool_fault, is_read_failure, is_write_failure}
 use Rattle.conf_tool.specs.declared.mode.Mode.{Mode}
@@ -24,9 +24,7 @@ pub input-fault : (fault converted : FileFault) → Script converted ≡ as_tool
 input-fault Read converted is = let bad : ⊥ = cc in absurd bad
 input-fault NoMemory converted is = let bad : ⊥ = cc in absurd bad
 input-fault (InputTooLong line) converted is = record { same = cc; not_read = λ e. cc; not_memory = λ e. cc }
-input-fault (BadDirective line) converted is = record { same = cc; not_read = λ e. cc; not_memory = λ e. cc }
-input-fault (AfterDouble line) converted is = record { same = cc; not_read = λ e. cc; not_memory = λ e. cc }
-input-fault (UnclosedDouble line) converted is = record { same = cc; not_read = λ e. cc; not_memory = λ e. cc }
+input-fault (Syntax line fault) converted is = record { same = cc; not_read = λ e. cc; not_memory = λ e. cc }
 
 pub input-uncut : {X : Type 0} (fault converted : FileFault) → IsOfInput fault converted → IsInterrupted {X = X} (Err fault) → ⊥
 input-uncut fault converted is (inl e) = is.not_read cc
@@ -41,9 +39,7 @@ pub reader-fault : (fault : FileFault) (converted : ToolFault) → converted ≡
 reader-fault Read converted is other = subst (IsOfReader Read) (sym is) CutByRead
 reader-fault NoMemory converted is other = subst (IsOfReader NoMemory) (sym is) CutByMemory
 reader-fault (InputTooLong line) converted is other = absurd (other (InputTooLong line) is)
-reader-fault (BadDirective line) converted is other = absurd (other (BadDirective line) is)
-reader-fault (AfterDouble line) converted is other = absurd (other (AfterDouble line) is)
-reader-fault (UnclosedDouble line) converted is other = absurd (other (UnclosedDouble line) is)
+reader-fault (Syntax line fault) converted is other = absurd (other (Syntax line fault) is)
 
 pub reader-means : (fault : FileFault) (converted : ToolFault) → IsOfReader fault converted → (output : Output) (before after : Option (List ℕ)) → AppendsPart before after output.text → Means output (Err converted) before after
 reader-means fault converted CutByRead output before after part = part

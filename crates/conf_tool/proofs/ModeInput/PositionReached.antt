@@ -50,11 +50,11 @@ reached-begin next begin state is_fresh = record {
 }
 
 -- an input by what a call of the reader answers
-pub reached-answer : {A R X : Type 0} (next : Position → List ℕ → Next A) (remaining : R → Option (List ℕ)) (has_failed : R → Bool) (view : X → A) (IsFault : Position → FileFault → Type 0)
-    (begin : Option (List ℕ)) (state after : ReaderState) (now later : R) (parts : List A) (result : Result (Option X) FileFault) →
-    InTurn next → Reached next begin (remaining now) state parts → ReadsOn remaining has_failed view next IsFault state after now later result → (IsInterrupted result → ⊥) →
-    (input more : List ℕ) → Agrees fresh begin (remaining later) input more → script_from next start input ≡ prepended parts (followed (script_from next) (next_in_answer view after more result))
-reached-answer next remaining has_failed view IsFault begin state after now later parts result in_turn reached reads uncut input more agrees =
+pub reached-answer : {A R : Type 0} (next : Position → List ℕ → Next A) (remaining : R → Option (List ℕ)) (has_failed : R → Bool) (IsFault : Position → FileFault → Type 0)
+    (begin : Option (List ℕ)) (state after : ReaderState) (now later : R) (parts : List A) (result : Result (Option A) FileFault) →
+    InTurn next → Reached next begin (remaining now) state parts → ReadsOn remaining has_failed next IsFault state after now later result → (IsInterrupted result → ⊥) →
+    (input more : List ℕ) → Agrees fresh begin (remaining later) input more → script_from next start input ≡ prepended parts (followed (script_from next) (next_in_answer after more result))
+reached-answer next remaining has_failed IsFault begin state after now later parts result in_turn reached reads uncut input more agrees =
     let turn = agrees-in_turn fresh state begin (remaining now) (remaining later) input more reached.consumed reads.moves.consumed (λ yes. inr (reached.ended yes)) agrees in
     let converted = whole (reads.answers reached.open_end (state.buffered ++ turn.suffix) more turn.second) in
     reached.read input turn.suffix turn.first
@@ -69,21 +69,21 @@ ok-uncut found (inl e) = cc
 ok-uncut found (inr e) = cc
 
 -- the end of the input
-pub reached-end : {A R X : Type 0} (next : Position → List ℕ → Next A) (remaining : R → Option (List ℕ)) (has_failed : R → Bool) (view : X → A) (IsFault : Position → FileFault → Type 0)
+pub reached-end : {A R : Type 0} (next : Position → List ℕ → Next A) (remaining : R → Option (List ℕ)) (has_failed : R → Bool) (IsFault : Position → FileFault → Type 0)
     (begin : Option (List ℕ)) (state after : ReaderState) (now later : R) (parts : List A) →
-    InTurn next → Reached next begin (remaining now) state parts → ReadsOn remaining has_failed view next IsFault state after now later (Ok None) →
+    InTurn next → Reached next begin (remaining now) state parts → ReadsOn remaining has_failed next IsFault state after now later (Ok None) →
     (input more : List ℕ) → Agrees fresh begin (remaining later) input more → script_from next start input ≡ script parts None
-reached-end next remaining has_failed view IsFault begin state after now later parts in_turn reached reads input more agrees =
-    reached-answer next remaining has_failed view IsFault begin state after now later parts (Ok None) in_turn reached reads (ok-uncut None) input more agrees
+reached-end next remaining has_failed IsFault begin state after now later parts in_turn reached reads input more agrees =
+    reached-answer next remaining has_failed IsFault begin state after now later parts (Ok None) in_turn reached reads (ok-uncut None) input more agrees
     ∙ ap (λ items. script items None) (append-nil parts)
 
 -- .. and a fault of it
-pub reached-fault : {A R X : Type 0} (next : Position → List ℕ → Next A) (remaining : R → Option (List ℕ)) (has_failed : R → Bool) (view : X → A) (IsFault : Position → FileFault → Type 0)
+pub reached-fault : {A R : Type 0} (next : Position → List ℕ → Next A) (remaining : R → Option (List ℕ)) (has_failed : R → Bool) (IsFault : Position → FileFault → Type 0)
     (begin : Option (List ℕ)) (state after : ReaderState) (now later : R) (parts : List A) (fault : FileFault) →
-    InTurn next → Reached next begin (remaining now) state parts → ReadsOn remaining has_failed view next IsFault state after now later (Err fault) → (IsInterrupted {X = Option X} (Err fault) → ⊥) →
+    InTurn next → Reached next begin (remaining now) state parts → ReadsOn remaining has_failed next IsFault state after now later (Err fault) → (IsInterrupted {X = Option A} (Err fault) → ⊥) →
     (input more : List ℕ) → Agrees fresh begin (remaining later) input more → script_from next start input ≡ script parts (Some fault)
-reached-fault next remaining has_failed view IsFault begin state after now later parts fault in_turn reached reads uncut input more agrees =
-    reached-answer next remaining has_failed view IsFault begin state after now later parts (Err fault) in_turn reached reads uncut input more agrees
+reached-fault next remaining has_failed IsFault begin state after now later parts fault in_turn reached reads uncut input more agrees =
+    reached-answer next remaining has_failed IsFault begin state after now later parts (Err fault) in_turn reached reads uncut input more agrees
     ∙ ap (λ items. script items (Some fault)) (append-nil parts)
 
 -- some script that begins with these parts, and then this one
@@ -92,13 +92,13 @@ pub record HasPart {A : Type 0} (parts : List A) (part : A) (read : Script A) : 
   pub is : read ≡ script (parts ++ part ∷ rest.items) rest.fault
 
 -- the part that was read
-pub reached-part : {A R X : Type 0} (next : Position → List ℕ → Next A) (remaining : R → Option (List ℕ)) (has_failed : R → Bool) (view : X → A) (IsFault : Position → FileFault → Type 0)
-    (begin : Option (List ℕ)) (state after : ReaderState) (now later : R) (parts : List A) (part : X) →
-    InTurn next → Reached next begin (remaining now) state parts → ReadsOn remaining has_failed view next IsFault state after now later (Ok (Some part)) →
-    (input more : List ℕ) → Agrees fresh begin (remaining later) input more → HasPart parts (view part) (script_from next start input)
-reached-part next remaining has_failed view IsFault begin state after now later parts part in_turn reached reads input more agrees = record {
+pub reached-part : {A R : Type 0} (next : Position → List ℕ → Next A) (remaining : R → Option (List ℕ)) (has_failed : R → Bool) (IsFault : Position → FileFault → Type 0)
+    (begin : Option (List ℕ)) (state after : ReaderState) (now later : R) (parts : List A) (part : A) →
+    InTurn next → Reached next begin (remaining now) state parts → ReadsOn remaining has_failed next IsFault state after now later (Ok (Some part)) →
+    (input more : List ℕ) → Agrees fresh begin (remaining later) input more → HasPart parts part (script_from next start input)
+reached-part next remaining has_failed IsFault begin state after now later parts part in_turn reached reads input more agrees = record {
   rest = script_from next after.position (after.buffered ++ more);
-  is = reached-answer next remaining has_failed view IsFault begin state after now later parts (Ok (Some part)) in_turn reached reads (ok-uncut (Some part)) input more agrees;
+  is = reached-answer next remaining has_failed IsFault begin state after now later parts (Ok (Some part)) in_turn reached reads (ok-uncut (Some part)) input more agrees;
 }
 
 -- the end that was met stays the end
@@ -107,19 +107,19 @@ ended-next : {R : Type 0} (remaining : R → Option (List ℕ)) (was_ended : Boo
 ended-next remaining was_ended now later ended same (inl was) = subst (λ r. IsAtEnd (remaining r)) (sym (same was)) (ended was)
 ended-next remaining was_ended now later ended same (inr at_end) = at_end
 
-pub reached-next : {A R X : Type 0} (next : Position → List ℕ → Next A) (remaining : R → Option (List ℕ)) (has_failed : R → Bool) (view : X → A) (IsFault : Position → FileFault → Type 0)
-    (begin : Option (List ℕ)) (state after : ReaderState) (now later : R) (parts : List A) (part : X) →
-    InTurn next → Reached next begin (remaining now) state parts → ReadsOn remaining has_failed view next IsFault state after now later (Ok (Some part)) →
-    Reached next begin (remaining later) after (parts ++ view part ∷ [])
+pub reached-next : {A R : Type 0} (next : Position → List ℕ → Next A) (remaining : R → Option (List ℕ)) (has_failed : R → Bool) (IsFault : Position → FileFault → Type 0)
+    (begin : Option (List ℕ)) (state after : ReaderState) (now later : R) (parts : List A) (part : A) →
+    InTurn next → Reached next begin (remaining now) state parts → ReadsOn remaining has_failed next IsFault state after now later (Ok (Some part)) →
+    Reached next begin (remaining later) after (parts ++ part ∷ [])
 unfolding reached-part
-reached-next next remaining has_failed view IsFault begin state after now later parts part in_turn reached reads = record {
+reached-next next remaining has_failed IsFault begin state after now later parts part in_turn reached reads = record {
   consumed = loses-more begin (remaining now) (remaining later) reached.consumed reads.moves.consumed;
   ended = λ yes. ended-next remaining state.is_ended now later reached.ended (λ old. (reads.moves.stays old).0) (reads.moves.met yes);
   open_end = reads.open_end;
   read = λ input more agrees.
-      (reached-part next remaining has_failed view IsFault begin state after now later parts part in_turn reached reads input more agrees).is
-      ∙ ap (λ items. script items (script_from next after.position (after.buffered ++ more)).fault) (sym (append_assoc parts (view part ∷ []) (script_from next after.position (after.buffered ++ more)).items));
-  few = omega (arith, length-append parts (view part ∷ []), reached.few, reads.forward);
+      (reached-part next remaining has_failed IsFault begin state after now later parts part in_turn reached reads input more agrees).is
+      ∙ ap (λ items. script items (script_from next after.position (after.buffered ++ more)).fault) (sym (append_assoc parts (part ∷ []) (script_from next after.position (after.buffered ++ more)).items));
+  few = omega (arith, length-append parts (part ∷ []), reached.few, reads.forward);
 }
 
 -- some script that begins with these parts, which is what an input is that agrees with what was read

@@ -1,17 +1,21 @@
 -- Of the mode `plan`: what each line leaves of its output.
-use Rattle.std.proofs.Common.{◌≡◌, ℕ, ◌+◌, ◌<◌, ◌≤◌, true, false, List, [], ◌∷◌, ◌++◌, length-append, refl, sym, ◌∙◌, ap, subst, arith, inl, inr, lt-ltb, le-ltb}
+use Rattle.std.proofs.Common.{◌≡◌, ℕ, Bool, ◌||◌, ◌+◌, ◌<◌, ◌≤◌, true, false, List, [], ◌∷◌, ◌++◌, length-append, refl, sym, ◌∙◌, ap, subst, arith, inl, inr, lt-ltb, le-ltb}
 use Rattle.std.specs.Prelude.{Option, Some, None, Result, Ok, Err, IfSome, OnOk, OnErr, is_some, nat_lt}
 use Rattle.std.specs.Io.KnownBytes.{Appends}
+use Rattle.std.proofs.lemmas.List.{append-nil}
 use Rattle.dd_file.specs.Device.{AppendsPart}
 use Rattle.dd_file.specs.Grammar.{Script}
 use Rattle.dd_file.specs.declared.fault.FileFault.{FileFault}
 use Rattle.conf_change.specs.Configuration.{Configuration, is_valid}
 use Rattle.conf_session.specs.SessionState.{SessionState}
+use Rattle.plan_input.specs.Input.{current_in, target_in}
 use Rattle.conf_tool.specs.Answered.{script, prepended, with_prefix, HasPlanned, pairs_within, pairs_left, with_status, plan_left}
-use Rattle.conf_tool.specs.Outputs.{Output, ends, pair_text, worse_of, pair_then, session_after_pair, ends_within, planned_pairs, planned_script}
-use Rattle.conf_tool.specs.Pairs.{NumberedLine, numbered, is_skipped, configuration_lines, configuration_at, both_of, IsFaultOf}
-use Rattle.conf_tool.specs.Run.{Wrote, IsStop}
+use Rattle.conf_tool.specs.Outputs.{Output, ends, pair_text, worse_of, pair_then, session_after_pair, ends_within, planned_pairs, planned_script, planned_texts}
+use Rattle.conf_tool.specs.Pairs.{NumberedLine, numbered, is_skipped, configuration_lines, current_at, target_at, paired, with_target, written_at, pair_of_texts, IsFaultOf}
+use Rattle.conf_tool.specs.Run.{Means, Wrote, IsStop, is_read_failure, is_write_failure}
+use Rattle.conf_tool.specs.AnsweredLaws.{part-nothing}
 use Rattle.conf_tool.specs.declared.mode.Mode.TheVariants.{Plan as OfPlan}
+use Rattle.conf_tool.specs.declared.origin.Origin.TheVariants.{From, To}
 use Rattle.conf_tool.specs.PlanAnswer.{plan_status, session_between}
 use Rattle.conf_tool.specs.PlanScript.{default_session}
 use Rattle.conf_tool.specs.declared.plan_input_fault.PlanInputFault.{PlanInputFault}
@@ -20,7 +24,8 @@ use Rattle.conf_tool.specs.declared.plan_options.PlanOptions.{PlanOptions}
 use Rattle.conf_tool.specs.declared.status.Status.{Status}
 use Rattle.conf_tool.specs.declared.status.Status.TheVariants.{Clean, Different}
 use Rattle.conf_tool.specs.declared.tool_fault.ToolFault.{ToolFault}
-use Rattle.conf_tool.specs.declared.tool_fault.ToolFault.TheVariants.{Script as ScriptFault, Configurations}
+use Rattle.conf_tool.specs.declared.tool_fault.ToolFault.TheVariants.{Script as ScriptFault, Configurations, NoMemory, Write as CannotWrite}
+use Rattle.conf_tool.proofs.ModeInput.Faults.{or-false}
 use Rattle.conf_tool.proofs.ModeOutput.FirstParts.{appends-nothing, wrote-part, wrote-broken, wrote-all}
 
 -- ---- what holds after a call
@@ -77,7 +82,7 @@ plan_left-passed options session count number now status line passed rest =
 abbrev pair_with : PlanOptions → SessionState → ℕ → Result (Configuration × Configuration) PlanInputFault → List NumberedLine → Option FileFault → Output
 pair_with options session number pair lines fault = pair_then options session number pair (planned_pairs options (session_after_pair options session pair) (number + 1) lines fault)
 
-pairs-first : (options : PlanOptions) (session : SessionState) (number : ℕ) (line : NumberedLine) (first : Result Configuration PlanInputFault) (lines : List NumberedLine) (fault : Option FileFault) → configuration_at line ≡ first →
+pairs-first : (options : PlanOptions) (session : SessionState) (number : ℕ) (line : NumberedLine) (first : Result Configuration PlanInputFault) (lines : List NumberedLine) (fault : Option FileFault) → current_at line ≡ first →
     planned_pairs options session number (line ∷ lines) fault ≡ pairs_within options session number first lines fault
 pairs-first options session number line first [] fault is = ap (λ actual. ends_within actual fault) is
 pairs-first options session number line first (second ∷ lines) fault is = ap (λ actual. pairs_within options session number actual (second ∷ lines) fault) is
@@ -88,7 +93,7 @@ pairs_within-bad options session number bad (second ∷ lines) fault = refl
 
 -- the first line of a pair
 pub plan_left-first : (options : PlanOptions) (session : SessionState) (count number : ℕ) (status : Status) (line : List ℕ) (first : Configuration) →
-    is_skipped line ≡ false → configuration_at (record { number = count + 1; text = line }) ≡ Ok first → (rest : Script (List ℕ)) →
+    is_skipped line ≡ false → current_at (record { number = count + 1; text = line }) ≡ Ok first → (rest : Script (List ℕ)) →
     plan_left options session count number None status (prepended (line ∷ []) rest) ≡ with_prefix [] (plan_left options session (count + 1) number (Some first) status rest)
 plan_left-first options session count number status line first kept is rest =
     let at : NumberedLine = record { number = count + 1; text = line } in
@@ -98,19 +103,24 @@ plan_left-first options session count number status line first kept is rest =
 
 -- .. and the second
 pub plan_left-second : (options : PlanOptions) (session : SessionState) (count number : ℕ) (now target : Configuration) (status after : Status) (line : List ℕ) →
-    is_skipped line ≡ false → configuration_at (record { number = count + 1; text = line }) ≡ Ok target → ◌≡◌ {A = Result Status ToolFault} (Ok after) (worse_of status (Ok (plan_status options now target))) → (rest : Script (List ℕ)) →
+    is_skipped line ≡ false → target_at (record { number = count + 1; text = line }) now ≡ Ok target → ◌≡◌ {A = Result Status ToolFault} (Ok after) (worse_of status (Ok (plan_status options now target))) → (rest : Script (List ℕ)) →
     plan_left options session count number (Some now) status (prepended (line ∷ []) rest) ≡ with_prefix (pair_text options session number now target) (plan_left options (session_between options session now target) (count + 1) (number + 1) None after rest)
 plan_left-second options session count number now target status after line kept is worse rest =
     let at : NumberedLine = record { number = count + 1; text = line } in
     let lines = numbered (count + 1 + 1) rest.items in
     let left = planned_pairs options (session_between options session now target) (number + 1) (configuration_lines lines) rest.fault in
     ap (λ ls. with_status status (pairs_within options session number (Ok now) ls rest.fault)) (configuration_lines-kept at lines kept)
-    ∙ ap (λ actual. with_status status (pair_with options session number (both_of (Ok now) actual) (configuration_lines lines) rest.fault)) is
+    ∙ ap (λ actual. with_status status (pair_with options session number (paired now actual) (configuration_lines lines) rest.fault)) is
     ∙ ap (λ outcome. record { text = pair_text options session number now target ++ left.text; outcome = outcome }) (worse_of-twice status (plan_status options now target) after left.outcome worse)
 
--- a line that names no configuration ends the output
+-- what a line is read as: the current configuration, or after that the target
+abbrev pub read_at : Option Configuration → NumberedLine → Result Configuration PlanInputFault
+read_at None line = current_at line
+read_at (Some now) line = target_at line now
+
+-- a line with an error ends the output
 pub plan_left-bad : (options : PlanOptions) (session : SessionState) (count number : ℕ) (now : Option Configuration) (status : Status) (line : List ℕ) (bad : PlanInputFault) →
-    is_skipped line ≡ false → configuration_at (record { number = count + 1; text = line }) ≡ Err bad → (rest : Script (List ℕ)) →
+    is_skipped line ≡ false → read_at now (record { number = count + 1; text = line }) ≡ Err bad → (rest : Script (List ℕ)) →
     plan_left options session count number now status (prepended (line ∷ []) rest) ≡ ends (Err (Configurations bad))
 plan_left-bad options session count number None status line bad kept is rest =
     let at : NumberedLine = record { number = count + 1; text = line } in
@@ -121,7 +131,7 @@ plan_left-bad options session count number (Some now) status line bad kept is re
     let at : NumberedLine = record { number = count + 1; text = line } in
     let lines = numbered (count + 1 + 1) rest.items in
     ap (λ ls. with_status status (pairs_within options session number (Ok now) ls rest.fault)) (configuration_lines-kept at lines kept)
-    ∙ ap (λ actual. with_status status (pair_with options session number (both_of (Ok now) actual) (configuration_lines lines) rest.fault)) is
+    ∙ ap (λ actual. with_status status (pair_with options session number (paired now actual) (configuration_lines lines) rest.fault)) is
 
 -- the end of the input
 pub plan_left-fault : (options : PlanOptions) (session : SessionState) (count number : ℕ) (now : Option Configuration) (status : Status) (fault : FileFault) →
@@ -179,7 +189,7 @@ planned-passed options session count number now status line total parts before m
 
 -- the first line of a pair
 pub planned-first : (options : PlanOptions) (session : SessionState) (count number : ℕ) (now : Option Configuration) (status : Status) (line : List ℕ) (first : Configuration) (total : Script (List ℕ) → Output) (parts : List (List ℕ)) (before mid : Option (List ℕ)) →
-    now ≡ None → is_skipped line ≡ false → configuration_at (record { number = count + 1; text = line }) ≡ Ok first → is_valid first ≡ true →
+    now ≡ None → is_skipped line ≡ false → current_at (record { number = count + 1; text = line }) ≡ Ok first → is_valid first ≡ true →
     HasPlanned options session count number now status total parts before mid → HasPlanned options session (count + 1) number (Some first) status total (parts ++ line ∷ []) before mid
 planned-first options session count number now status line first total parts before mid none kept is valid planned =
     planned-part options session session count (count + 1) number number None (Some first) status status line [] [] total parts before mid mid (subst (λ n. HasPlanned options session count number n status total parts before mid) none planned)
@@ -188,7 +198,7 @@ planned-first options session count number now status line first total parts bef
 -- the second line
 pub planned-second : (options options_after : PlanOptions) (session session_after : SessionState) (count count_after number number_after : ℕ) (now now_after : Option Configuration) (status status_after : Status) (line : List ℕ) (first second : Configuration)
     (total : Script (List ℕ) → Output) (parts : List (List ℕ)) (before mid new : Option (List ℕ)) →
-    now ≡ Some first → is_skipped line ≡ false → configuration_at (record { number = count + 1; text = line }) ≡ Ok second →
+    now ≡ Some first → is_skipped line ≡ false → target_at (record { number = count + 1; text = line }) first ≡ Ok second →
     options_after ≡ options → session_after ≡ session_between options session first second → count_after ≡ count + 1 → number_after ≡ number + 1 → now_after ≡ None →
     ◌≡◌ {A = Result Status ToolFault} (Ok status_after) (worse_of status (Ok (plan_status options first second))) → Appends mid new (pair_text options session number first second) →
     HasPlanned options session count number now status total parts before mid → HasPlanned options_after session_after count_after number_after now_after status_after total (parts ++ line ∷ []) before new
@@ -201,16 +211,16 @@ planned-second options options_after session session_after count count_after num
 -- .. whose output is broken off
 pub planned-broken : (options : PlanOptions) (session : SessionState) (count number : ℕ) (now : Option Configuration) (status : Status) (line : List ℕ) (first second : Configuration)
     (total : Script (List ℕ) → Output) (parts more : List (List ℕ)) (fault : Option FileFault) (before mid new : Option (List ℕ)) →
-    now ≡ Some first → is_skipped line ≡ false → configuration_at (record { number = count + 1; text = line }) ≡ Ok second → AppendsPart mid new (pair_text options session number first second) →
+    now ≡ Some first → is_skipped line ≡ false → target_at (record { number = count + 1; text = line }) first ≡ Ok second → AppendsPart mid new (pair_text options session number first second) →
     HasPlanned options session count number now status total parts before mid → AppendsPart before new (total (script (parts ++ line ∷ more) fault)).text
 planned-broken options session count number now status line first second total parts more fault before mid new there kept is cut planned =
     wrote-broken total (plan_left options session count number (Some first) status) (plan_left options (session_between options session first second) (count + 1) (number + 1) None (worse status (plan_status options first second))) parts line
     (pair_text options session number first second) (pair_text options session number first second) before mid new (subst (λ n. HasPlanned options session count number n status total parts before mid) there planned).prefix
     (plan_left-second options session count number first second status (worse status (plan_status options first second)) line kept is (worse-is status (plan_status options first second))) refl cut more fault
 
--- a line that names no configuration stops the run
-pub planned-stop : (options : PlanOptions) (session : SessionState) (count number : ℕ) (now : Option Configuration) (status : Status) (line : List ℕ) (stop : ToolFault) (mid : Option (List ℕ)) →
-    is_skipped line ≡ false → IsFaultOf (configuration_at (record { number = count + 1; text = line })) stop →
+-- a line with an error stops the run
+planned-stop : (options : PlanOptions) (session : SessionState) (count number : ℕ) (now : Option Configuration) (status : Status) (line : List ℕ) (stop : ToolFault) (mid : Option (List ℕ)) →
+    is_skipped line ≡ false → IsFaultOf (read_at now (record { number = count + 1; text = line })) stop →
     IsStop OfPlan stop ((total : Script (List ℕ) → Output) (parts more : List (List ℕ)) (fault : Option FileFault) (before : Option (List ℕ)) →
     HasPlanned options session count number now status total parts before mid → Wrote (total (script (parts ++ line ∷ more) fault)) (Err stop) before mid)
 planned-stop options session count number now status line stop mid kept (inl memory) = subst (λ s. IsStop OfPlan s (Whole s)) (sym memory) tt
@@ -228,3 +238,91 @@ planned-stop options session count number now status line stop mid kept (inr bad
     Whole : ToolFault → Type 0
     Whole s = (total : Script (List ℕ) → Output) (parts more : List (List ℕ)) (fault : Option FileFault) (before : Option (List ℕ)) →
         HasPlanned options session count number now status total parts before mid → Wrote (total (script (parts ++ line ∷ more) fault)) (Err s) before mid
+
+-- .. the first line of a pair
+pub planned-stop_first : (options : PlanOptions) (session : SessionState) (count number : ℕ) (now : Option Configuration) (status : Status) (line : List ℕ) (stop : ToolFault) (mid : Option (List ℕ)) →
+    now ≡ None → is_skipped line ≡ false → IsFaultOf (current_at (record { number = count + 1; text = line })) stop →
+    IsStop OfPlan stop ((total : Script (List ℕ) → Output) (parts more : List (List ℕ)) (fault : Option FileFault) (before : Option (List ℕ)) →
+    HasPlanned options session count number now status total parts before mid → Wrote (total (script (parts ++ line ∷ more) fault)) (Err stop) before mid)
+planned-stop_first options session count number now status line stop mid none kept fault =
+    planned-stop options session count number now status line stop mid kept (subst (λ n. IsFaultOf (read_at n (record { number = count + 1; text = line })) stop) (sym none) fault)
+
+-- .. the second line
+pub planned-stop_second : (options : PlanOptions) (session : SessionState) (count number : ℕ) (now : Option Configuration) (status : Status) (line : List ℕ) (first : Configuration) (stop : ToolFault) (mid : Option (List ℕ)) →
+    now ≡ Some first → is_skipped line ≡ false → IsFaultOf (target_at (record { number = count + 1; text = line }) first) stop →
+    IsStop OfPlan stop ((total : Script (List ℕ) → Output) (parts more : List (List ℕ)) (fault : Option FileFault) (before : Option (List ℕ)) →
+    HasPlanned options session count number now status total parts before mid → Wrote (total (script (parts ++ line ∷ more) fault)) (Err stop) before mid)
+planned-stop_second options session count number now status line first stop mid there kept fault =
+    planned-stop options session count number now status line stop mid kept (subst (λ n. IsFaultOf (read_at n (record { number = count + 1; text = line })) stop) (sym there) fault)
+
+-- .. and no write has failed
+pub stop-unwritten : (X : Type 0) {A : Type 0} (read : Result A PlanInputFault) (stop : ToolFault) (mark : Bool) → IsFaultOf read stop → mark ≡ (mark || is_write_failure {X = X} (Err stop))
+stop-unwritten X read stop mark (inl memory) = subst (λ s. mark ≡ (mark || is_write_failure {X = X} (Err s))) (sym memory) (sym (or-false mark))
+stop-unwritten X read stop mark (inr bad) = subst (λ s. mark ≡ (mark || is_write_failure {X = X} (Err s))) (sym bad.1) (sym (or-false mark))
+
+-- ---- the pair of two texts
+pub texts-from : (from to : List ℕ) (fault : ToolFault) → IsFaultOf (written_at From (current_in from)) fault → IsFaultOf (pair_of_texts from to) fault
+texts-from from to fault (inl memory) = inl memory
+texts-from from to fault (inr bad) = inr (bad.0, bad.1, ap (with_target (λ now. written_at To (target_in now to))) bad.2)
+
+pub texts-to : (from to : List ℕ) (now : Configuration) (fault : ToolFault) → written_at From (current_in from) ≡ Ok now → IsFaultOf (written_at To (target_in now to)) fault →
+    IsFaultOf (pair_of_texts from to) fault
+texts-to from to now fault is (inl memory) = inl memory
+texts-to from to now fault is (inr bad) = inr (bad.0, bad.1, ap (with_target (λ c. written_at To (target_in c to))) is ∙ ap (paired now) bad.2)
+
+pub texts-read : (from to : List ℕ) (now target : Configuration) → written_at From (current_in from) ≡ Ok now → written_at To (target_in now to) ≡ Ok target → pair_of_texts from to ≡ Ok (now, target)
+texts-read from to now target first second = ap (with_target (λ c. written_at To (target_in c to))) first ∙ ap (paired now) second
+
+-- a text with an error stops the run
+pub texts-stop : (options : PlanOptions) (from to : List ℕ) (fault : ToolFault) (buffered : Option (List ℕ)) → IsFaultOf (pair_of_texts from to) fault → Means (planned_texts options from to) (Err fault) buffered buffered
+unfolding planned_texts
+texts-stop options from to fault buffered (inl memory) =
+    subst (λ f. Means (planned_texts options from to) (Err f) buffered buffered) (sym memory) (part-nothing buffered (planned_texts options from to).text)
+texts-stop options from to fault buffered (inr bad) =
+    subst (λ f. Means (planned_texts options from to) (Err f) buffered buffered) (sym bad.1)
+    (subst (λ pair. Wrote (pair_then options default_session 1 pair (ends (Ok Clean))) (Err (Configurations bad.0)) buffered buffered) (sym bad.2) (refl, appends-nothing buffered))
+
+-- the output for two texts that are a pair
+pub texts-planned : (options : PlanOptions) (from to : List ℕ) (now target : Configuration) → ◌≡◌ {A = Result (Configuration × Configuration) PlanInputFault} (pair_of_texts from to) (Ok (now, target)) →
+    planned_texts options from to ≡ record { text = pair_text options default_session 1 now target; outcome = Ok (plan_status options now target) }
+unfolding planned_texts
+texts-planned options from to now target is =
+    ap (λ (pair : Result (Configuration × Configuration) PlanInputFault). pair_then options default_session 1 pair (ends (Ok Clean))) is
+    ∙ ap (λ (text : List ℕ). record { text = text; outcome = worse_of (plan_status options now target) (Ok Clean) }) (append-nil (pair_text options default_session 1 now target))
+    ∙ ap (λ (outcome : Result Status ToolFault). record { text = pair_text options default_session 1 now target; outcome = outcome }) (worse_of-clean (plan_status options now target))
+
+-- .. and no read has failed
+pub texts-unread : (read : Result (Configuration × Configuration) PlanInputFault) (stop : ToolFault) → IsFaultOf read stop → is_read_failure {X = Status} (Err stop) ≡ false
+texts-unread read stop (inl memory) = subst (λ s. is_read_failure {X = Status} (Err s) ≡ false) (sym memory) refl
+texts-unread read stop (inr bad) = subst (λ s. is_read_failure {X = Status} (Err s) ≡ false) (sym bad.1) refl
+
+-- the output for two texts by the reply to their pair
+pub texts-answered : (options : PlanOptions) (from to : List ℕ) (now target : Configuration) (text : List ℕ) (status : Status) →
+    ◌≡◌ {A = Result (Configuration × Configuration) PlanInputFault} (pair_of_texts from to) (Ok (now, target)) →
+    text ≡ pair_text options default_session 1 now target → status ≡ plan_status options now target → planned_texts options from to ≡ record { text = text; outcome = Ok status }
+texts-answered options from to now target text status is a b = texts-planned options from to now target is ∙ (λ i. record { text = sym a i; outcome = Ok (sym b i) })
+
+-- the whole reply was written
+pub texts-written : (output : Output) (text : List ℕ) (status : Status) (before after : Option (List ℕ)) → output ≡ record { text = text; outcome = Ok status } → Appends before after text → Means output (Ok status) before after
+texts-written output text status before after is all = subst (λ (out : Output). Means out (Ok status) before after) (sym is) (refl, all)
+
+-- .. or a part of it
+pub texts-cut : (output : Output) (text : List ℕ) (status : Status) (fault : ToolFault) (before after : Option (List ℕ)) → output ≡ record { text = text; outcome = Ok status } → fault ≡ CannotWrite → AppendsPart before after text →
+    Means output (Err fault) before after
+texts-cut output text status fault before after is kind part = subst (λ f. Means output (Err f) before after) (sym kind) (subst (λ (t : List ℕ). AppendsPart before after t) (sym (ap (λ (out : Output). out.text) is)) part)
+
+-- .. or memory ran out before
+pub texts-not_begun : (output : Output) (fault : ToolFault) (buffered : Option (List ℕ)) → fault ≡ NoMemory → Means output (Err fault) buffered buffered
+texts-not_begun output fault buffered memory = subst (λ f. Means output (Err f) buffered buffered) (sym memory) (part-nothing buffered output.text)
+
+-- .. and no write has failed
+pub memory-unwritten : (fault : ToolFault) (mark : Bool) → fault ≡ NoMemory → mark ≡ (mark || is_write_failure {X = Status} (Err fault))
+memory-unwritten fault mark memory = subst (λ s. mark ≡ (mark || is_write_failure {X = Status} (Err s))) (sym memory) (sym (or-false mark))
+
+or-true : (mark : Bool) → (mark || true) ≡ true
+or-true true = refl
+or-true false = refl
+
+-- a write failed
+pub write-failed : (fault : ToolFault) (before after : Bool) → fault ≡ CannotWrite → after ≡ true → after ≡ (before || is_write_failure {X = Status} (Err fault))
+write-failed fault before after kind failed = subst (λ s. after ≡ (before || is_write_failure {X = Status} (Err s))) (sym kind) (failed ∙ sym (or-true before))

@@ -97,9 +97,9 @@ comment-given text h = record {
   number = 1;
   lines = (codes "# " ++ text) ∷ [];
   are_lines = and-both _ _ (bytes-line text h) refl;
-  count = 1;
-  is_ended = true;
-  first = refl;
+  first = comment text;
+  is_first = refl;
+  is = refl;
 }
 
 -- a line of changes is no separator
@@ -183,7 +183,7 @@ undo-clean written given holds session plan fits =
 joined-text : WrittenScript → DirectiveIsWellFormed → JoinedItems → ActualIsValid → (script : List ℕ) (history : ℕ) (floor : Floor) (count : ℕ) →
     let session = session_after_all (new_session history floor) (script_of script).items in
     let text = rewritten_text (answered_entries session (undo_items (undo_plan_of session count))) in
-    IsComplete 1 (lines_of script) → IsCleanScript (answered_entries (new_session history floor) (script_of script).items) (script_of script).fault →
+    IsComplete (lines_of script) → IsCleanScript (answered_entries (new_session history floor) (script_of script).items) (script_of script).fault →
     length ((script ++ newline ++ newline) ++ text) ≤ longest_input → (checked ((script ++ newline ++ newline) ++ text) history floor).outcome ≡ Ok Clean
 joined-text written given joined_items holds script history floor count complete clean fits =
     let begin = new_session history floor in

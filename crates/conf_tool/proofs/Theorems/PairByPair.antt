@@ -1,22 +1,23 @@
 -- That `plan` prints the texts of its pairs in turn, and that each pair is of valid configurations.
 use Rattle.std.proofs.Common.{◌≡◌, ℕ, ◌+◌, ◌≤◌, Bool, true, false, cond, List, [], ◌∷◌, ◌++◌, refl, ◌∙◌, ap, subst, arith, lt-ltb}
 use Rattle.std.specs.Prelude.{Option, Some, None, Result, Ok, Err, nat_lt, if◌then◌else◌}
-use Rattle.std.specs.List.{All, AllZip}
-use Rattle.std.proofs.lemmas.List.Elements.{All-nil, All-cons}
+use Rattle.std.specs.List.{All}
+use Rattle.std.proofs.lemmas.List.Elements.{All-nil, All-cons, All-head, All-tail}
 use Rattle.std.proofs.lemmas.List.{append_assoc, append-nil}
 use Rattle.dd_file.specs.Grammar.{listing_of}
 use Rattle.dd_file.specs.declared.fault.FileFault.{FileFault}
 use Rattle.conf_change.specs.Configuration.{Configuration, is_valid}
 use Rattle.conf_session.specs.SessionState.{SessionState}
-use Rattle.conf_change.specs.ConfState.{ConfStateLists}
-use Rattle.conf_change.specs.Violation.{valid_of, configuration_in}
-use Rattle.conf_change.specs.declared.configuration_line.ConfigurationFault.{ConfigurationFault}
-use Rattle.conf_change.proofs.Offered.{is_valid-from_configuration_in, is_valid-from_valid_of}
-use Rattle.conf_tool.specs.Laws.{pair_before, named_pairs, pairs_in, texts_from, separated_by}
+use Rattle.plan_input.specs.Input.{current_in, target_in}
+use Rattle.plan_input.specs.declared.text_fault.TextFault.{TextFault}
+use Rattle.plan_input.proofs.Offered.{current_in-valid, target_in-valid}
+use Rattle.conf_tool.specs.Laws.{EachInTurn, PrintsEach, pair_before, named_pairs, pairs_in, texts_from, separated_by}
 use Rattle.conf_tool.specs.Outputs.{separator, pair_text, pair_then, session_after_pair, ends_within, planned_pairs, planned_output}
-use Rattle.conf_tool.specs.Pairs.{NumberedLine, numbered, configuration_lines, is_json, saved_in_json, at_line, at_json, configuration_at, both_of}
+use Rattle.conf_tool.specs.Pairs.{NumberedLine, numbered, configuration_lines, current_at, pair_at, paired, target_at, with_target, written_at}
 use Rattle.conf_tool.specs.PlanAnswer.{plan_text_between, session_between}
 use Rattle.conf_tool.specs.PlanScript.{default_session}
+use Rattle.conf_tool.specs.declared.origin.Origin.{Origin}
+use Rattle.conf_tool.specs.declared.origin.Origin.TheVariants.{Line}
 use Rattle.conf_tool.specs.declared.plan_input_fault.PlanInputFault.{PlanInputFault}
 use Rattle.conf_tool.specs.declared.plan_options.PlanOptions.{PlanOptions}
 
@@ -27,62 +28,56 @@ abbrev pub Pair : Type 0
 Pair = Configuration × Configuration
 
 -- ---- what lines name is valid
-named-valid : (number : ℕ) (line : List ℕ) (read : Result Configuration ConfigurationFault) (c : Configuration) → configuration_in line ≡ read → ◌≡◌ {A = Found} (at_line number read) (Ok c) → is_valid c ≡ true
-named-valid number line (Ok d) c is e = let same : d ≡ c = cc in is_valid-from_configuration_in line c (is ∙ ap Ok same)
-named-valid number line (Err fault) c is e = cc
+written-ok : (origin : Origin) (read : Result Configuration TextFault) (c : Configuration) → ◌≡◌ {A = Found} (written_at origin read) (Ok c) → read ≡ Ok c
+written-ok origin (Ok d) c e = let same : d ≡ c = cc in ap Ok same
+written-ok origin (Err fault) c e = cc
 
-saved-valid : (number : ℕ) (saved : ConfStateLists) (read : Result Configuration ConfigurationFault) (c : Configuration) → valid_of saved ≡ read → ◌≡◌ {A = Found} (at_line number read) (Ok c) → is_valid c ≡ true
-saved-valid number saved (Ok d) c is e = let same : d ≡ c = cc in is_valid-from_valid_of saved c (is ∙ ap Ok same)
-saved-valid number saved (Err fault) c is e = cc
+pub current_at-valid : (line : NumberedLine) (c : Configuration) → current_at line ≡ Ok c → is_valid c ≡ true
+current_at-valid line c e = current_in-valid line.text c (written-ok (Line line.number) (current_in line.text) c e)
 
-json-valid : (number : ℕ) (saved : Option ConfStateLists) (c : Configuration) → ◌≡◌ {A = Found} (at_json number saved) (Ok c) → is_valid c ≡ true
-json-valid number None c e = cc
-json-valid number (Some saved) c e = saved-valid number saved (valid_of saved) c refl e
-
-either-valid : (json : Bool) (line : NumberedLine) (c : Configuration) → ◌≡◌ {A = Found} (cond json (at_json line.number (saved_in_json line.text)) (at_line line.number (configuration_in line.text))) (Ok c) → is_valid c ≡ true
-either-valid true line c e = json-valid line.number (saved_in_json line.text) c e
-either-valid false line c e = named-valid line.number line.text (configuration_in line.text) c refl e
-
-pub configuration_at-valid : (line : NumberedLine) (c : Configuration) → configuration_at line ≡ Ok c → is_valid c ≡ true
-configuration_at-valid line c e = either-valid (is_json line.text) line c e
+pub target_at-valid : (line : NumberedLine) (now c : Configuration) → is_valid now ≡ true → target_at line now ≡ Ok c → is_valid c ≡ true
+target_at-valid line now c valid e = target_in-valid now line.text c valid (written-ok (Line line.number) (target_in now line.text) c e)
 
 -- both configurations of a pair are valid
 pub record AreValid (pair : Pair) : Type 0 where
   pub now : is_valid pair.0 ≡ true
   pub target : is_valid pair.1 ≡ true
 
-both-valid : (first second : NumberedLine) (a b : Found) (pair : Pair) → configuration_at first ≡ a → configuration_at second ≡ b → ◌≡◌ {A = Result Pair PlanInputFault} (both_of a b) (Ok pair) → AreValid pair
-both-valid first second (Err bad) b pair is_a is_b e = let wrong : ⊥ = cc in absurd wrong
-both-valid first second (Ok now) (Err bad) pair is_a is_b e = let wrong : ⊥ = cc in absurd wrong
-both-valid first second (Ok now) (Ok target) pair is_a is_b e =
+paired-valid : (second : NumberedLine) (now : Configuration) (read : Found) (pair : Pair) → is_valid now ≡ true → target_at second now ≡ read → ◌≡◌ {A = Result Pair PlanInputFault} (paired now read) (Ok pair) → AreValid pair
+paired-valid second now (Err bad) pair valid is e = let wrong : ⊥ = cc in absurd wrong
+paired-valid second now (Ok target) pair valid is e =
     let same : ◌≡◌ {A = Pair} (now, target) pair = cc in
-    subst AreValid same (record { now = configuration_at-valid first now is_a; target = configuration_at-valid second target is_b })
+    subst AreValid same (record { now = valid; target = target_at-valid second now target valid is })
 
--- what holds of each pair of valid configurations, and of its text, holds of each pair that lines name
-pub each-named : (R : Pair → List ℕ → Type 0) (options : PlanOptions) → ((session : SessionState) (number : ℕ) (pair : Pair) → AreValid pair → R pair (plan_text_between options session number pair.0 pair.1)) →
-    (session : SessionState) (number : ℕ) (lines : List NumberedLine) → AllZip R (named_pairs lines) (texts_from options session number (named_pairs lines))
-each-named R options holds session number [] = tt
-each-named R options holds session number (line ∷ []) = tt
-each-named R options holds session number (first ∷ second ∷ lines) = by_pair (both_of (configuration_at first) (configuration_at second)) refl (λ after. each-named R options holds after (number + 1) lines)
-  where
-    by_pair : (read : Result Pair PlanInputFault) → both_of (configuration_at first) (configuration_at second) ≡ read →
-        ((after : SessionState) → AllZip R (named_pairs lines) (texts_from options after (number + 1) (named_pairs lines))) →
-        AllZip R (pair_before read (named_pairs lines)) (texts_from options session number (pair_before read (named_pairs lines)))
-    by_pair (Err bad) is rest = tt
-    by_pair (Ok pair) is rest = (holds session number pair (both-valid first second (configuration_at first) (configuration_at second) pair refl refl is), rest (session_between options session pair.0 pair.1))
+both-valid : (first second : NumberedLine) (read : Found) (pair : Pair) → current_at first ≡ read → ◌≡◌ {A = Result Pair PlanInputFault} (with_target (target_at second) read) (Ok pair) → AreValid pair
+both-valid first second (Err bad) pair is e = let wrong : ⊥ = cc in absurd wrong
+both-valid first second (Ok now) pair is e = paired-valid second now (target_at second now) pair (current_at-valid first now is) refl e
 
 named-valid_pairs : (lines : List NumberedLine) → All AreValid (named_pairs lines)
 named-valid_pairs [] = All-nil AreValid
 named-valid_pairs (line ∷ []) = All-nil AreValid
-named-valid_pairs (first ∷ second ∷ lines) = by_pair (both_of (configuration_at first) (configuration_at second)) refl (named-valid_pairs lines)
+named-valid_pairs (first ∷ second ∷ lines) = by_pair (pair_at first second) refl (named-valid_pairs lines)
   where
-    by_pair : (read : Result Pair PlanInputFault) → both_of (configuration_at first) (configuration_at second) ≡ read → All AreValid (named_pairs lines) → All AreValid (pair_before read (named_pairs lines))
+    by_pair : (read : Result Pair PlanInputFault) → pair_at first second ≡ read → All AreValid (named_pairs lines) → All AreValid (pair_before read (named_pairs lines))
     by_pair (Err bad) is rest = All-nil AreValid
-    by_pair (Ok pair) is rest = All-cons AreValid pair (named_pairs lines) (both-valid first second (configuration_at first) (configuration_at second) pair refl refl is) rest
+    by_pair (Ok pair) is rest = All-cons AreValid pair (named_pairs lines) (both-valid first second (current_at first) pair refl is) rest
 
 -- each pair that an input denotes is of valid configurations
 pub all-valid : (input : List ℕ) → All AreValid (pairs_in input)
 all-valid input = named-valid_pairs (configuration_lines (numbered 1 (listing_of input).items))
+
+-- what holds of each pair of valid configurations, and of its text
+abbrev pub HoldsOfText : PlanOptions → (SessionState → ℕ → Pair → List ℕ → Type 0) → Type 0
+HoldsOfText options Holds = (session : SessionState) (number : ℕ) (pair : Pair) → AreValid pair → Holds session number pair (plan_text_between options session number pair.0 pair.1)
+
+-- .. holds of pairs in turn
+each-in_turn : (options : PlanOptions) (Holds : SessionState → ℕ → Pair → List ℕ → Type 0) → HoldsOfText options Holds → (session : SessionState) (number : ℕ) (pairs : List Pair) → All AreValid pairs →
+    EachInTurn options Holds session number pairs (texts_from options session number pairs)
+each-in_turn options Holds holds session number [] valid = tt
+each-in_turn options Holds holds session number (pair ∷ pairs) valid = (
+  holds session number pair (All-head AreValid pair pairs valid),
+  each-in_turn options Holds holds (session_between options session pair.0 pair.1) (number + 1) pairs (All-tail AreValid pair pairs valid),
+)
 
 -- ---- the text of the whole output
 -- texts after others, if the first has a number above 1
@@ -105,9 +100,9 @@ pairs-text : (options : PlanOptions) (session : SessionState) (number : ℕ) (li
     (planned_pairs options session number lines fault).text ≡ suffix (separator options.output) number (texts_from options session number (named_pairs lines))
 pairs-text options session number [] None some = refl
 pairs-text options session number [] (Some fault) some = refl
-pairs-text options session number (line ∷ []) fault some = half-text (configuration_at line) fault
+pairs-text options session number (line ∷ []) fault some = half-text (current_at line) fault
 pairs-text options session number (first ∷ second ∷ lines) fault some =
-    by_pair (both_of (configuration_at first) (configuration_at second)) (λ after. pairs-text options after (number + 1) lines fault (omega (arith, some)))
+    by_pair (pair_at first second) (λ after. pairs-text options after (number + 1) lines fault (omega (arith, some)))
   where
     by_pair : (read : Result Pair PlanInputFault) →
         ((after : SessionState) → (planned_pairs options after (number + 1) lines fault).text ≡ suffix (separator options.output) (number + 1) (texts_from options after (number + 1) (named_pairs lines))) →
@@ -127,3 +122,8 @@ pub planned-text : (options : PlanOptions) (input : List ℕ) → (planned_outpu
 planned-text options input =
     pairs-text options default_session 1 (configuration_lines (numbered 1 (listing_of input).items)) (listing_of input).fault (omega arith)
     ∙ from-first (separator options.output) (texts_from options default_session 1 (pairs_in input))
+
+-- what holds of each pair and its text holds of what is printed
+pub each-printed : (options : PlanOptions) (Holds : SessionState → ℕ → Pair → List ℕ → Type 0) → HoldsOfText options Holds → (input : List ℕ) → PrintsEach options input Holds
+each-printed options Holds holds input =
+    (texts_from options default_session 1 (pairs_in input), planned-text options input, each-in_turn options Holds holds default_session 1 (pairs_in input) (all-valid input))

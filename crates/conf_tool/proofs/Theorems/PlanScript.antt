@@ -28,9 +28,10 @@ use Rattle.conf_session.proofs.Offered.{all-append, and-both, and-first, and-sec
 use Rattle.plan_output.specs.Stages.{stalls}
 use Rattle.conf_tool.specs.Laws.{pairs_in, texts_from, separated_by}
 use Rattle.conf_tool.specs.Outputs.{separator, checked, planned_output}
-use Rattle.conf_tool.specs.PlanAnswer.{ids_down, stall_note, text_as, no_plan_comment, no_plan_text, path_between, reply_text, session_as, session_with, session_between}
-use Rattle.conf_tool.specs.PlanScript.{stall_text, note_items, restore_command, restore_directive, script_items, default_session, script_text}
-use Rattle.conf_tool.specs.Reports.{actual_for, session_after_all, answered_entries, answered_text}
+use Rattle.plan_output.specs.Steps.{ids_down, stall_text, stall_note}
+use Rattle.conf_tool.specs.PlanAnswer.{text_as, no_plan_comment, no_plan_text, path_between, reply_text, session_as, session_with, session_between}
+use Rattle.conf_tool.specs.PlanScript.{note_items, restore_command, restore_directive, script_items, default_session, script_text}
+use Rattle.conf_tool.specs.Reports.{session_after_all, answered_entries, answered_text}
 use Rattle.conf_tool.specs.UndoScript.{comment, step_directive, step_items}
 use Rattle.conf_tool.specs.declared.plan_options.PlanOptions.{PlanOptions}
 use Rattle.conf_tool.specs.declared.plan_options.PlanOutput.TheVariants.{Script}
@@ -167,7 +168,7 @@ pair-read given options pair =
     path_between-cases options pair.0 pair.1 (λ path. CanBeRead (items_with options.down pair.0 path)) (script-read given options.down pair.0) (comment-read _ refl) (comment-read _ refl) (comment-read _ refl)
 
 blank-read : CanBeRead (Blank ([] ∷ []) ∷ [])
-blank-read = record { given = (record { number = 1; lines = [] ∷ []; are_lines = refl; count = 1; is_ended = true; first = refl }, tt); keys = refl; short = refl }
+blank-read = record { given = (record { number = 1; lines = [] ∷ []; are_lines = refl; first = Blank ([] ∷ []); is_first = refl; is = refl }, tt); keys = refl; short = refl }
 
 gap-read : (path : Answered) → CanBeRead (gap_with path)
 gap-read (Err why) = blank-read

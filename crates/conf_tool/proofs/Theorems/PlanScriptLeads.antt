@@ -1,10 +1,10 @@
 -- That a session which runs the script of the pairs takes the steps of each path.
-use Rattle.std.proofs.Common.{◌≡◌, ◌≤◌, ◌<◌, ◌^◌, ℕ, Bool, true, false, List, [], ◌∷◌, ◌++◌, map, length, refl, sym, ◌∙◌, ap, subst}
-use Rattle.std.specs.Prelude.{Option, Some, None, Result, Ok, Err, codes, if◌then◌else◌, ◌↔◌}
+use Rattle.std.proofs.Common.{◌≡◌, ◌≤◌, ℕ, Bool, true, false, List, [], ◌∷◌, ◌++◌, map, length, refl, sym, ◌∙◌, ap, subst}
+use Rattle.std.specs.Prelude.{Option, Some, None, Ok, Err, codes, if◌then◌else◌, ◌↔◌}
 use Rattle.std.specs.List.{All, AllZip}
 use Rattle.std.proofs.lemmas.List.{append-nil}
 use Rattle.std.proofs.lemmas.List.Elements.{All-nil, All-cons, All-head, All-tail}
-use Rattle.quorum_sets.specs.Ids.{Ids, ascending}
+use Rattle.quorum_sets.specs.Ids.{Ids}
 use Rattle.ascii_text.specs.Lines.{newline, text_of}
 use Rattle.ascii_text.specs.WhiteSpace.{trimmed, without_leading_space}
 use Rattle.ascii_text.proofs.Offered.{ends-before_blank}
@@ -12,42 +12,36 @@ use Rattle.dd_file.specs.DirectiveText.{DirectiveText}
 use Rattle.dd_file.specs.Position.{longest_input}
 use Rattle.dd_file.specs.Grammar.{script_of}
 use Rattle.dd_file.specs.Rewritten.{Entry, rewritten_text}
-use Rattle.dd_file.specs.Laws.{DirectiveIsWellFormed, WrittenScript, IsSameItem, AreReadAgain, AreOver, LastIsRemoved, ReadAgain, directive_in, directives_of}
+use Rattle.dd_file.specs.Laws.{DirectiveIsWellFormed, WrittenScript, IsSameItem, AreReadAgain, AreOver, LastIsRemoved, ReadAgain, directives_of}
 use Rattle.dd_file.specs.declared.item.Item.{Item}
 use Rattle.dd_file.specs.declared.item.Item.TheVariants.{Comment, Blank, Directive}
 use Rattle.conf_change.specs.Changer.{begun_with}
-use Rattle.conf_change.specs.Configuration.{Configuration, is_valid, has_voter, is_restorable}
+use Rattle.conf_change.specs.Configuration.{Configuration, has_voter, is_restorable}
 use Rattle.conf_change.specs.ConfState.{ConfStateLists, Describes, lists_of, restored}
-use Rattle.conf_change.specs.ConfStateLine.{conf_state_text, conf_state_in, line_in}
+use Rattle.conf_change.specs.ConfStateLine.{conf_state_text, conf_state_in}
 use Rattle.conf_change.proofs.Offered.{DenotesConfState-printed, ParsesToNumbers-spaced, conf_state_in-ok, trimmed-bracketed_line}
 use Rattle.conf_change.specs.Text.{spaced_numbers}
 use Rattle.conf_change.specs.declared.step.Step.{Step}
-use Rattle.conf_plan.specs.PathBy.{Serves, has_path, path_by}
-use Rattle.conf_plan.specs.Alive.{ChangesOneLearnerFirst}
-use Rattle.conf_plan.specs.PlanSteps.{HasU64Ids}
-use Rattle.conf_plan.specs.Run.{IsRun, IsRunWith, IsValidWithVoter}
-use Rattle.conf_plan.specs.declared.strategy.Strategy.{Strategy}
-use Rattle.conf_plan.specs.declared.strategy.Strategy.TheVariants.{Shortest, LearnersFirst, OneAtATime}
+use Rattle.conf_plan.specs.PathBy.{has_path, path_by}
+use Rattle.conf_plan.specs.Run.{IsRun}
 use Rattle.conf_session.specs.SessionState.{SessionState, current}
-use Rattle.conf_session.specs.Commands.{Answer, Row, answer, answered, after_answers, if_read, reply_of, restore_reply, row_of}
+use Rattle.conf_session.specs.Commands.{Answer, answer, answered, after_answers, if_read, reply_of, restore_reply, row_of}
 use Rattle.conf_session.specs.Input.{conf_state_read}
 use Rattle.conf_session.specs.Reply.{restored_with}
 use Rattle.conf_session.specs.Values.{read_arguments}
 use Rattle.conf_session.proofs.Offered.{same-answer}
-use Rattle.plan_output.specs.Stages.{stalls}
-use Rattle.conf_tool.specs.Laws.{HasU64Lists, HasU64Pair, LeadsThrough, NoPair, WithPath, WithoutPath, PlanScriptLeads, RestoresAndTakes, pairs_in}
-use Rattle.conf_tool.specs.Outputs.{planned_output}
-use Rattle.conf_tool.specs.Pairs.{NumberedLine}
-use Rattle.conf_tool.specs.PlanAnswer.{ids_down, stall_note, path_between}
-use Rattle.conf_tool.specs.PlanScript.{stall_text, note_items, restore_command, restore_directive, script_items, default_session}
-use Rattle.conf_tool.specs.Reports.{actual_for, session_after, answered_entries}
+use Rattle.conf_change.specs.U64Lists.{HasU64Lists}
+use Rattle.plan_output.specs.Steps.{ids_down, stall_note}
+use Rattle.conf_tool.specs.Laws.{HasU64Pair, LeadsThrough, NoPair, WithPath, WithoutPath, PlanScriptLeads, pairs_in}
+use Rattle.conf_tool.specs.PlanAnswer.{path_between}
+use Rattle.conf_tool.specs.PlanScript.{note_items, restore_directive, script_items, default_session}
+use Rattle.conf_tool.specs.Reports.{session_after, answered_entries}
 use Rattle.conf_tool.specs.UndoScript.{step_directive, step_items, TakesSteps}
 use Rattle.conf_tool.specs.declared.plan_options.PlanOptions.{PlanOptions}
-use Rattle.conf_tool.specs.declared.plan_options.PlanOutput.TheVariants.{Script}
 use Rattle.conf_tool.proofs.Theorems.PairByPair.{Pair, AreValid, all-valid}
 use Rattle.conf_tool.proofs.Theorems.PlanScript.{Answered, items_with, gap_with, all_items, planned-script, again-read, script-clean}
 use Rattle.conf_tool.proofs.Theorems.RewrittenScript.{ActualIsValid}
-use Rattle.conf_tool.proofs.Theorems.ServingPaths.{AllServe}
+use Rattle.conf_tool.proofs.Theorems.PromisedPaths.{PathsAreRuns}
 use Rattle.conf_tool.proofs.Theorems.UndoneScript.{ChangesAreRead, directive_for, run-comes}
 
 -- ---- the directive that restores a configuration
@@ -274,9 +268,6 @@ leads-again options session directives (other ∷ again) pairs same (WithPath at
 leads-again options session directives again pairs same (WithoutPath at own pair rest why path leads) = WithoutPath session again pair rest why path (leads-again options session directives again rest same leads)
 
 -- ---- each path is a run
-abbrev PathsAreRuns : Type 0
-PathsAreRuns = (strategy : Strategy) (down : Ids) (now target : Configuration) → IsValidWithVoter now → IsValidWithVoter target → has_path strategy now target ≡ true → IsRun now (path_by strategy down now target) target
-
 between-runs : PathsAreRuns → AreRuns
 between-runs runs options pair steps valid is = by (has_voter pair.0) (has_voter pair.1) (has_path options.strategy pair.0 pair.1) refl refl refl is
   where
@@ -298,19 +289,6 @@ known-pairs options [] valid small = All-nil (IsKnown options)
 known-pairs options (pair ∷ pairs) valid small =
     All-cons (IsKnown options) pair pairs (record { valid = All-head AreValid pair pairs valid; u64_ids = All-head (HasU64Pair options) pair pairs small })
     (known-pairs options pairs (All-tail AreValid pair pairs valid) (All-tail (HasU64Pair options) pair pairs small))
-
--- a run with more that is known of its steps
-run-of : (Holds : Configuration → Step → Configuration → Type 0) (before after : Configuration) (steps : List Step) → IsRunWith Holds before steps after → IsRun before steps after
-run-of Holds before after [] run = run
-run-of Holds before after (step ∷ steps) run = (run.0, run.1.0, run-of Holds run.0 after steps run.2)
-
-serves-run : (strategy : Strategy) (down : Ids) (now : Configuration) (steps : List Step) (target : Configuration) → Serves strategy down now steps target → IsRun now steps target
-serves-run Shortest down now steps target serves = serves.best.run
-serves-run LearnersFirst down now steps target serves = serves.run
-serves-run OneAtATime down now steps target serves = run-of ChangesOneLearnerFirst now target steps serves.run
-
-pub paths-run : AllServe → PathsAreRuns
-paths-run serve strategy down now target voter_now voter_target path = serves-run strategy down now (path_by strategy down now target) target (serve strategy down now target voter_now voter_target path)
 
 pub script-leads : WrittenScript → DirectiveIsWellFormed → ActualIsValid → IsRestored → DescribesOwn → ChangesAreRead → PathsAreRuns → PlanScriptLeads
 script-leads written given holds restored_is own read runs = record {

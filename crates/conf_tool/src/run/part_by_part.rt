@@ -78,7 +78,7 @@ fn next_part<P, S: Parts<P>, R: Source, W: Sink>(
     reader: &mut R,
     writer: &mut W,
 ) -> Result<Result<Option<P>, FileFault>, WriteFault>
-    ensures reads { IfOk result (λ read. ReadsOn R.remaining R.has_failed (λ part. part) S.coming S.IsFault (S.reader_state parts.old) (S.reader_state parts.new) reader.old reader.new read) }
+    ensures reads { IfOk result (λ read. ReadsOn R.remaining R.has_failed S.coming S.IsFault (S.reader_state parts.old) (S.reader_state parts.new) reader.old reader.new read) }
     ensures unread { OnErr result (reader.new ≡ reader.old) }
     ensures kept { Keeps (W.contents writer.old) (W.contents writer.new) }
     ensures write { W.has_failed writer.new ≡ (W.has_failed writer.old || is_err result) }

@@ -31,7 +31,7 @@ pub(super) trait Parts<P> {
 
     /// The next part, if all of it is buffered. Nothing is read.
     fn buffered<R: Source>(&mut self, reader: &R) -> Option<Result<Option<P>, FileFault>>
-        ensures { BufferedReadsOn R.remaining R.has_failed (λ part. part) coming IsFault is_buffered (reader_state self.old) (reader_state self.new) reader.now result };
+        ensures { BufferedReadsOn R.remaining R.has_failed coming IsFault is_buffered (reader_state self.old) (reader_state self.new) reader.now result };
 
     /// The next part; `None` at the end. This call may wait for input, so the output is to be flushed before it.
     fn read<R: Source, W: Sink>(
@@ -40,7 +40,7 @@ pub(super) trait Parts<P> {
         writer: &W,
     ) -> Result<Option<P>, FileFault>
         requires { W.reached writer.now ≡ W.contents writer.now }
-        ensures { ReadsOn R.remaining R.has_failed (λ part. part) coming IsFault (reader_state self.old) (reader_state self.new) reader.old reader.new result };
+        ensures { ReadsOn R.remaining R.has_failed coming IsFault (reader_state self.old) (reader_state self.new) reader.old reader.new result };
 
     /// Takes back a part that was replied to, so that a later one may reuse its buffer.
     fn take_back(&mut self, part: P)

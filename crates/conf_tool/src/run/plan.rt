@@ -1,30 +1,36 @@
-//! The mode `plan`: the input is pairs of lines, each line a configuration. The first line of a pair is the current
-//! configuration and the second the target, and the reply to the second is the path between them:
+//! The mode `plan`: the input is pairs of lines. The first line of a pair is the current configuration and the second
+//! the target, and the reply to the second is the path between them:
 //!
 //! ```text
 //! # replace 1 and 2 by 4 and 5
-//! Voters:[1 2 3] ..           ->
-//! Voters:[3 4 5] ..           ->    enter-joint autoleave=false r1 r2 v4 v5
+//! voters=(1 2 3)              ->
+//! r1 r2 v4 v5                 ->    enter-joint autoleave=false r1 r2 v4 v5
 //!                                   leave-joint
 //! ```
+//!
+//! In place of an input, `--from` and `--to` are one pair.
 //!
 //! Blank lines and comments are skipped, and still counted in the line numbers of errors. Between the replies to two
 //! pairs comes an empty line, but none in JSON. If the replies are scripts, one session runs all of them, so that
 //! together they are one script. The first line with an error ends the run. The form of the input is own.
-ghost use Rattle.std.specs.Prelude.{◌≡◌, ℕ, ◌+◌, ◌<◌, ◌^◌, ◌||◌, List, [], Option, Some, Ok, true, nat_lt, IfOk, IfErr, OnOk, OnErr, IsOkUnless, if◌then◌else◌};
+ghost use Rattle.std.specs.Prelude.{◌≡◌, ℕ, ◌+◌, ◌<◌, ◌^◌, ◌||◌, List, [], Option, Some, Ok, true, false, nat_lt, IfOk, IfErr, OnOk, OnErr, IsOkUnless, if◌then◌else◌};
 ghost use Rattle.std.specs.Io.KnownBytes.{Appends};
 ghost use Rattle.dd_file.specs.Device.{AppendsPart};
 ghost use Rattle.conf_change.specs.Configuration.{is_valid};
-ghost use Rattle.conf_tool.specs.Outputs.{planned_script, pair_text, separator, worse_of};
+ghost use Rattle.conf_tool.specs.Outputs.{planned_script, planned_texts, pair_text, separator, worse_of};
+ghost use Rattle.conf_tool.specs.Pairs.{pair_of_texts, IsFaultOf};
 ghost use Rattle.conf_tool.specs.PlanAnswer.{plan_status, session_between};
-ghost use Rattle.conf_tool.specs.Run.{IsAnswerFault, is_write_failure};
+ghost use Rattle.conf_tool.specs.PlanScript.{default_session};
+ghost use Rattle.conf_tool.specs.Run.{IsAnswerFault, Means, is_read_failure, is_write_failure};
 ghost use Rattle.conf_tool.specs.declared.tool_fault.ToolFault.TheVariants.{NoMemory as OutOfMemory};
 
 use super::part_by_part::PartByPart;
 use super::plan_script::default_session;
+use crate::origin::Origin;
+use crate::pair_text::{current_of, is_skipped, target_of};
+use crate::pair_texts::PairTexts;
 use crate::plan_answer::plan_answer;
 use crate::plan_input_fault::PlanInputFault;
-use crate::plan_line::{configuration_at, is_skipped};
 use crate::plan_options::{PlanOptions, PlanOutput};
 use crate::status::Status;
 use crate::tool_fault::ToolFault;
@@ -162,20 +168,23 @@ impl PartByPart<Line> for Planning {
 
     ghost HasAnswered = { λ s. HasPlanned s.options s.session s.lines s.pair s.now s.status };
 
-    // Keeps the first line of a pair, and replies to the second. Blank lines and comments are skipped. A line that is
-    // not a valid configuration ends the run.
+    // Keeps the configuration of the first line of a pair, and replies to the second. Blank lines and comments are
+    // skipped. A line with an error ends the run.
     fn answer<W: Sink>(&mut self, line: &Line, writer: &mut W) -> Result<(), ToolFault> {
         self.lines += 1;
         if is_skipped(line.as_slice()) {
             return Ok(());
         }
-        let config = configuration_at(self.alloc, self.lines, line.as_slice())?;
+        let origin = Origin::Line(self.lines);
         match self.now.take() {
             None => {
-                self.now = Some(config);
+                self.now = Some(current_of(self.alloc, origin, line.as_slice())?);
                 Ok(())
             }
-            Some(now) => self.write_pair(&now, &config, writer),
+            Some(now) => {
+                let target = target_of(self.alloc, origin, &now, line.as_slice())?;
+                self.write_pair(&now, &target, writer)
+            }
         }
     }
 
@@ -198,4 +207,54 @@ impl PartByPart<Line> for Planning {
     ghost stays = { λ s. kept-planned s.options s.session s.lines s.pair s.now s.status };
 
     ghost prefix = { λ s total parts more fault before after planned. wrote-prefix total (plan_left s.options s.session s.lines s.pair s.now s.status) parts more fault before after planned.prefix };
+}
+
+/// Writes the reply to the pair that the values of `--from` and `--to` are, and returns the status of the run.
+pub(super) fn answer_texts<W: Sink>(
+    alloc: Global,
+    options: PlanOptions,
+    texts: PairTexts<'_>,
+    writer: &mut W,
+) -> Result<Status, ToolFault>
+    ensures output { Means (planned_texts options texts.entry.from.now texts.entry.to.now) result (W.contents writer.old) (W.contents writer.new) }
+    ensures read { is_read_failure result ≡ false }
+    ensures write { W.has_failed writer.new ≡ (W.has_failed writer.old || is_write_failure result) }
+{
+    let (now, target) = pair_of(alloc, texts.from.as_bytes(), texts.to.as_bytes())?;
+    let (text, status) = first_answer(alloc, &options, &now, &target)?;
+    write_all(writer, text.as_slice())?;
+    Ok(status)
+}
+
+// The reply to the first pair of a run, and its status.
+fn first_answer(
+    alloc: Global,
+    options: &PlanOptions,
+    now: &Config<SessionIds>,
+    target: &Config<SessionIds>,
+) -> Result<(Vec<u8>, Status), ToolFault>
+    requires valid_now { is_valid now.now ≡ true }
+    requires valid_target { is_valid target.now ≡ true }
+    ensures text { IfOk result (λ answer. answer.0.items ≡ pair_text options.now default_session 1 now.now target.now) }
+    ensures status { IfOk result (λ answer. answer.1 ≡ plan_status options.now now.now target.now) }
+    ensures memory { IsOkUnless result OutOfMemory }
+{
+    let mut session = default_session(alloc)?;
+    pair_answer(alloc, options, &mut session, 1, now, target)
+}
+
+// The current configuration and the target that two texts are.
+fn pair_of(
+    alloc: Global,
+    from: &[u8],
+    to: &[u8],
+) -> Result<(Config<SessionIds>, Config<SessionIds>), ToolFault>
+    ensures pair { IfOk result (λ pair. pair_of_texts from.now to.now ≡ Ok pair) }
+    ensures valid_now { IfOk result (λ pair. is_valid pair.0 ≡ true) }
+    ensures valid_target { IfOk result (λ pair. is_valid pair.1 ≡ true) }
+    ensures fault { IfErr result (IsFaultOf (pair_of_texts from.now to.now)) }
+{
+    let now = current_of(alloc, Origin::From, from)?;
+    let target = target_of(alloc, Origin::To, &now, to)?;
+    Ok((now, target))
 }

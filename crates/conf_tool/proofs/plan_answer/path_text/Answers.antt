@@ -4,13 +4,14 @@ use Rattle.quorum_sets.specs.Ids.{Ids}
 use Rattle.conf_plan.specs.PlanText.{plan_text}
 use Rattle.plan_output.specs.Json.{json_text}
 use Rattle.plan_output.specs.Table.{table_text}
-use Rattle.conf_tool.specs.PlanAnswer.{note_line, session_as, text_as}
+use Rattle.plan_output.specs.Steps.{note_line}
+use Rattle.conf_tool.specs.PlanAnswer.{session_as, text_as}
 use Rattle.conf_session.specs.SessionState.{SessionState}
 use Rattle.conf_tool.specs.declared.plan_options.PlanOutput.{PlanOutput}
 use Rattle.conf_tool.specs.PlanScript.{script_items, script_text}
 use Rattle.conf_tool.specs.Reports.{session_after_all}
 use Rattle.conf_tool.proofs.plan_answer.path_text.Goals as goal
-use Rattle.conf_tool.proofs.plan_answer.path_text.Goals.{in-Steps+in_ok-write_note-in-Steps+in_ok-print_path-in-Steps, in-Table+in_ok-add_table-in-Table, in-Json+in_ok-add_json_lines-in-Json}
+use Rattle.conf_tool.proofs.plan_answer.path_text.Goals.{in-Steps+in_ok-add_steps-in-Steps, in-Table+in_ok-add_table-in-Table, in-Json+in_ok-add_json_lines-in-Json}
 
 -- a set of a session is its ids
 same-ids : (down : Option Ids) → option_map (λ set. set) down ≡ down
@@ -36,10 +37,11 @@ returns-clause-text c =
     let now = c.args.now.now in
     let steps = c.args.path.now in
     elim c.match-options.branch [
-      | in-Steps+in_ok-write_note-in-Steps+in_ok-print_path-in-Steps w ↦
+      | in-Steps+in_ok-add_steps-in-Steps w ↦
           rw w.text-is (
-          w.in_ok-print_path-in-Steps.ensures.ok
-          ∙ ap (λ xs. xs ++ plan_text steps) (w.in_ok-write_note-in-Steps.ensures ∙ ap (λ xs. xs ++ note_line (option_map (λ note. note.now.items) c.args.note)) c.new-text.ensures.items ∙ ap note_line c.requires.note)
+          w.in_ok-add_steps-in-Steps.ensures.ok
+          ∙ ap (λ xs. xs ++ note_line (option_map (λ note. note.now.items) c.args.note) ++ plan_text steps) c.new-text.ensures.items
+          ∙ ap (λ note. note_line note ++ plan_text steps) c.requires.note
           ∙ sym (ap (λ output. text_as output session c.args.number options.down now steps) w.in-Steps.is)
           )
       | in-Table+in_ok-add_table-in-Table w ↦
@@ -58,7 +60,7 @@ pub returns-clause-session : goal.returns-clause-session
 returns-clause-session c =
     let after : PlanOutput → SessionState = λ output. session_as output c.args.session.now c.args.options.now.down c.args.now.now c.args.path.now in
     elim c.match-options.branch [
-      | in-Steps+in_ok-write_note-in-Steps+in_ok-print_path-in-Steps w ↦ sym (ap after w.in-Steps.is)
+      | in-Steps+in_ok-add_steps-in-Steps w ↦ sym (ap after w.in-Steps.is)
       | in-Table+in_ok-add_table-in-Table w ↦ sym (ap after w.in-Table.is)
       | in-Json+in_ok-add_json_lines-in-Json w ↦ sym (ap after w.in-Json.is)
     ]

@@ -24,6 +24,11 @@ returns-in_err-new-in-Undo-2-clause-output g c =
 pub run_by_part-requires-in-Undo-clause-unwritten : goal.run_by_part-requires-in-Undo-clause-unwritten
 run_by_part-requires-in-Undo-clause-unwritten g c = (_, c.in_ok-new-in-Undo-2.ensures.unwritten)
 
+pub returns-in_err-new-in-Plan-clause-output : goal.returns-in_err-new-in-Plan-clause-output
+returns-in_err-new-in-Plan-clause-output g c =
+    let p = err_from_is_err_and c.from_residual-in_err-new-in-Plan.result c.from_residual-in_err-new-in-Plan.ensures.1 in
+    rw (p.1, p.2, c.in_err-new-in-Plan.ensures.memory) (λ input more agrees. part-nothing _ _)
+
 pub returns-in_err-new-in-Plan-2-clause-output : goal.returns-in_err-new-in-Plan-2-clause-output
 returns-in_err-new-in-Plan-2-clause-output g c =
     let p = err_from_is_err_and c.from_residual-in_err-new-in-Plan-2.result c.from_residual-in_err-new-in-Plan-2.ensures.1 in

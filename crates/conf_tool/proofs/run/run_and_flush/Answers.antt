@@ -1,34 +1,7 @@
-use Rattle.std.proofs.Common.{ℕ, List, [], sym}
-use Rattle.std.specs.Prelude.{Option, Some, None, Result, Ok, Err}
-use Rattle.std.specs.Io.KnownBytes.{Appends}
-use Rattle.std.proofs.lemmas.List.{append-nil}
-use Rattle.dd_file.specs.Device.{AppendsPart}
-use Rattle.dd_file.specs.Gathered.{gathered_bytes}
-use Rattle.conf_tool.specs.Outputs.{Output, output_of}
-use Rattle.conf_tool.specs.Run.{Means}
-use Rattle.conf_tool.specs.declared.status.Status.{Status}
-use Rattle.conf_tool.specs.declared.tool_fault.ToolFault.{ToolFault}
-use Rattle.conf_tool.specs.declared.tool_fault.ToolFault.TheVariants.{Script, Configurations, Read, Write, NoMemory}
-use Rattle.conf_tool.specs.AnsweredLaws.{kept-part}
 use Rattle.conf_tool.proofs.run.run_and_flush.Goals as goal
 
--- a whole text is a prefix of it
-whole-part : (before after : Option (List ℕ)) (text : List ℕ) → Appends before after text → AppendsPart before after text
-whole-part None after text all = tt
-whole-part (Some o) None text all = absurd all
-whole-part (Some o) (Some n) text all = (text, [], sym (append-nil text), all)
+pub returns-clause-output : goal.returns-clause-output
+returns-clause-output g c = λ input more agrees. c.flush_after.ensures.output _ _ (c.run-outcome.ensures.output input more agrees)
 
--- whatever the answer, what was written is a prefix of the output
-means-part : (output : Output) (result : Result Status ToolFault) (before after : Option (List ℕ)) → Means output result before after → AppendsPart before after output.text
-means-part output (Ok status) before after wrote = whole-part before after output.text wrote.1
-means-part output (Err (Script fault)) before after wrote = whole-part before after output.text wrote.1
-means-part output (Err (Configurations fault)) before after wrote = whole-part before after output.text wrote.1
-means-part output (Err Read) before after part = part
-means-part output (Err Write) before after part = part
-means-part output (Err NoMemory) before after part = part
-
-pub returns-in-Err-clause-output : goal.returns-in-Err-clause-output
-returns-in-Err-clause-output g c = λ input more agrees.
-    let before = gathered_bytes g.W.Sink.contents c.args.writer.now in
-    let text = (output_of c.args.mode c.args.options input).text in
-    kept-part before _ _ text (means-part (output_of c.args.mode c.args.options input) c.run-outcome.result before _ (c.run-outcome.ensures.output input more agrees)) c.flush.ensures.bytes
+pub returns-clause-kinds : goal.returns-clause-kinds
+returns-clause-kinds g c = c.flush_after.ensures.kinds _ c.run-outcome.ensures.kinds

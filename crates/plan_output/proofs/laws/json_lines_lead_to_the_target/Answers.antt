@@ -6,7 +6,7 @@ use Rattle.conf_change.specs.Outcome.{after_leave}
 use Rattle.conf_plan.specs.declared.strategy.Strategy.{Strategy}
 use Rattle.conf_plan.specs.declared.strategy.Strategy.TheVariants.{Shortest, LearnersFirst, OneAtATime}
 use Rattle.conf_plan.specs.LearnersFirst.{learners_first_from_single}
-use Rattle.conf_plan.specs.PathBy.{Serves, path_by}
+use Rattle.conf_plan.specs.PathBy.{KeepsPromises, path_by}
 use Rattle.conf_plan.specs.Planned.{planned_from_single}
 use Rattle.plan_output.proofs.AutoLeave.{stays_till_last, stays_till_last-from_one_change, stays_till_last-learners_first, stays_till_last-left_first, stays_till_last-one_change_each, stays_till_last-planned_from_single}
 use Rattle.plan_output.proofs.LinesLead.{LinesLead-each_json}
@@ -14,15 +14,15 @@ use Rattle.plan_output.proofs.SingleChanges.{is_taken_as_it_is-one_change_each}
 use Rattle.plan_output.proofs.laws.json_lines_lead_to_the_target.Goals as goal
 
 -- the path of a strategy, by what it promises
-of_strategy : (strategy : Strategy) (down : Ids) (now target : Configuration) → Serves strategy down now (path_by strategy down now target) target
+of_strategy : (strategy : Strategy) (down : Ids) (now target : Configuration) → KeepsPromises strategy down now (path_by strategy down now target) target
     → stays_till_last (path_by strategy down now target) ≡ true
-of_strategy Shortest down now target serves =
+of_strategy Shortest down now target promises =
     stays_till_last-left_first (is_same now target) (is_joint now) (planned_from_single (after_leave now) target) (planned_from_single now target)
     (stays_till_last-planned_from_single (after_leave now) target) (stays_till_last-planned_from_single now target)
-of_strategy LearnersFirst down now target serves =
+of_strategy LearnersFirst down now target promises =
     stays_till_last-left_first (is_same now target) (is_joint now) (learners_first_from_single (after_leave now) target) (learners_first_from_single now target)
     (stays_till_last-learners_first (after_leave now) target) (stays_till_last-learners_first now target)
-of_strategy OneAtATime down now target serves = stays_till_last-from_one_change (path_by OneAtATime down now target) now target serves.run
+of_strategy OneAtATime down now target promises = stays_till_last-from_one_change (path_by OneAtATime down now target) now target promises.run
 
 pub returns : goal.returns
 returns c strategy made down plan now target is_now is_target has =
@@ -33,5 +33,5 @@ returns c strategy made down plan now target is_now is_target has =
     })
     down _ plan now _ target is_now (c.one_change_each_leads.ensures strategy made now target is_now is_target has)
     (stays_till_last-one_change_each (path_by strategy made now target)
-    (of_strategy strategy made now target (c.paths_serve.ensures.serves strategy made now target is_now is_target has)))
+    (of_strategy strategy made now target (c.paths_keep_promises.ensures.promises strategy made now target is_now is_target has)))
     (is_taken_as_it_is-one_change_each (path_by strategy made now target))

@@ -56,7 +56,7 @@ each-preserved g c =
     record {
       parts = parts;
       reached = subst (λ (s : ReaderState). Reached {A = g.row.P.Denot} g.S.Parts.coming (g.R.Source.remaining c.args.reader.now) (g.R.Source.remaining c.next_part.new.reader) s parts) same
-          (reached-next _ _ _ _ _ _ _ _ _ _ _ _ g.met.S.Parts.in_turn c.each.invariant.reached reads);
+          (reached-next _ _ _ _ _ _ _ _ _ _ _ g.met.S.Parts.in_turn c.each.invariant.reached reads);
       answered = λ total begun. c.in_ok-answer-in-Ok-Some.ensures.answered _ _ _ (g.met.M.PartByPart.stays _ _ _ _ _ _ (c.each.invariant.answered total begun) c.next_part.ensures.kept);
       counted = subst (λ (s : ReaderState). s.position.lines ≤ longest_input) same reads.counted;
       unread = reads.read c.each.invariant.reached.open_end ∙ or-false _ ∙ c.each.invariant.unread;
@@ -67,7 +67,7 @@ pub returns-in_err-answer-in-Ok-Some-clause-output : goal.returns-in_err-answer-
 returns-in_err-answer-in-Ok-Some-clause-output g c = λ total begun input more agrees.
     let p = err_from_is_err_and c.from_residual-in_err-answer-in-Ok-Some.result c.from_residual-in_err-answer-in-Ok-Some.ensures.1 in
     let reads = rw (c.in-Ok-Some.is, c.in-Ok-Some.field-0-is) at c.in_ok-read.ensures.reads in
-    let prefix = reached-part _ _ _ _ _ _ _ _ _ _ _ _ g.met.S.Parts.in_turn c.each.invariant.reached reads input more agrees in
+    let prefix = reached-part _ _ _ _ _ _ _ _ _ _ _ g.met.S.Parts.in_turn c.each.invariant.reached reads input more agrees in
     let answered = g.met.M.PartByPart.stays _ _ _ _ _ _ (c.each.invariant.answered total begun) c.next_part.ensures.kept in
     let part = c.in_err-answer-in-Ok-Some.ensures.part _ _ prefix.rest.items prefix.rest.fault _ answered in
     let before = g.W.Sink.contents c.args.writer.now in
@@ -84,7 +84,7 @@ end-requires g c = (c.requires.unwritten.0, c.each.invariant.parts, _, g.met.M.P
 pub returns-in-Ok-None-clause-output : goal.returns-in-Ok-None-clause-output
 returns-in-Ok-None-clause-output g c = λ total begun input more agrees.
     let reads = rw (c.in-Ok-None.is, c.in-Ok-None.field-0-is) at c.in_ok-read.ensures.reads in
-    let prefix = reached-end _ _ _ _ _ _ _ _ _ _ _ g.met.S.Parts.in_turn c.each.invariant.reached reads input more agrees in
+    let prefix = reached-end _ _ _ _ _ _ _ _ _ _ g.met.S.Parts.in_turn c.each.invariant.reached reads input more agrees in
     let answered = g.met.M.PartByPart.stays _ _ _ _ _ _ (c.each.invariant.answered total begun) c.next_part.ensures.kept in
     subst (λ s. Means (total s) c.end.result (g.W.Sink.contents c.args.writer.now) (g.W.Sink.contents c.end.new.writer)) (sym prefix) (c.end.ensures.output _ _ _ answered)
 
@@ -97,7 +97,7 @@ end-requires-in-Script g c = (c.requires.unwritten.0, c.each.invariant.parts, _,
 pub returns-in-Script-clause-output : goal.returns-in-Script-clause-output
 returns-in-Script-clause-output g c = λ total begun input more agrees.
     let converted = input-fault c.in-Err.fault c.in-Script.fault (sym c.in-Script.is ∙ c.from.ensures) in
-    let prefix = reached-fault _ _ _ _ _ _ _ _ _ _ _ _ g.met.S.Parts.in_turn c.each.invariant.reached (rw c.in-Err.is at c.in_ok-read.ensures.reads) (input-uncut _ _ converted) input more agrees
+    let prefix = reached-fault _ _ _ _ _ _ _ _ _ _ _ g.met.S.Parts.in_turn c.each.invariant.reached (rw c.in-Err.is at c.in_ok-read.ensures.reads) (input-uncut _ _ converted) input more agrees
     ∙ ap (λ f. script c.each.invariant.parts (Some f)) converted.same in
     let answered = g.met.M.PartByPart.stays _ _ _ _ _ _ (c.each.invariant.answered total begun) c.next_part.ensures.kept in
     subst (λ s. Means (total s) c.end-in-Script.result (g.W.Sink.contents c.args.writer.now) (g.W.Sink.contents c.end-in-Script.new.writer)) (sym prefix) (c.end-in-Script.ensures.output _ _ _ answered)

@@ -12,7 +12,7 @@ returns-in_err-write_steps-in-Ok-clause-part g c =
     let p = err_from_is_err_and c.from_residual.result c.from_residual.ensures.1 in
     rw (p.1, c.in-Ok.ensures.planned)
     (subst (λ steps. BreaksOff c.args.self.now.rewriter.newlines (g.W.Sink.contents c.args.writer.now) (g.W.Sink.contents c.write_steps.new.writer) (answered_text c.args.self.now.session (step_items steps)))
-    c.as_slice.ensures.steps c.in_err-write_steps-in-Ok.ensures.part)
+    (c.as_slice.ensures.steps ∙ c.deref.ensures.0) c.in_err-write_steps-in-Ok.ensures.part)
 
 pub returns-in_err-write_comment-in_default : goal.returns-in_err-write_comment-in_default
 returns-in_err-write_comment-in_default g c =

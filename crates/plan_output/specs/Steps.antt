@@ -1,0 +1,32 @@
+-- The lines of a path, with a note before them if the path stalls with the ids that are down (own).
+use Rattle.std.specs.Prelude.{ℕ, List, [], ◌++◌, codes, Option, Some, None, if◌then◌else◌}
+use Rattle.ascii_text.specs.Lines.{newline}
+use Rattle.quorum_sets.specs.Ids.{Ids, no_ids, ascending}
+use Rattle.conf_change.specs.Configuration.{Configuration}
+use Rattle.conf_change.specs.Text.{spaced_numbers}
+use Rattle.conf_change.specs.declared.step.Step.{Step}
+use Rattle.conf_plan.specs.PlanText.{plan_text}
+use Rattle.plan_output.specs.Stages.{stalls}
+
+-- the ids that are down: none if none are given
+abbrev pub ids_down : Option Ids → Ids
+ids_down None = no_ids
+ids_down (Some down) = down
+
+-- that a path stalls while these ids are down: stalls with 4 5 down
+abbrev pub stall_text : Ids → List ℕ
+stall_text down = codes "stalls with " ++ spaced_numbers (ascending down) ++ codes " down"
+
+-- the note that a path stalls, if ids are down and it stalls then
+abbrev pub stall_note : Option Ids → Configuration → List Step → Option (List ℕ)
+stall_note None now steps = None
+stall_note (Some down) now steps = if stalls now steps down then Some (stall_text down) else None
+
+-- a note as a comment line; nothing if there is none
+abbrev pub note_line : Option (List ℕ) → List ℕ
+note_line None = []
+note_line (Some note) = codes "# " ++ note ++ newline
+
+-- the text of a path by its steps; a comment before them reports that the path stalls with the ids that are down
+abbrev pub steps_text : Option Ids → Configuration → List Step → List ℕ
+steps_text down now steps = note_line (stall_note down now steps) ++ plan_text steps

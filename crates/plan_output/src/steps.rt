@@ -1,0 +1,67 @@
+//! The lines of a path. If the path stalls with the ids that are down, a note comes first:
+//!
+//! ```text
+//! # stalls with 4 5 down
+//! simple r4
+//! simple r5
+//! ```
+ghost use Rattle.std.specs.Prelude.{◌≡◌, ◌++◌, Ok, option_copied, option_map, IfOk, OnOk};
+ghost use Rattle.conf_plan.specs.PlanCode.{path_in};
+ghost use Rattle.conf_plan.specs.PlanText.{plan_text};
+ghost use Rattle.plan_output.specs.Steps as spec;
+ghost use Rattle.plan_output.specs.Steps.{note_line};
+
+use crate::cells::ids_text;
+use crate::stage::stalls;
+use conf_change::Config;
+use conf_plan::{Path, print_path};
+use quorum_sets::{MemberSet, NoMemory};
+use std::alloc::Global;
+
+/// The note that a path stalls with the ids that are down, such as `stalls with 4 5 down`. `None` if it does not stall,
+/// or if no ids are given (own).
+pub fn stall_note<S: MemberSet>(
+    alloc: Global,
+    now: &Config<S>,
+    path: &Path,
+    down: Option<&S>,
+) -> Result<Option<Vec<u8>>, NoMemory>
+    ensures { IfOk result (λ note. option_map (λ note. note.items) note ≡ spec.stall_note (option_map S.ids (option_copied down.entry)) now.now path.now) }
+{
+    match down {
+        Some(down) if stalls(alloc, now, path, down)? => Ok(Some(stall_text(alloc, down)?)),
+        _ => Ok(None),
+    }
+}
+
+// The text of that note.
+fn stall_text<S: MemberSet>(alloc: Global, down: &S) -> Result<Vec<u8>, NoMemory>
+    ensures { IfOk result (λ text. text.items ≡ spec.stall_text (S.ids down.now)) }
+{
+    let mut text = Vec::from_slice(alloc, b"stalls with ")?;
+    text.extend_from_slice(ids_text(alloc, down)?.as_slice())?;
+    text.extend_from_slice(b" down")?;
+    Ok(text)
+}
+
+/// Appends the lines of a path, and before them a note as a comment, if there is one. `conf_plan::read_path` reads the
+/// lines as the same steps. On `NoMemory` the contents of the text are unspecified (own).
+pub fn add_steps(text: &mut Vec<u8>, note: Option<&Vec<u8>>, path: &Path) -> Result<(), NoMemory>
+    ensures ok { OnOk result (text.new.items ≡ text.old.items ++ note_line (option_map (λ note. note.now.items) note.entry) ++ plan_text path.now) }
+    ensures reads_back { OnOk result (path_in (plan_text path.now) ≡ Ok path.now) }
+{
+    write_note(text, note)?;
+    print_path(text, path)
+}
+
+// Appends a note as a comment line, if there is one.
+fn write_note(text: &mut Vec<u8>, note: Option<&Vec<u8>>) -> Result<(), NoMemory>
+    ensures { OnOk result (text.new.items ≡ text.old.items ++ note_line (option_map (λ note. note.now.items) note.entry)) }
+{
+    if let Some(note) = note {
+        text.extend_from_slice(b"# ")?;
+        text.extend_from_slice(note.as_slice())?;
+        text.push(b'\n')?;
+    }
+    Ok(())
+}
