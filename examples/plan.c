@@ -6,15 +6,16 @@
 #include "confscript.h"
 
 static const char now[] = "Voters:[1 2 3] VotersOutgoing:[] Learners:[] LearnersNext:[] AutoLeave:false";
-static const char target[] = "Voters:[2 3 5] VotersOutgoing:[] Learners:[] LearnersNext:[] AutoLeave:false";
+static const char target[] = "r1 v5";
 
 static const uint8_t *bytes(const char *text) { return (const uint8_t *)text; }
 
 int main(void) {
     uint8_t plan[512], after[512];
+    const uint64_t none[1] = {0}; /* no ids are down; the pointer must not be NULL */
 
-    struct confscript_answer planned =
-        confscript_plan(bytes(now), strlen(now), bytes(target), strlen(target), CONFSCRIPT_SHORTEST, plan, sizeof plan);
+    struct confscript_answer planned = confscript_plan(bytes(now), strlen(now), bytes(target), strlen(target),
+                                                       CONFSCRIPT_SHORTEST, CONFSCRIPT_STEPS, none, 0, plan, sizeof plan);
     if (planned.status != CONFSCRIPT_DONE) {
         fprintf(stderr, "no plan: status %u, number %llu\n", (unsigned)planned.status, (unsigned long long)planned.number);
         return 1;

@@ -2,6 +2,6 @@
 import confscript
 
 now = "Voters:[1 2 3] VotersOutgoing:[] Learners:[] LearnersNext:[] AutoLeave:false"
-steps = confscript.plan(now, "Voters:[2 3 5] VotersOutgoing:[] Learners:[] LearnersNext:[] AutoLeave:false")
+steps = confscript.plan(now, "r1 v5")
 print(steps + confscript.apply(now, steps))
 print("committed", confscript.committed([2, 3, 5], [], {2: 9, 3: 7}))

@@ -4,7 +4,8 @@
  *
  * A configuration is passed as a ConfState line, with or without a newline:
  *     Voters:[1 2 3] VotersOutgoing:[] Learners:[4] LearnersNext:[] AutoLeave:false
- * A plan is passed as its lines, each with a newline:
+ * confscript_plan takes it in any form that the program's mode plan reads. A plan is passed as its lines, each with a
+ * newline:
  *     enter-joint autoleave=false r1 v5
  *     leave-joint
  * docs/SPECIFICATION.md has both forms, and what each change does.
@@ -23,7 +24,7 @@
  * - malloc, realloc and free belong to one allocator, which aligns a block as malloc of the C library does.
  * - No call comes from a signal handler, or from the forked child of a process with threads. Otherwise any thread may
  *   call, also at the same time as others.
- * - The processor is an x86-64 of level v2.
+ * - The processor is an x86-64 of level v2, or an arm64, as the library was built for.
  */
 #ifndef CONFSCRIPT_H
 #define CONFSCRIPT_H
@@ -50,21 +51,22 @@ enum confscript_status {
     /* Memory ran out. Nothing is written. */
     CONFSCRIPT_NO_MEMORY = 2,
 
-    /* A text is not a ConfState line. The number is 1 for the first text of the call, and 2 for the second. */
+    /* A text is not a ConfState line; for confscript_plan, it begins as one, with `Voters:`. The number is 1 for the
+       first text of the call, and 2 for the second. */
     CONFSCRIPT_BAD_CONF_STATE = 3,
-    /* A list names an id twice. confscript_restore and _step: the number is the id, the first such one of the first such
-       list. confscript_check: 0. */
+    /* confscript_check, _restore and _step: a list names an id twice. The number is the id, the first such one of the
+       first such list. */
     CONFSCRIPT_REPEATED_ID = 4,
-    /* The line names no configuration that the call accepts. confscript_check says why, with one exception: it accepts
-       a valid configuration with members but no incoming voter, and confscript_apply does not. The number is as for
-       CONFSCRIPT_BAD_CONF_STATE. */
+    /* A text names no configuration that the call accepts. confscript_check says why of a ConfState line, with one
+       exception: it accepts a valid configuration with members but no incoming voter, and confscript_apply does not. The
+       number is as for CONFSCRIPT_BAD_CONF_STATE. */
     CONFSCRIPT_NOT_A_CONFIGURATION = 5,
     /* confscript_plan: there is no plan, since a configuration has no incoming voter. The number is 1 for the first, and
        2 for the second. confscript_restore and _step: the configuration has members but no incoming voter. */
     CONFSCRIPT_NO_VOTER = 6,
     /* A line of the plan is not a step. The number is that of the line, counted from 1. */
     CONFSCRIPT_BAD_LINE = 7,
-    /* The plan has a fifth line. */
+    /* No longer returned: a plan may have any number of lines. */
     CONFSCRIPT_TOO_MANY_STEPS = 8,
 
     /* confscript_apply and _step: a step is refused. confscript_apply: the number is that of the step, counted from 1. */
@@ -75,9 +77,9 @@ enum confscript_status {
     CONFSCRIPT_REMOVED_ALL_VOTERS = 13,
     CONFSCRIPT_MORE_THAN_ONE_VOTER = 14,
 
-    /* confscript_check, _restore and _step: the first of these that is broken, in this order. confscript_restore and
-       _step: for 16 to 19 the number is the least id that breaks it. */
-    CONFSCRIPT_ZERO_ID = 15,                    /* a set holds the id 0 */
+    /* confscript_check, _restore and _step: the first of these that is broken, in this order. For 16 to 19 the number is
+       the least id that breaks it. */
+    CONFSCRIPT_ZERO_ID = 15,                    /* a set holds the id 0; confscript_plan: an id that is down is 0 */
     CONFSCRIPT_NEXT_NOT_OUTGOING = 16,          /* a next learner is not an outgoing voter */
     CONFSCRIPT_NEXT_AND_INCOMING = 17,          /* a next learner is an incoming voter */
     CONFSCRIPT_LEARNER_AND_VOTER = 18,          /* a learner is a voter */
@@ -102,14 +104,30 @@ enum confscript_status {
     CONFSCRIPT_BAD_STEP = 26,
     /* confscript_step: the kind of a change is not one of enum confscript_change_kind. The number is that of the change,
        counted from 1. */
-    CONFSCRIPT_BAD_CHANGE = 27
+    CONFSCRIPT_BAD_CHANGE = 27,
+
+    /* confscript_plan: the output is not one of enum confscript_output. */
+    CONFSCRIPT_BAD_OUTPUT = 28,
+    /* confscript_plan: a text cannot be read. How it begins decides in which form it is read. The number is as for
+       CONFSCRIPT_BAD_CONF_STATE. */
+    CONFSCRIPT_UNKNOWN_FORM = 29,   /* the first text begins as no form of a configuration does */
+    CONFSCRIPT_BAD_PRINTED = 30,    /* it begins with `voters`, and is not a printed configuration */
+    CONFSCRIPT_BAD_JSON = 31,       /* it begins with `{`, and is not the JSON of a configuration */
+    CONFSCRIPT_BAD_CHANGE_LIST = 32 /* the second text is in no other form, and not a list of changes */
 };
 
 /* How confscript_plan goes from one configuration to another. */
 enum confscript_strategy {
     CONFSCRIPT_SHORTEST = 0,       /* by as few steps as possible, at most four */
     CONFSCRIPT_LEARNERS_FIRST = 1, /* new voters are learners first, so that they can catch up before they vote */
-    CONFSCRIPT_ONE_AT_A_TIME = 2   /* a step changes one member; no plan leads into a joint configuration */
+    CONFSCRIPT_ONE_AT_A_TIME = 2   /* one member changes a step, once a joint one is left; no plan leads into one */
+};
+
+/* What confscript_plan writes. docs/SPECIFICATION.md has the table and the JSON. */
+enum confscript_output {
+    CONFSCRIPT_STEPS = 0, /* a line for each step, as confscript_apply takes them */
+    CONFSCRIPT_TABLE = 1, /* who votes on the way, and how many failures the cluster tolerates there, for a reader */
+    CONFSCRIPT_JSON = 2   /* an object on a line for each proposal to etcd's raft, for a program */
 };
 
 /* The vote of a voter. */
@@ -183,11 +201,26 @@ uint32_t confscript_version(void);
 struct confscript_answer confscript_status_text(uint32_t status, uint8_t *out, size_t out_len);
 
 /*
- * Writes to `out` the plan from the configuration of one ConfState line to that of another, by an
- * enum confscript_strategy. Both configurations must be valid and have an incoming voter. The voters before and after
- * each step overlap, and no configuration on the way tolerates fewer failures than the weaker end, once its members
- * have caught up. If there is nothing to do, the plan is the line `nothing to do`. The text does not end with a zero
- * byte. The number is its length in bytes.
+ * Writes to `out` the plan from one configuration to another, by an enum confscript_strategy, as an
+ * enum confscript_output: what the program's mode plan prints for the pair. Each text is a configuration in one of these
+ * forms:
+ *     voters=(1 2 3)&&(1 2) learners=(4) learners_next=(1) autoleave       as the program prints it
+ *     Voters:[1 2 3] VotersOutgoing:[] Learners:[4] LearnersNext:[] AutoLeave:false
+ *     {"voters":[1,2,3],"learners":[4]}                                     a raftpb.ConfState in JSON
+ *     {"members":[{"ID":1},{"ID":2},{"ID":4,"isLearner":true}]}             etcdctl member list -w json
+ * The target may also be a list of changes, such as `r1 v4 l5`, which are made at once in the first configuration; if
+ * that is joint, it is left first. An empty text is a list of no changes.
+ *
+ * `down` has the ids that are down, in any order; for none, `down_len` is 0. With CONFSCRIPT_ONE_AT_A_TIME, voters that
+ * are down are removed first, as etcd's server demands, if both configurations commit without them. If ids are down,
+ * the table and the JSON report how many others may be down on the way. If nothing commits in some configuration of the
+ * plan, the plan stalls: then the steps begin with the line `# stalls with 4 5 down`, which confscript_apply does not
+ * take.
+ *
+ * Both configurations must be valid and have an incoming voter. The voters before and after each step overlap, and no
+ * configuration on the way tolerates fewer failures than the weaker end, once its members have caught up; with
+ * CONFSCRIPT_ONE_AT_A_TIME, fewer besides the ids that are down. If there is nothing to do, the steps are the line
+ * `nothing to do`. The text does not end with a zero byte. The number is its length in bytes.
  *
  * - CONFSCRIPT_SHORTEST: at most four steps. No plan has fewer steps, or names a member in fewer changes; a member that
  *   can keep its progress keeps it. A plan does not see logs: a new voter begins with an empty one, so from [1 2 3] to
@@ -202,18 +235,18 @@ struct confscript_answer confscript_status_text(uint32_t status, uint8_t *out, s
  * needs a new id. Under the old one it could vote twice in a term, and two leaders could commit different entries.
  *
  * A step `simple` may have several changes, at most one of which changes who votes. To keep the step simple in etcd,
- * propose each change as a ConfChangeV2 of its own. If they are proposed as a single ConfChangeV2, etcd's raft takes
- * them through a joint configuration, which it leaves by itself.
+ * propose each change as a ConfChangeV2 of its own, as the JSON has them. If they are proposed as a single ConfChangeV2,
+ * etcd's raft takes them through a joint configuration, which it leaves by itself.
  */
 struct confscript_answer confscript_plan(const uint8_t *now, size_t now_len, const uint8_t *target, size_t target_len,
-                                         uint32_t strategy, uint8_t *out, size_t out_len);
+                                         uint32_t strategy, uint32_t output, const uint64_t *down, size_t down_len,
+                                         uint8_t *out, size_t out_len);
 
 /*
- * Applies the steps of a plan to the configuration of a ConfState line. A single step is a plan of one line. A call
- * takes at most four lines: apply a longer plan four lines a call, each call to the line that the call before wrote.
- * The ConfState line of the result is written to `out`, its lists in ascending order, without a newline or a zero byte
- * at its end. The number is its length in bytes. The first configuration must be valid, and have an incoming voter or
- * no members.
+ * Applies the steps of a plan to the configuration of a ConfState line. A single step is a plan of one line, and a plan
+ * may be applied in parts, each to the line that the call before wrote. The ConfState line of the result is written to
+ * `out`, its lists in ascending order, without a newline or a zero byte at its end. The number is its length in bytes.
+ * The first configuration must be valid, and have an incoming voter or no members.
  */
 struct confscript_answer confscript_apply(const uint8_t *state, size_t state_len, const uint8_t *plan, size_t plan_len,
                                           uint8_t *out, size_t out_len);

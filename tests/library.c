@@ -42,7 +42,7 @@ void __wrap_free(void *block) {
     __real_free(block);
 }
 
-enum { ROOM = 256, MARK = 0xA5 };
+enum { ROOM = 4096, MARK = 0xA5 };
 static uint8_t out[ROOM];
 
 static void report(const char *name, int holds, struct confscript_answer got) {
@@ -65,10 +65,12 @@ typedef struct confscript_answer (*call)(void);
 
 static const char *first, *second;
 static size_t room;
-static uint32_t strategy = CONFSCRIPT_SHORTEST;
+static uint32_t strategy = CONFSCRIPT_SHORTEST, output = CONFSCRIPT_STEPS;
+static uint64_t down[8];
+static size_t down_len;
 
 static struct confscript_answer plan(void) {
-    return confscript_plan(bytes(first), strlen(first), bytes(second), strlen(second), strategy, out, room);
+    return confscript_plan(bytes(first), strlen(first), bytes(second), strlen(second), strategy, output, down, down_len, out, room);
 }
 static struct confscript_answer apply(void) {
     return confscript_apply(bytes(first), strlen(first), bytes(second), strlen(second), out, room);
@@ -125,7 +127,7 @@ static void expect(const char *name, call which, uint32_t status, uint64_t numbe
         got = called(which, granted);
         if (live != 0) { report(name, 0, got); printf("FAILED: %s: %ld blocks are kept\n", name, live); live = 0; return; }
         if (got.status != CONFSCRIPT_NO_MEMORY) break;
-        if (got.number != 0 || !holds_text("") || granted > 1000) { report(name, 0, got); return; }
+        if (got.number != 0 || !holds_text("") || granted > 10000) { report(name, 0, got); return; }
     }
     report(name, got.status == status && got.number == number && holds_text(text), got);
 }
@@ -164,7 +166,8 @@ static void texts(void) {
         "more than one voter changed without entering joint config", "the id 0", "a next learner is not an outgoing voter",
         "a next learner is an incoming voter", "a learner is a voter", "next learners without outgoing voters",
         "auto-leave without outgoing voters", "the counts do not match the length", "a vote is neither 0, 1 nor 2",
-        "the voters are no quorum", "unknown strategy", "the target is joint", "unknown step", "unknown kind of change", "unknown status"};
+        "the voters are no quorum", "unknown strategy", "the target is joint", "unknown step", "unknown kind of change", "unknown output",
+        "no form of a configuration", "not a printed configuration", "not the JSON of a configuration", "not a list of changes", "unknown status"};
     room = ROOM;
     for (code = 0; code < sizeof words / sizeof *words; code++)
         expect(words[code], status_text, CONFSCRIPT_DONE, strlen(words[code]), words[code]);
@@ -175,6 +178,9 @@ static void texts(void) {
     struct confscript_answer version = {0, confscript_version()};
     report("the version of the library is that of its header", version.number == CONFSCRIPT_VERSION, version);
 }
+
+static size_t set(uint64_t *to, size_t n, const uint64_t *from) { memcpy(to, from, n * sizeof *to); return n; }
+#define SET(name, ...) name##_len = set(name, sizeof((uint64_t[]){__VA_ARGS__}) / sizeof(uint64_t), (const uint64_t[]){__VA_ARGS__})
 
 #define LINE(voters, leaving, learners, next, leave) \
     "Voters:[" voters "] VotersOutgoing:[" leaving "] Learners:[" learners "] LearnersNext:[" next "] AutoLeave:" leave
@@ -194,7 +200,7 @@ static void plans(void) {
     expect("plan: nothing to do", plan, CONFSCRIPT_DONE, 14, "nothing to do\n");
     on_texts("Voters:[1]", two);
     expect("plan: the first is no line", plan, CONFSCRIPT_BAD_CONF_STATE, 1, "");
-    on_texts(one, "");
+    on_texts(one, "Voters:[2]");
     expect("plan: the second is no line", plan, CONFSCRIPT_BAD_CONF_STATE, 2, "");
     on_texts(LINE("1 1", "", "", "", "false"), "");
     expect("plan: the first is no configuration", plan, CONFSCRIPT_NOT_A_CONFIGURATION, 1, "");
@@ -204,6 +210,113 @@ static void plans(void) {
     expect("plan: the first has no voter", plan, CONFSCRIPT_NO_VOTER, 1, "");
     on_texts(one, LINE("", "", "", "", "false"));
     expect("plan: the second has no voter", plan, CONFSCRIPT_NO_VOTER, 2, "");
+}
+
+/* The configurations (1 2 3) and (2 3 5) in each form, from each form of the one to each of the other. */
+static void forms(void) {
+    static const char *const from[] = {
+        LINE("1 2 3", "", "", "", "false"), "voters=(1 2 3)", "{\"voters\":[1,2,3]}", "{\"members\":[{\"ID\":1,\"name\":\"a\"},{\"ID\":2},{\"ID\":3}]}"};
+    static const char *const to[] = {
+        LINE("2 3 5", "", "", "", "false"), " voters=(2 3 5)\n", "{\"voters\":[5,3,2]}", "{\"members\":[{\"ID\":2},{\"ID\":3},{\"ID\":5}]}", "r1 v5"};
+    const char *steps = "enter-joint autoleave=false r1 v5\nleave-joint\n";
+    for (size_t i = 0; i < sizeof from / sizeof *from; i++) for (size_t k = 0; k < sizeof to / sizeof *to; k++) {
+        char name[64];
+        snprintf(name, sizeof name, "form: %zu to %zu", i, k);
+        on_texts(from[i], to[k]);
+        expect(name, plan, CONFSCRIPT_DONE, strlen(steps), steps);
+    }
+    on_texts("voters=(1 2)&&(1 2 3) learners=(4) learners_next=(3) autoleave", LINE("1 2", "1 2 3", "4", "3", "true"));
+    expect("form: a joint configuration, printed", plan, CONFSCRIPT_DONE, 14, "nothing to do\n");
+    on_texts("{\"members\":[{\"ID\":18446744073709551615},{\"ID\":4,\"isLearner\":true}]}", "voters=(18446744073709551615) learners=(4)");
+    expect("form: a list of members with a learner", plan, CONFSCRIPT_DONE, 14, "nothing to do\n");
+    on_texts("voters=(2 3 4)&&(1 2 3)", "r2");
+    expect("form: changes, where the first is joint", plan, CONFSCRIPT_DONE, 22, "leave-joint\nsimple r2\n");
+    on_texts("voters=(1)", "");
+    expect("form: no changes", plan, CONFSCRIPT_DONE, 14, "nothing to do\n");
+    on_texts("voters=(1)", "r1");
+    expect("form: changes that leave no voter", plan, CONFSCRIPT_NO_VOTER, 2, "");
+    on_texts("", "v1");
+    expect("form: the first is empty", plan, CONFSCRIPT_UNKNOWN_FORM, 1, "");
+    on_texts("v1", "v1");
+    expect("form: the first is a list of changes", plan, CONFSCRIPT_UNKNOWN_FORM, 1, "");
+    on_texts("voters(1)", "x");
+    expect("form: the first is badly printed", plan, CONFSCRIPT_BAD_PRINTED, 1, "");
+    on_texts("voters=(1)", "voters=(1");
+    expect("form: the second is badly printed", plan, CONFSCRIPT_BAD_PRINTED, 2, "");
+    on_texts("{}}", "x");
+    expect("form: the first is bad JSON", plan, CONFSCRIPT_BAD_JSON, 1, "");
+    on_texts("voters=(1)", "{\"voters\":[-1]}");
+    expect("form: the second is bad JSON", plan, CONFSCRIPT_BAD_JSON, 2, "");
+    on_texts("voters=(1)", "v2 x3");
+    expect("form: the second is in no form", plan, CONFSCRIPT_BAD_CHANGE_LIST, 2, "");
+    on_texts("voters=(1) learners=(1)", "x");
+    expect("form: the first is printed, and not valid", plan, CONFSCRIPT_NOT_A_CONFIGURATION, 1, "");
+    on_texts("voters=(1)", "{\"voters\":[2],\"learners\":[2]}");
+    expect("form: the second is JSON, and not valid", plan, CONFSCRIPT_NOT_A_CONFIGURATION, 2, "");
+}
+
+#define STATE(learners, voters, outgoing) \
+    "\"conf_state\":{\"auto_leave\":false,\"learners\":[" learners "],\"learners_next\":[],\"voters\":[" voters "],\"voters_outgoing\":[" outgoing "]}"
+
+/* Each output, also with ids down. */
+static void outputs(void) {
+    static const char lines[] =
+        "{\"catch_up\":[6],\"conf_change\":{\"changes\":[{\"node_id\":6,\"type\":\"ConfChangeAddLearnerNode\"}],\"transition\":\"ConfChangeTransitionAuto\"},"
+        STATE("6", "1,2,3,4,5", "") ",\"may_be_down\":2,\"plan\":1,\"step\":1,\"steps\":4,\"until_then\":2}\n"
+        "{\"catch_up\":[7],\"conf_change\":{\"changes\":[{\"node_id\":7,\"type\":\"ConfChangeAddLearnerNode\"}],\"transition\":\"ConfChangeTransitionAuto\"},"
+        STATE("6,7", "1,2,3,4,5", "") ",\"may_be_down\":2,\"plan\":1,\"step\":2,\"steps\":4,\"until_then\":2}\n"
+        "{\"catch_up\":[],\"conf_change\":{\"changes\":[{\"node_id\":1,\"type\":\"ConfChangeRemoveNode\"},{\"node_id\":2,\"type\":\"ConfChangeRemoveNode\"},"
+        "{\"node_id\":6,\"type\":\"ConfChangeAddNode\"},{\"node_id\":7,\"type\":\"ConfChangeAddNode\"}],\"transition\":\"ConfChangeTransitionJointExplicit\"},"
+        STATE("", "3,4,5,6,7", "1,2,3,4,5") ",\"may_be_down\":2,\"plan\":1,\"step\":3,\"steps\":4,\"until_then\":2}\n"
+        "{\"catch_up\":[],\"conf_change\":{\"changes\":[],\"transition\":\"ConfChangeTransitionAuto\"},"
+        STATE("", "3,4,5,6,7", "") ",\"may_be_down\":2,\"plan\":1,\"step\":4,\"steps\":4,\"until_then\":2}\n";
+    static const char besides[] =
+        "step                                       1 2 3 4 5 6 7  majority           may be down  catch up  until then  besides 4 5\n"
+        "now                                        V V V V V . .  3 of 5             2                                  0\n"
+        "1 simple l6 l7                             V V V V V L L  3 of 5             2            6 7       2           0\n"
+        "2 enter-joint autoleave=false r4 r5 v6 v7  V V V - - + +  3 of 5 and 3 of 5  2                                  0\n"
+        "3 leave-joint                              V V V . . V V  3 of 5             2                                  2\n";
+    static const char table[] =
+        "step         1 2  majority  may be down  catch up  until then\n"
+        "now          V .  1 of 1    0\n"
+        "1 simple v2  V V  2 of 2    0            2         stalls\n";
+    const char *retired = "simple r4\nsimple r5\nsimple l6\nsimple v6\nsimple l7\nsimple v7\n";
+    strategy = CONFSCRIPT_LEARNERS_FIRST;
+    output = CONFSCRIPT_JSON;
+    on_texts("voters=(1 2 3 4 5)", "r1 r2 v6 v7");
+    expect("output: JSON", plan, CONFSCRIPT_DONE, strlen(lines), lines);
+    room = strlen(lines) - 1;
+    expect("output: JSON, one byte too small", plan, CONFSCRIPT_TOO_SMALL, strlen(lines), "");
+    output = CONFSCRIPT_TABLE;
+    on_texts("voters=(1 2 3 4 5)", "r4 r5 v6 v7");
+    SET(down, 5, 4, 5);
+    expect("output: a table with ids down", plan, CONFSCRIPT_DONE, strlen(besides), besides);
+    strategy = CONFSCRIPT_ONE_AT_A_TIME;
+    output = CONFSCRIPT_STEPS;
+    expect("output: steps with ids down, which are removed first", plan, CONFSCRIPT_DONE, strlen(retired), retired);
+    strategy = CONFSCRIPT_SHORTEST;
+    on_texts("voters=(1 2 3)", "");
+    SET(down, 1, 2);
+    expect("output: steps that stall", plan, CONFSCRIPT_DONE, 37, "# stalls with 1 2 down\nnothing to do\n");
+    output = CONFSCRIPT_JSON;
+    expect("output: JSON of a plan that stalls", plan, CONFSCRIPT_DONE, 35, "{\"plan\":1,\"stalls\":true,\"steps\":0}\n");
+    down_len = 0;
+    expect("output: JSON of nothing to do", plan, CONFSCRIPT_DONE, 21, "{\"plan\":1,\"steps\":0}\n");
+    output = CONFSCRIPT_TABLE;
+    on_texts("voters=(1)", "v2");
+    expect("output: a table", plan, CONFSCRIPT_DONE, strlen(table), table);
+    on_texts("", "");
+    SET(down, 1, 0);
+    expect("output: the id 0 is down", plan, CONFSCRIPT_ZERO_ID, 0, "");
+    output = 3;
+    expect("output: not one", plan, CONFSCRIPT_BAD_OUTPUT, 0, "");
+    output = UINT32_MAX;
+    expect("output: the greatest number", plan, CONFSCRIPT_BAD_OUTPUT, 0, "");
+    strategy = 3;
+    expect("output: the strategy is looked at first", plan, CONFSCRIPT_BAD_STRATEGY, 0, "");
+    strategy = CONFSCRIPT_SHORTEST;
+    output = CONFSCRIPT_STEPS;
+    down_len = 0;
 }
 
 static void strategies(void) {
@@ -231,7 +344,7 @@ static void strategies(void) {
 
 static void applies(void) {
     const char *one = LINE("1", "", "", "", "false"), *joint = LINE("2", "1", "", "", "false"), *none = LINE("", "", "", "", "false");
-    const char *both = LINE("1 2", "", "", "", "false");
+    const char *both = LINE("1 2", "", "", "", "false"), *six = LINE("2", "", "3", "", "false");
     on_texts(one, "simple v2");
     expect("apply: one change", apply, CONFSCRIPT_DONE, strlen(both), both);
     room = strlen(both);
@@ -252,8 +365,12 @@ static void applies(void) {
     expect("apply: the empty plan text", apply, CONFSCRIPT_BAD_LINE, 1, "");
     on_texts(one, "simple v2\nsimple x\n");
     expect("apply: a bad line", apply, CONFSCRIPT_BAD_LINE, 2, "");
-    on_texts(one, "simple\nsimple\nsimple\nsimple\nsimple\n");
-    expect("apply: a fifth line", apply, CONFSCRIPT_TOO_MANY_STEPS, 0, "");
+    on_texts(one, "simple l2\nsimple v2\nsimple l3\nsimple v3\nsimple r1\nsimple l3\n");
+    expect("apply: six lines", apply, CONFSCRIPT_DONE, strlen(six), six);
+    on_texts(one, "simple\nsimple\nsimple\nsimple\nsimple\nleave-joint\n");
+    expect("apply: the sixth step is refused", apply, CONFSCRIPT_NOT_JOINT, 6, "");
+    on_texts(one, "simple\nsimple\nsimple\nsimple\nsimple\nsimple x\n");
+    expect("apply: the sixth line is bad", apply, CONFSCRIPT_BAD_LINE, 6, "");
     on_texts(one, "simple v2\nenter-joint autoleave=true v3\nenter-joint autoleave=true\n");
     expect("apply: already joint", apply, CONFSCRIPT_ALREADY_JOINT, 3, "");
     on_texts(none, "enter-joint autoleave=false v1\n");
@@ -276,21 +393,18 @@ static void checks(void) {
     on_texts(LINE("1", "", "", "", "no"), "");
     expect("check: no line", check, CONFSCRIPT_BAD_CONF_STATE, 1, "");
     on_texts(LINE("0", "", "2 2", "", "false"), "");
-    expect("check: an id twice", check, CONFSCRIPT_REPEATED_ID, 0, "");
+    expect("check: an id twice", check, CONFSCRIPT_REPEATED_ID, 2, "");
     on_texts(LINE("0", "", "0", "", "false"), "");
     expect("check: the id 0", check, CONFSCRIPT_ZERO_ID, 0, "");
     on_texts(LINE("1", "2", "", "1", "false"), "");
-    expect("check: next, not outgoing", check, CONFSCRIPT_NEXT_NOT_OUTGOING, 0, "");
+    expect("check: next, not outgoing", check, CONFSCRIPT_NEXT_NOT_OUTGOING, 1, "");
     on_texts(LINE("1", "1", "", "1", "false"), "");
-    expect("check: next and incoming", check, CONFSCRIPT_NEXT_AND_INCOMING, 0, "");
+    expect("check: next and incoming", check, CONFSCRIPT_NEXT_AND_INCOMING, 1, "");
     on_texts(LINE("1", "", "1", "", "true"), "");
-    expect("check: learner and voter", check, CONFSCRIPT_LEARNER_AND_VOTER, 0, "");
+    expect("check: learner and voter", check, CONFSCRIPT_LEARNER_AND_VOTER, 1, "");
     on_texts(LINE("1", "", "", "", "true"), "");
     expect("check: auto-leave, not joint", check, CONFSCRIPT_NOT_JOINT_BUT_AUTO_LEAVE, 0, "");
 }
-
-static size_t set(uint64_t *to, size_t n, const uint64_t *from) { memcpy(to, from, n * sizeof *to); return n; }
-#define SET(name, ...) name##_len = set(name, sizeof((uint64_t[]){__VA_ARGS__}) / sizeof(uint64_t), (const uint64_t[]){__VA_ARGS__})
 
 /* Expects a committed index, takes no memory for it, and leaves the indexes of both sets, in any order. */
 static void commits(const char *name, uint64_t index) {
@@ -546,12 +660,12 @@ static void refused_steps(void) {
     REFUSED("step: not a valid configuration", step, CONFSCRIPT_LEARNER_AND_VOTER, 2);
 }
 
-/* Applies a plan to a line, four steps in each call, and writes the last result to `line`. */
-static struct confscript_answer applied(char *line, const char *steps) {
+/* Applies a plan to a line, so many lines in each call, and writes the last result to `line`. */
+static struct confscript_answer applied(char *line, const char *steps, int lines) {
     struct confscript_answer answer;
     do {
         const char *end = steps;
-        for (int i = 0; i < 4 && *end; i++) end = strchr(end, '\n') + 1;
+        for (int i = 0; i < lines && *end; i++) end = strchr(end, '\n') + 1;
         char part[ROOM + 1];
         memcpy(part, steps, end - steps);
         part[end - steps] = '\0';
@@ -565,7 +679,8 @@ static struct confscript_answer applied(char *line, const char *steps) {
     return answer;
 }
 
-/* Plans from each line to each other one by each strategy, and applies the plan: the result has to be the other line. */
+/* Plans from each line to each other one by each strategy, and applies the plan, at once and in parts of one and of four
+   lines: the result has to be the other line. */
 static void rounds(void) {
     static const char *const lines[] = {
         LINE("1", "", "", "", "false"),
@@ -574,6 +689,7 @@ static void rounds(void) {
         LINE("1 2 3", "1 2 4 6", "5", "4", "false"),
         LINE("7 18446744073709551615", "", "1 2", "", "false"),
     };
+    static const int parts[] = {ROOM, 1, 4};
     size_t n = sizeof lines / sizeof *lines;
     for (strategy = CONFSCRIPT_SHORTEST; strategy <= CONFSCRIPT_ONE_AT_A_TIME; strategy++)
     for (size_t i = 0; i < n; i++) for (size_t k = 0; k < n; k++) {
@@ -586,15 +702,19 @@ static void rounds(void) {
         if (planned.status != CONFSCRIPT_DONE) { report(name, 0, planned); continue; }
         memcpy(steps, out, planned.number);
         steps[planned.number] = '\0';
-        strcpy(line, lines[i]);
-        struct confscript_answer got = applied(line, steps);
-        report(name, got.status == CONFSCRIPT_DONE && strcmp(line, lines[k]) == 0, got);
+        for (size_t part = 0; part < sizeof parts / sizeof *parts; part++) {
+            strcpy(line, lines[i]);
+            struct confscript_answer got = applied(line, steps, parts[part]);
+            report(name, got.status == CONFSCRIPT_DONE && strcmp(line, lines[k]) == 0, got);
+        }
     }
     strategy = CONFSCRIPT_SHORTEST;
 }
 
 int main(void) {
     plans();
+    forms();
+    outputs();
     strategies();
     applies();
     checks();

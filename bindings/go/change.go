@@ -7,17 +7,18 @@ import "C"
 
 import "unsafe"
 
-// ConfState is a configuration, with the field names of raftpb.ConfState. The ids of a list may be in any order.
+// ConfState is a configuration, with the field names of raftpb.ConfState, also in JSON, which Plan reads. The ids of a
+// list may be in any order.
 type ConfState struct {
 	// The voters; in a joint configuration the incoming ones.
-	Voters   []uint64
-	Learners []uint64
+	Voters   []uint64 `json:"voters,omitempty"`
+	Learners []uint64 `json:"learners,omitempty"`
 	// The outgoing voters of a joint configuration.
-	VotersOutgoing []uint64
+	VotersOutgoing []uint64 `json:"voters_outgoing,omitempty"`
 	// The outgoing voters that become learners when the joint configuration is left.
-	LearnersNext []uint64
+	LearnersNext []uint64 `json:"learners_next,omitempty"`
 	// Whether raft leaves the joint configuration by itself.
-	AutoLeave bool
+	AutoLeave bool `json:"auto_leave"`
 }
 
 // ConfChangeType is what a change does to its id.
@@ -33,8 +34,8 @@ const (
 
 // ConfChangeSingle is a change of one id. A change of the id 0 has no effect.
 type ConfChangeSingle struct {
-	Type   ConfChangeType
-	NodeID uint64
+	Type   ConfChangeType `json:"type"`
+	NodeID uint64         `json:"node_id"`
 }
 
 // ConfChangeTransition is how the changes of a proposal are made.
@@ -53,8 +54,8 @@ const (
 
 // ConfChangeV2 is a proposal, with the field names of raftpb.ConfChangeV2.
 type ConfChangeV2 struct {
-	Transition ConfChangeTransition
-	Changes    []ConfChangeSingle
+	Transition ConfChangeTransition `json:"transition"`
+	Changes    []ConfChangeSingle   `json:"changes"`
 }
 
 // ApplyConfChange returns the configuration after a proposal, as etcd's raft applies it, and the members that begin

@@ -1,5 +1,10 @@
 // Package confscript plans and checks who votes in a raft group. It is a thin layer over libconfscript; confscript.h
-// says what each call returns. A configuration is a ConfState line, and a plan is the text of its lines.
+// says what each call returns.
+//
+// A plan leads from a configuration to a target, both of which are texts in one of the forms of confscript.h, such as
+// "voters=(1 2 3)" or the JSON of a ConfState; the target may also be a list of changes, such as "r1 v4". Plan and PlanBy
+// return the lines of its steps, PlanAs another output, and Stages what to propose to etcd's raft. Apply and Check take
+// a ConfState line.
 //
 // The compiler finds the header and the library by pkg-config, or by CGO_CFLAGS and CGO_LDFLAGS with the build tag
 // confscript_flags.
@@ -43,21 +48,44 @@ const (
 	OneAtATime    Strategy = C.CONFSCRIPT_ONE_AT_A_TIME
 )
 
-// Plan returns the shortest plan from the configuration of one ConfState line to that of another.
-func Plan(now, target string) (string, error) {
-	return PlanBy(Shortest, now, target)
+// Output is what is written of a plan.
+type Output uint32
+
+// The outputs. Plan and PlanBy write Steps.
+const (
+	Steps Output = C.CONFSCRIPT_STEPS
+	Table Output = C.CONFSCRIPT_TABLE
+	JSON  Output = C.CONFSCRIPT_JSON
+)
+
+// Options is how a plan is made. Its zero value is the shortest plan, with no ids down.
+type Options struct {
+	Strategy Strategy
+	// The ids that are down, in any order.
+	Down []uint64
 }
 
-// PlanBy returns the plan by a strategy from the configuration of one ConfState line to that of another.
-func PlanBy(strategy Strategy, now, target string) (string, error) {
+// Plan returns the steps of the shortest plan from a configuration to a target.
+func Plan(now, target string) (string, error) {
+	return PlanBy(Options{}, now, target)
+}
+
+// PlanBy returns the steps of the plan from a configuration to a target. If the plan stalls with the ids that are down,
+// they begin with a line such as "# stalls with 4 5 down".
+func PlanBy(options Options, now, target string) (string, error) {
+	return PlanAs(Steps, options, now, target)
+}
+
+// PlanAs returns the plan from a configuration to a target, as the program prints it with this output.
+func PlanAs(output Output, options Options, now, target string) (string, error) {
 	from, to := []byte(now), []byte(target)
 	return written(func(out *C.uint8_t, room C.size_t) C.struct_confscript_answer {
-		return C.confscript_plan(start(from), C.size_t(len(from)), start(to), C.size_t(len(to)), C.uint32_t(strategy), out, room)
+		return C.confscript_plan(start(from), C.size_t(len(from)), start(to), C.size_t(len(to)), C.uint32_t(options.Strategy),
+			C.uint32_t(output), first(options.Down), C.size_t(len(options.Down)), out, room)
 	})
 }
 
-// Apply returns the ConfState line of the configuration after the steps of a plan, at most four. A single step is a
-// plan of one line.
+// Apply returns the ConfState line of the configuration after the steps of a plan. A single step is a plan of one line.
 func Apply(state, steps string) (string, error) {
 	from, by := []byte(state), []byte(steps)
 	return written(func(out *C.uint8_t, room C.size_t) C.struct_confscript_answer {

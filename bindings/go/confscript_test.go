@@ -26,12 +26,32 @@ func TestStrategies(t *testing.T) {
 		LearnersFirst: "simple l5\nenter-joint autoleave=false r1 v5\nleave-joint\n",
 		OneAtATime:    "simple l5\nsimple v5\nsimple r1\n",
 	} {
-		steps, err := PlanBy(strategy, now, target)
+		steps, err := PlanBy(Options{Strategy: strategy}, now, target)
 		if err != nil || steps != want {
 			t.Errorf("PlanBy %d: %q, %v", strategy, steps, err)
 		}
 		if after, err := Apply(now, steps); err != nil || after != target {
 			t.Errorf("Apply: %q, %v", after, err)
+		}
+	}
+}
+
+func TestOutputs(t *testing.T) {
+	const table = `step         1 2  majority  may be down  catch up  until then  besides 7
+now          V .  1 of 1    0                                  0
+1 simple v2  V V  2 of 2    0            2         stalls      stalls
+`
+	for text, of := range map[string]struct {
+		output  Output
+		options Options
+		to      string
+	}{
+		table:                               {Table, Options{Down: []uint64{7}}, "v2"},
+		"{\"plan\":1,\"steps\":0}\n":        {JSON, Options{}, "v1"},
+		"# stalls with 1 down\nsimple v2\n": {Steps, Options{Down: []uint64{1}}, "v2"},
+	} {
+		if got, err := PlanAs(of.output, of.options, "voters=(1)", of.to); err != nil || got != text {
+			t.Errorf("PlanAs: %q, %v", got, err)
 		}
 	}
 }
@@ -48,18 +68,28 @@ func TestLongText(t *testing.T) {
 }
 
 func TestRefusals(t *testing.T) {
-	_, first := Plan("", target)
-	_, second := Plan(now, "")
+	_, first := Plan("Voters:[1]", target)
+	_, second := Plan(now, "Voters:[1]")
+	_, form := Plan("", target)
+	_, printed := Plan(now, "voters=(1")
+	_, json := Plan("{}}", target)
+	_, list := Plan(now, "v1 x")
 	_, step := Apply(now, "leave-joint")
-	_, strategy := PlanBy(3, now, target)
-	_, joint := PlanBy(OneAtATime, now, strings.Replace(target, "Outgoing:[]", "Outgoing:[1 2 3]", 1))
+	_, strategy := PlanBy(Options{Strategy: 3}, now, target)
+	_, output := PlanAs(3, Options{}, now, target)
+	_, joint := PlanBy(Options{Strategy: OneAtATime}, now, strings.Replace(target, "Outgoing:[]", "Outgoing:[1 2 3]", 1))
 	for text, err := range map[string]error{
-		"not a ConfState line (1)":           first,
-		"not a ConfState line (2)":           second,
-		"can't leave a non-joint config (1)": step,
-		"unknown strategy":                   strategy,
-		"the target is joint":                joint,
-		"the id 0":                           Check(strings.Replace(now, "1 2", "0 2", 1)),
+		"not a ConfState line (1)":            first,
+		"not a ConfState line (2)":            second,
+		"can't leave a non-joint config (1)":  step,
+		"no form of a configuration (1)":      form,
+		"not a printed configuration (2)":     printed,
+		"not the JSON of a configuration (1)": json,
+		"not a list of changes (2)":           list,
+		"unknown strategy":                    strategy,
+		"unknown output":                      output,
+		"the target is joint":                 joint,
+		"the id 0":                            Check(strings.Replace(now, "1 2", "0 2", 1)),
 	} {
 		if err == nil || err.Error() != text {
 			t.Errorf("%v, and not %s", err, text)

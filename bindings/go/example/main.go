@@ -9,7 +9,7 @@ import (
 
 func main() {
 	now := "Voters:[1 2 3] VotersOutgoing:[] Learners:[] LearnersNext:[] AutoLeave:false"
-	steps, err := confscript.Plan(now, "Voters:[2 3 5] VotersOutgoing:[] Learners:[] LearnersNext:[] AutoLeave:false")
+	steps, err := confscript.Plan(now, "r1 v5")
 	if err != nil {
 		log.Fatal(err)
 	}

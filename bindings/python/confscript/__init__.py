@@ -2,11 +2,13 @@
 
 include/confscript.h says what each call returns.
 
-A configuration is a ConfState line, and a plan is the text of its lines, both as str:
+A plan leads from a configuration to a target, both of which are str in one of the forms of confscript.h. The target
+may also be a list of changes:
 
-    >>> steps = plan("Voters:[1 2] ..", "Voters:[2 3] ..")
-    >>> apply("Voters:[1 2] ..", steps)
+    >>> plan("voters=(1 2 3)", "r1 v4", output=Output.TABLE)
+    >>> apply("Voters:[1 2] ..", plan("Voters:[1 2] ..", "r1 v3"))
 
+`apply` and `check` take a ConfState line.
 A program that embeds the library keeps a Configuration and makes its steps by `step`, without texts.
 
 A call that is refused raises Refused, which has the status and the number; if memory runs out, it raises MemoryError.
@@ -20,8 +22,8 @@ from enum import IntEnum
 from typing import NamedTuple
 
 __all__ = [
-    "ChangeKind", "Configuration", "Refused", "StepKind", "Strategy", "Vote", "apply", "check", "committed", "may_be_down", "plan", "restore", "step",
-    "version", "vote",
+    "ChangeKind", "Configuration", "Output", "Refused", "StepKind", "Strategy", "Vote", "apply", "check", "committed", "may_be_down", "plan", "restore",
+    "step", "version", "vote",
 ]
 
 DONE, TOO_SMALL, NO_MEMORY, NO_QUORUM = 0, 1, 2, 23
@@ -41,6 +43,14 @@ class Strategy(IntEnum):
     SHORTEST = 0
     LEARNERS_FIRST = 1
     ONE_AT_A_TIME = 2
+
+
+class Output(IntEnum):
+    """What is written of a plan."""
+
+    STEPS = 0
+    TABLE = 1
+    JSON = 2
 
 
 class Vote(IntEnum):
@@ -96,7 +106,7 @@ _library = ctypes.CDLL(os.environ.get("CONFSCRIPT_LIBRARY") or "libconfscript.so
 _BYTES, _IDS = (ctypes.c_char_p, ctypes.c_size_t), (ctypes.POINTER(ctypes.c_uint64), ctypes.c_size_t)
 _OUT = (ctypes.POINTER(ctypes.c_char), ctypes.c_size_t)
 for _name, _types in {
-    "plan": (*_BYTES * 2, ctypes.c_uint32, *_OUT),
+    "plan": (*_BYTES * 2, ctypes.c_uint32, ctypes.c_uint32, *_IDS, *_OUT),
     "apply": _BYTES * 2 + _OUT,
     "check": _BYTES,
     "vote": _BYTES * 2,
@@ -169,13 +179,17 @@ def _text_of(status):
     return _written(_library.confscript_status_text, status)
 
 
-def plan(now, target, strategy=Strategy.SHORTEST):
-    """Returns the plan by a strategy from the configuration of one ConfState line to that of another."""
-    return _written(_library.confscript_plan, *_bytes(now), *_bytes(target), _uint(strategy, 32))
+def plan(now, target, strategy=Strategy.SHORTEST, *, output=Output.STEPS, down=()):
+    """Returns the plan by a strategy from a configuration to a target, as the program prints it with this output.
+
+    `down` are the ids that are down. If the plan stalls with them, the steps begin with a line such as
+    `# stalls with 4 5 down`. Each line of JSON is an object, what to propose to etcd's raft among it.
+    """
+    return _written(_library.confscript_plan, *_bytes(now), *_bytes(target), _uint(strategy, 32), _uint(output, 32), *_numbers(down))
 
 
 def apply(state, steps):
-    """Returns the ConfState line of the configuration after the steps of a plan, at most four."""
+    """Returns the ConfState line of the configuration after the steps of a plan."""
     return _written(_library.confscript_apply, *_bytes(state), *_bytes(steps))
 
 

@@ -1,4 +1,5 @@
 """Tests the calls of the binding from a Python program."""
+import json
 import unittest
 
 import confscript
@@ -22,14 +23,37 @@ class Calls(unittest.TestCase):
             self.assertEqual(confscript.plan(NOW, TARGET, strategy), steps)
             self.assertEqual(confscript.apply(NOW, steps), TARGET)
 
+    def test_outputs(self):
+        table = (
+            "step         1 2  majority  may be down  catch up  until then  besides 7\n"
+            "now          V .  1 of 1    0                                  0\n"
+            "1 simple v2  V V  2 of 2    0            2         stalls      stalls\n"
+        )
+        for output, down, to, text in [
+            (confscript.Output.STEPS, [1], "v2", "# stalls with 1 down\nsimple v2\n"),
+            (confscript.Output.TABLE, {7}, "v2", table),
+            (confscript.Output.JSON, (), "v1", '{"plan":1,"steps":0}\n'),
+        ]:
+            self.assertEqual(confscript.plan("voters=(1)", to, output=output, down=down), text)
+
+    def test_stages(self):
+        lines = confscript.plan('{"voters":[18446744073709551615]}', "v2", output=confscript.Output.JSON).splitlines()
+        self.assertEqual([json.loads(line)["conf_state"]["voters"] for line in lines], [[2, 2**64 - 1]])
+
     def test_a_text_longer_than_the_first_room(self):
         many = "Voters:[%s] VotersOutgoing:[] Learners:[] LearnersNext:[] AutoLeave:false" % " ".join(map(str, range(1, 501)))
         self.assertEqual(confscript.apply(many, "simple u1"), many)
 
     def test_refusals(self):
         for call, status, number, text in [
-            (lambda: confscript.plan("", TARGET), 3, 1, "not a ConfState line (1)"),
-            (lambda: confscript.plan(NOW, ""), 3, 2, "not a ConfState line (2)"),
+            (lambda: confscript.plan("Voters:[1]", TARGET), 3, 1, "not a ConfState line (1)"),
+            (lambda: confscript.plan(NOW, "Voters:[1]"), 3, 2, "not a ConfState line (2)"),
+            (lambda: confscript.plan("", TARGET), 29, 1, "no form of a configuration (1)"),
+            (lambda: confscript.plan(NOW, "voters=(1"), 30, 2, "not a printed configuration (2)"),
+            (lambda: confscript.plan("{}}", TARGET), 31, 1, "not the JSON of a configuration (1)"),
+            (lambda: confscript.plan(NOW, "v1 x"), 32, 2, "not a list of changes (2)"),
+            (lambda: confscript.plan(NOW, "v4", down=[0]), 15, 0, "the id 0"),
+            (lambda: confscript.plan(NOW, "v4", output=3), 28, 0, "unknown output"),
             (lambda: confscript.apply(NOW, "leave-joint"), 11, 1, "can't leave a non-joint config (1)"),
             (lambda: confscript.check(NOW.replace("1 2", "0 2")), 15, 0, "the id 0"),
             (lambda: confscript.plan(NOW, TARGET, 3), 24, 0, "unknown strategy"),
@@ -75,6 +99,9 @@ class Calls(unittest.TestCase):
             lambda: confscript.vote([2**64], [], {}),
             lambda: confscript.may_be_down([1, -1], []),
             lambda: confscript.plan(NOW, TARGET, 2**32),
+            lambda: confscript.plan(NOW, TARGET, output=2**32),
+            lambda: confscript.plan(NOW, TARGET, down=[2**64]),
+            lambda: confscript.plan(NOW, TARGET, down=[-1]),
             lambda: confscript.step(Configuration([1]), 2**32),
             lambda: confscript.step(Configuration([1]), 0, [(2**32, 1)]),
             lambda: confscript.restore(Configuration([-1])),
@@ -86,6 +113,8 @@ class Calls(unittest.TestCase):
             lambda: confscript.vote([1, 2], [], {1: "no", 2: "no"}),
             lambda: confscript.vote([1, 2], [], {1: 1, 2: 1}),
             lambda: confscript.restore(Configuration([1.0])),
+            lambda: confscript.plan(NOW, TARGET, down="45"),
+            lambda: confscript.plan(NOW, TARGET, output="json"),
         ]:
             self.assertRaises(TypeError, call)
 

@@ -1,7 +1,7 @@
 //! Plans the change that replaces 1 with 5, applies the plan, and computes the committed index afterwards.
 fn main() -> Result<(), confscript::Error> {
     let now = "Voters:[1 2 3] VotersOutgoing:[] Learners:[] LearnersNext:[] AutoLeave:false";
-    let steps = confscript::plan(now, "Voters:[2 3 5] VotersOutgoing:[] Learners:[] LearnersNext:[] AutoLeave:false")?;
+    let steps = confscript::plan(now, "r1 v5")?;
     let after = confscript::apply(now, &steps)?;
     let index = confscript::committed(&mut [9, 7, 0], &mut []);
     println!("{steps}{after}\ncommitted {index}");

@@ -1,7 +1,9 @@
 //! Plans and checks who votes in a raft group: a thin layer over `libconfscript.a`. `confscript.h` says what each call
 //! returns.
 //!
-//! A configuration is a ConfState line, and a plan is the text of its lines. A program that embeds the library keeps a
+//! A plan leads from a configuration to a target, both of which are texts in one of the forms of `confscript.h`, such as
+//! `voters=(1 2 3)`; the target may also be a list of changes, such as `r1 v4`. [`apply`] and [`check`] take a ConfState
+//! line. A program that embeds the library keeps a
 //! [`Configuration`], makes its steps by [`step`], and counts by [`committed`] and [`vote`], without texts.
 use std::fmt;
 
@@ -15,7 +17,8 @@ extern "C" {
     fn confscript_version() -> u32;
     fn confscript_status_text(status: u32, out: *mut u8, out_len: usize) -> Answer;
     fn confscript_plan(
-        now: *const u8, now_len: usize, target: *const u8, target_len: usize, strategy: u32, out: *mut u8, out_len: usize,
+        now: *const u8, now_len: usize, target: *const u8, target_len: usize, strategy: u32, output: u32, down: *const u64, down_len: usize, out: *mut u8,
+        out_len: usize,
     ) -> Answer;
     fn confscript_apply(state: *const u8, state_len: usize, plan: *const u8, plan_len: usize, out: *mut u8, out_len: usize) -> Answer;
     fn confscript_check(state: *const u8, state_len: usize) -> Answer;
@@ -39,6 +42,9 @@ pub enum Error {
     NoMemory,
     /// The number is 1 for the first text of the call, and 2 for the second.
     BadConfState(u64),
+    /// A text is in no form of a configuration, or cannot be read in its form: the status that says which, and the number
+    /// as for `BadConfState`.
+    BadText(u32, u64),
     /// The id, or 0 for a line.
     RepeatedId(u64),
     /// The number is as for `BadConfState`.
@@ -47,10 +53,12 @@ pub enum Error {
     NoVoter(u64),
     /// The number of the line, counted from 1.
     BadLine(u64),
+    /// No longer returned: a plan may have any number of lines.
     TooManySteps,
     /// A step is refused: the status that says why, and the number of the step of a plan, counted from 1, else 0.
     Step(u32, u64),
-    /// The configuration breaks an invariant: the status that says which, and the least id that breaks it, or 0.
+    /// The configuration breaks an invariant: the status that says which, and the least id that breaks it, or 0. For a
+    /// plan, an id that is down is 0.
     Broken(u32, u64),
     NoQuorum,
     /// No plan that changes one member at a time leads into a joint configuration.
@@ -70,6 +78,7 @@ impl Error {
             (23, _) => Error::NoQuorum,
             (25, _) => Error::JointTarget,
             (status @ 9..=14, number) => Error::Step(status, number),
+            (status @ 29..=32, number) => Error::BadText(status, number),
             (status, number) => Error::Broken(status, number),
         }
     }
@@ -84,7 +93,7 @@ impl Error {
             Error::NoVoter(_) => 6,
             Error::BadLine(_) => 7,
             Error::TooManySteps => 8,
-            Error::Step(status, _) | Error::Broken(status, _) => status,
+            Error::BadText(status, _) | Error::Step(status, _) | Error::Broken(status, _) => status,
             Error::NoQuorum => 23,
             Error::JointTarget => 25,
         }
@@ -98,7 +107,7 @@ impl fmt::Display for Error {
         out.write_str(&text.unwrap_or_default())?;
         match self {
             Error::RepeatedId(0) | Error::NoVoter(0) | Error::Step(_, 0) | Error::Broken(_, 0) => Ok(()),
-            Error::BadConfState(number) | Error::NotAConfiguration(number) | Error::NoVoter(number) => write!(out, " ({number})"),
+            Error::BadConfState(number) | Error::BadText(_, number) | Error::NotAConfiguration(number) | Error::NoVoter(number) => write!(out, " ({number})"),
             Error::RepeatedId(number) | Error::BadLine(number) | Error::Step(_, number) | Error::Broken(_, number) => write!(out, " ({number})"),
             _ => Ok(()),
         }
@@ -115,8 +124,30 @@ pub enum Strategy {
     Shortest = 0,
     /// New voters are learners first, so that they can catch up before they vote.
     LearnersFirst = 1,
-    /// A step changes one member; no plan leads into a joint configuration.
+    /// One member changes a step, once a joint configuration is left; no plan leads into one.
     OneAtATime = 2,
+}
+
+/// What is written of a plan.
+#[derive(Clone, Copy, Debug, Default, PartialEq, Eq)]
+pub enum Output {
+    /// A line for each step. If the plan stalls with the ids that are down, a line such as `# stalls with 4 5 down` comes
+    /// before them.
+    #[default]
+    Steps = 0,
+    /// Who votes on the way, and how many failures the cluster tolerates there.
+    Table = 1,
+    /// An object on a line for each proposal to etcd's raft.
+    Json = 2,
+}
+
+/// How a plan is made and written. The default is the shortest plan, as steps, with no ids down.
+#[derive(Clone, Copy, Debug, Default, PartialEq, Eq)]
+pub struct Options<'a> {
+    pub strategy: Strategy,
+    pub output: Output,
+    /// The ids that are down, in any order.
+    pub down: &'a [u64],
 }
 
 /// A configuration: etcd's `ConfState`, and the members whose progress begins afresh in the step that led to it.
@@ -241,21 +272,23 @@ fn configured(call: impl Fn(&mut [u64]) -> Answer) -> Result<Configuration, Erro
     }
 }
 
-/// The shortest plan from the configuration of one ConfState line to that of another.
+/// The steps of the shortest plan from a configuration to a target.
 pub fn plan(now: &str, target: &str) -> Result<String, Error> {
-    plan_by(Strategy::Shortest, now, target)
+    plan_by(Options::default(), now, target)
 }
 
-/// The plan by a strategy from the configuration of one ConfState line to that of another.
-pub fn plan_by(strategy: Strategy, now: &str, target: &str) -> Result<String, Error> {
+/// The plan by these options from a configuration to a target, as the program prints it.
+pub fn plan_by(options: Options<'_>, now: &str, target: &str) -> Result<String, Error> {
+    let Options { strategy, output, down } = options;
     // SAFETY: each pointer is a slice's, and so not null, and the count its length.
     written(|out| unsafe {
-        confscript_plan(now.as_ptr(), now.len(), target.as_ptr(), target.len(), strategy as u32, out.as_mut_ptr(), out.len())
+        confscript_plan(
+            now.as_ptr(), now.len(), target.as_ptr(), target.len(), strategy as u32, output as u32, down.as_ptr(), down.len(), out.as_mut_ptr(), out.len(),
+        )
     })
 }
 
-/// The ConfState line of the configuration after the steps of a plan, at most four. A single step is a plan of one
-/// line.
+/// The ConfState line of the configuration after the steps of a plan. A single step is a plan of one line.
 pub fn apply(state: &str, steps: &str) -> Result<String, Error> {
     // SAFETY: as in `plan_by`.
     written(|out| unsafe { confscript_apply(state.as_ptr(), state.len(), steps.as_ptr(), steps.len(), out.as_mut_ptr(), out.len()) })

@@ -1,7 +1,7 @@
 //! Tests the calls of the binding from a Rust program.
 use confscript::{
-    apply, check, committed, may_be_down, plan, plan_by, restore, step, version, vote, Change, ChangeKind, Configuration, Error, StepKind, Strategy,
-    VoteResult,
+    apply, check, committed, may_be_down, plan, plan_by, restore, step, version, vote, Change, ChangeKind, Configuration, Error, Options, Output, StepKind,
+    Strategy, VoteResult,
 };
 
 const NOW: &str = "Voters:[1 2 3] VotersOutgoing:[] Learners:[] LearnersNext:[] AutoLeave:false";
@@ -21,11 +21,26 @@ fn plans_by_each_strategy() {
         (Strategy::LearnersFirst, "simple l5\nenter-joint autoleave=false r1 v5\nleave-joint\n"),
         (Strategy::OneAtATime, "simple l5\nsimple v5\nsimple r1\n"),
     ] {
-        assert_eq!(plan_by(strategy, NOW, TARGET).as_deref(), Ok(steps));
+        assert_eq!(plan_by(Options { strategy, ..Options::default() }, NOW, TARGET).as_deref(), Ok(steps));
         assert_eq!(apply(NOW, steps).as_deref(), Ok(TARGET));
     }
     let joint = TARGET.replace("Outgoing:[]", "Outgoing:[1 2 3]");
-    assert_eq!(plan_by(Strategy::OneAtATime, NOW, &joint), Err(Error::JointTarget));
+    assert_eq!(plan_by(Options { strategy: Strategy::OneAtATime, ..Options::default() }, NOW, &joint), Err(Error::JointTarget));
+}
+
+#[test]
+fn writes_each_output() {
+    let table = "step         1 2  majority  may be down  catch up  until then  besides 7\n\
+                 now          V .  1 of 1    0                                  0\n\
+                 1 simple v2  V V  2 of 2    0            2         stalls      stalls\n";
+    for (output, down, to, text) in [
+        (Output::Steps, vec![1], "v2", "# stalls with 1 down\nsimple v2\n"),
+        (Output::Table, vec![7], "v2", table),
+        (Output::Json, vec![], "v1", "{\"plan\":1,\"steps\":0}\n"),
+    ] {
+        assert_eq!(plan_by(Options { output, down: &down, ..Options::default() }, "voters=(1)", to).as_deref(), Ok(text));
+    }
+    assert_eq!(plan_by(Options { down: &[0], ..Options::default() }, "voters=(1)", "v2"), Err(Error::Broken(15, 0)));
 }
 
 #[test]
@@ -39,8 +54,17 @@ fn writes_a_text_longer_than_the_first_room() {
 fn refuses() {
     let broken = check(&NOW.replace("1 2", "0 2"));
     let step = apply(NOW, "leave-joint").unwrap_err();
-    assert_eq!(plan("", TARGET), Err(Error::BadConfState(1)));
-    assert_eq!(plan(NOW, ""), Err(Error::BadConfState(2)));
+    assert_eq!(plan("Voters:[1]", TARGET), Err(Error::BadConfState(1)));
+    assert_eq!(plan(NOW, "Voters:[1]"), Err(Error::BadConfState(2)));
+    for (now, target, error, text) in [
+        ("", TARGET, Error::BadText(29, 1), "no form of a configuration (1)"),
+        (NOW, "voters=(1", Error::BadText(30, 2), "not a printed configuration (2)"),
+        ("{}}", TARGET, Error::BadText(31, 1), "not the JSON of a configuration (1)"),
+        (NOW, "v1 x", Error::BadText(32, 2), "not a list of changes (2)"),
+    ] {
+        let refused = plan(now, target).unwrap_err();
+        assert_eq!((refused, refused.to_string().as_str(), refused.status()), (error, text, refused.status()));
+    }
     assert_eq!((step, step.to_string().as_str()), (Error::Step(11, 1), "can't leave a non-joint config (1)"));
     assert_eq!(broken, Err(Error::Broken(15, 0)));
     assert_eq!(check(NOW), Ok(()));

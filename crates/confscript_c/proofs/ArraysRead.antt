@@ -13,7 +13,7 @@ use Rattle.conf_change.specs.Violation.{valid_of}
 use Rattle.conf_change.specs.declared.change.Change.{Change}
 use Rattle.conf_change.specs.declared.step.Step.{Step}
 use Rattle.conf_change.specs.declared.step.StepKind.{StepKind}
-use Rattle.conf_plan.specs.Alive.{catching_up}
+use Rattle.conf_plan.specs.OnTheWay.{catching_up}
 use Rattle.conf_change.specs.declared.configuration_line.ConfigurationFault.{ConfigurationFault}
 use Rattle.confscript_c.specs.Answer.{status_answer}
 use Rattle.confscript_c.specs.Numbers.{flag_number, array_of, counted, has_form, outgoing_at, learners_at, learners_next_at, fresh_at, lists_in, restored_or_answer, configuration_of, numbers_of, all_members, restored_array, restore_result}

@@ -1,5 +1,5 @@
-pub mod SavedForms
 pub mod StepsResult
 pub mod PlanLeads
 pub mod ChangesRead
 pub mod ArraysRead
+pub mod PartsApplied

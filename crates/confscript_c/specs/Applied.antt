@@ -1,4 +1,4 @@
--- The configuration of a line after the steps of a plan.
+-- The configuration of a line after the steps of a path.
 use Rattle.std.specs.Prelude.{ℕ, ◌+◌, List, [], ◌∷◌, Option, Some, None, Result, Ok, Err}
 use Rattle.conf_change.specs.Configuration.{Configuration}
 use Rattle.conf_change.specs.ConfState.{ConfStateLists, lists_of, restored}
@@ -7,7 +7,7 @@ use Rattle.conf_change.specs.Outcome.{Outcome, outcome}
 use Rattle.conf_change.specs.declared.refused.Refused.{Refused}
 use Rattle.conf_change.specs.declared.refused.Refused.TheVariants as refused
 use Rattle.conf_change.specs.declared.step.Step.{Step}
-use Rattle.conf_plan.specs.PlanCode.{plan_in}
+use Rattle.conf_plan.specs.PlanCode.{path_in}
 use Rattle.conf_plan.specs.declared.text.PlanTextFault.{PlanTextFault}
 use Rattle.conf_plan.specs.declared.text.PlanTextFault.TheVariants as fault
 use Rattle.confscript_c.specs.Answer.{status_answer, no_memory}
@@ -26,7 +26,7 @@ abbrev pub restored_of : Result ConfStateLists Answer → Result Configuration A
 restored_of (Err why) = Err why
 restored_of (Ok saved) = restored_one (restored saved)
 
--- the answer for a text that is not a plan
+-- the answer for a text that is not a path; no path has too many steps
 abbrev pub text_fault_answer : PlanTextFault → Answer
 text_fault_answer (fault.BadLine number) = status_answer BadLine number
 text_fault_answer fault.TooManySteps = status_answer TooManySteps 0
@@ -53,12 +53,12 @@ abbrev pub steps_result : ℕ → Configuration → List Step → OutResult
 steps_result number c [] = Ok (conf_state_text (lists_of c))
 steps_result number c (step ∷ steps) = then_result number (outcome c step) (λ next. steps_result (number + 1) next steps)
 
--- the result of applying steps to a configuration; an error of the configuration comes before one of the plan
+-- the result of applying steps to a configuration; an error of the configuration comes before one of the path
 abbrev pub applied : Result Configuration Answer → Result (List Step) PlanTextFault → OutResult
 applied (Err why) steps = Err why
 applied (Ok c) (Err fault) = Err (text_fault_answer fault)
 applied (Ok c) (Ok steps) = steps_result 1 c steps
 
--- the result of `confscript_apply` for the texts of a line and of a plan
+-- the result of `confscript_apply` for the texts of a line and of a path
 abbrev pub apply_result : List ℕ → List ℕ → OutResult
-apply_result state plan = applied (restored_of (read_as 1 (conf_state_in state))) (plan_in plan)
+apply_result state path = applied (restored_of (read_as 1 (conf_state_in state))) (path_in path)

@@ -5,6 +5,8 @@ pub mod Written
 pub mod InputLines
 pub mod Checked
 pub mod Applied
+pub mod Request
+pub mod PlanTexts
 pub mod Planning
 pub mod Version
 pub mod Numbers

@@ -1,7 +1,7 @@
 -- The codes of the statuses and their texts, which include/confscript.h gives to callers.
 use Rattle.std.specs.Prelude.{ℕ, List, codes, ◌==◌, if◌then◌else◌}
 use Rattle.confscript_c.specs.declared.status.Status.{Status}
-use Rattle.confscript_c.specs.declared.status.Status.TheVariants.{Done, TooSmall, NoMemory, BadConfState, RepeatedId, NotAConfiguration, NoVoter, BadLine, TooManySteps, AlreadyJoint, ZeroVoterJoint, NotJoint, SimpleInJoint, RemovedAllVoters, MoreThanOneVoter, ZeroId, NextNotOutgoing, NextAndIncoming, LearnerAndVoter, NotJointButNext, NotJointButAutoLeave, DifferentLengths, BadVote, NoQuorum, BadStrategy, JointTarget, BadStep, BadChange}
+use Rattle.confscript_c.specs.declared.status.Status.TheVariants.{Done, TooSmall, NoMemory, BadConfState, RepeatedId, NotAConfiguration, NoVoter, BadLine, TooManySteps, AlreadyJoint, ZeroVoterJoint, NotJoint, SimpleInJoint, RemovedAllVoters, MoreThanOneVoter, ZeroId, NextNotOutgoing, NextAndIncoming, LearnerAndVoter, NotJointButNext, NotJointButAutoLeave, DifferentLengths, BadVote, NoQuorum, BadStrategy, JointTarget, BadStep, BadChange, BadOutput, UnknownForm, BadPrinted, BadJson, BadChangeList}
 
 -- the code of a status; codes never change
 abbrev pub code_of : Status → ℕ
@@ -33,6 +33,11 @@ code_of BadStrategy = 24
 code_of JointTarget = 25
 code_of BadStep = 26
 code_of BadChange = 27
+code_of BadOutput = 28
+code_of UnknownForm = 29
+code_of BadPrinted = 30
+code_of BadJson = 31
+code_of BadChangeList = 32
 
 -- what a status means; the text of a refused step is what the program prints
 abbrev pub status_text : Status → List ℕ
@@ -64,8 +69,13 @@ status_text BadStrategy = codes "unknown strategy"
 status_text JointTarget = codes "the target is joint"
 status_text BadStep = codes "unknown step"
 status_text BadChange = codes "unknown kind of change"
+status_text BadOutput = codes "unknown output"
+status_text UnknownForm = codes "no form of a configuration"
+status_text BadPrinted = codes "not a printed configuration"
+status_text BadJson = codes "not the JSON of a configuration"
+status_text BadChangeList = codes "not a list of changes"
 
--- what the status of a code means; a number above 27 is not the code of one
+-- what the status of a code means; a number above 32 is not the code of one
 abbrev pub text_of_code : ℕ → List ℕ
 text_of_code code =
     if code == 0 then status_text Done
@@ -96,4 +106,9 @@ text_of_code code =
     else (if code == 25 then status_text JointTarget
     else (if code == 26 then status_text BadStep
     else (if code == 27 then status_text BadChange
-    else codes "unknown status")))))))))))))))))))))))))))
+    else (if code == 28 then status_text BadOutput
+    else (if code == 29 then status_text UnknownForm
+    else (if code == 30 then status_text BadPrinted
+    else (if code == 31 then status_text BadJson
+    else (if code == 32 then status_text BadChangeList
+    else codes "unknown status"))))))))))))))))))))))))))))))))

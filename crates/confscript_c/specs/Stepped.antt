@@ -10,7 +10,7 @@ use Rattle.conf_change.specs.declared.step.Step.{Step}
 use Rattle.conf_change.specs.declared.step.StepKind.{StepKind}
 use Rattle.conf_change.specs.declared.step.StepKind.TheVariants as step_kind
 use Rattle.conf_change.specs.declared.transition.Transition.TheVariants.{Auto, Implicit, Explicit}
-use Rattle.conf_plan.specs.Alive.{catching_up}
+use Rattle.conf_plan.specs.OnTheWay.{catching_up}
 use Rattle.confscript_c.specs.Answer.{status_answer}
 use Rattle.confscript_c.specs.Applied.{refusal_answer}
 use Rattle.confscript_c.specs.Numbers.{configuration_of, numbers_of}

@@ -1,4 +1,4 @@
-//! Applying the steps of a plan to the configuration of a line:
+//! Applying the steps of a path to the configuration of a line:
 //!
 //! ```text
 //! Voters:[1 2 3] ..  and  enter-joint autoleave=false r1 v5  ->  Voters:[2 3 5] VotersOutgoing:[1 2 3] ..
@@ -9,7 +9,7 @@
 ghost use Rattle.std.specs.Prelude.{◌≡◌, ◌⊎◌, Ok, Err, IfOk, IfErr, OnOk, MatchResult};
 ghost use Rattle.conf_change.specs.ConfState.{lists_of};
 ghost use Rattle.conf_change.specs.ConfStateLine.{conf_state_in, conf_state_text};
-ghost use Rattle.conf_plan.specs.PlanCode.{plan_in};
+ghost use Rattle.conf_plan.specs.PlanCode.{path_in};
 ghost use Rattle.confscript_c.specs.Answer.{no_memory};
 ghost use Rattle.confscript_c.specs.Applied.{apply_result, restored_of, steps_result, text_fault_answer, refusal_answer};
 ghost use Rattle.confscript_c.specs.InputLines.{read_as};
@@ -20,37 +20,37 @@ use crate::buffer::write_out;
 use crate::input_lines::read_saved;
 use crate::status::Status;
 use conf_change::{Changer, Config, Refused, RestoreFault, conf_state, write_conf_state};
-use conf_plan::{Plan, PlanTextFault, StepRefused, apply_plan, read_plan};
+use conf_plan::{Path, PlanTextFault, StepRefused, apply_path, read_path};
 use quorum_sets::{InlineIds, NoMemory};
 use std::alloc::Global;
 
-/// Applies the steps of a plan, at most four, to the configuration of a ConfState line, and writes the line of the
+/// Applies the steps of a path, of any number, to the configuration of a ConfState line, and writes the line of the
 /// result. The number is its length in bytes. The call is refused if the line names no valid configuration, or one with
-/// members but no incoming voter, if the plan has a bad line or a fifth line, or if a step is refused. The number is
-/// then that of the line or the step, and 0 for a fifth line (etcd's `confchange`).
+/// members but no incoming voter, if the path has a bad line, or if a step is refused. The number is then that of the
+/// line or the step (etcd's `confchange`).
 #[unsafe(no_mangle)]
 pub extern "C" fn confscript_apply(
     alloc: Global,
     state: &[u8],
-    plan: &[u8],
+    path: &[u8],
     out: &mut [u8],
 ) -> Answer
-    ensures { Writes (apply_result state.now plan.now) out.old result out.new }
+    ensures { Writes (apply_result state.now path.now) out.old result out.new }
 {
-    match line_after(alloc, state, plan) {
+    match line_after(alloc, state, path) {
         Ok(line) => write_out(line.as_slice(), out),
         Err(why) => why,
     }
 }
 
 // The line of the configuration after all steps, or the answer with the reason why there is none.
-fn line_after(alloc: Global, state: &[u8], plan: &[u8]) -> Result<Vec<u8>, Answer>
-    ensures line { IfOk result (λ line. apply_result state.now plan.now ≡ Ok line.items) }
-    ensures refused { IfErr result (λ why. (why ≡ no_memory) ⊎ (apply_result state.now plan.now ≡ Err why)) }
+fn line_after(alloc: Global, state: &[u8], path: &[u8]) -> Result<Vec<u8>, Answer>
+    ensures line { IfOk result (λ line. apply_result state.now path.now ≡ Ok line.items) }
+    ensures refused { IfErr result (λ why. (why ≡ no_memory) ⊎ (apply_result state.now path.now ≡ Err why)) }
 {
     let mut changer = read_changer(alloc, state)?;
-    let plan = read_steps(alloc, plan)?;
-    take(&mut changer, &plan)?;
+    let path = read_steps(alloc, path)?;
+    take(&mut changer, &path)?;
     Ok(line_of(alloc, changer.tracker().config())?)
 }
 
@@ -67,25 +67,25 @@ fn read_changer(alloc: Global, state: &[u8]) -> Result<Changer<InlineIds>, Answe
     }
 }
 
-// The plan that a text denotes.
-fn read_steps(alloc: Global, text: &[u8]) -> Result<Plan, Answer>
-    ensures plan { IfOk result (λ plan. plan_in text.now ≡ Ok plan) }
-    ensures refused { IfErr result (λ why. (why ≡ no_memory) ⊎ MatchResult (plan_in text.now) (λ _. ⊥) (λ fault. why ≡ text_fault_answer fault)) }
+// The path that a text denotes.
+fn read_steps(alloc: Global, text: &[u8]) -> Result<Path, Answer>
+    ensures path { IfOk result (λ path. path_in text.now ≡ Ok path) }
+    ensures refused { IfErr result (λ why. (why ≡ no_memory) ⊎ MatchResult (path_in text.now) (λ _. ⊥) (λ fault. why ≡ text_fault_answer fault)) }
 {
-    match read_plan(alloc, text) {
-        Ok(plan) => Ok(plan),
+    match read_path(alloc, text) {
+        Ok(path) => Ok(path),
         Err(PlanTextFault::BadLine(number)) => Err(Answer::new(Status::BadLine, number as u64)),
-        Err(PlanTextFault::TooManySteps) => Err(Answer::new(Status::TooManySteps, 0)),
+        Err(PlanTextFault::TooManySteps) => unreachable!(),
         Err(PlanTextFault::NoMemory) => Err(Answer::no_memory()),
     }
 }
 
-// Applies the steps of a plan, up to the first that is refused.
-fn take(changer: &mut Changer<InlineIds>, plan: &Plan) -> Result<(), Answer>
-    ensures taken { OnOk result (steps_result 1 changer.old.tracker.config plan.now ≡ Ok (conf_state_text (lists_of changer.new.tracker.config))) }
-    ensures refused { IfErr result (λ why. (why ≡ no_memory) ⊎ (steps_result 1 changer.old.tracker.config plan.now ≡ Err why)) }
+// Applies the steps of a path, up to the first that is refused.
+fn take(changer: &mut Changer<InlineIds>, path: &Path) -> Result<(), Answer>
+    ensures taken { OnOk result (steps_result 1 changer.old.tracker.config path.now ≡ Ok (conf_state_text (lists_of changer.new.tracker.config))) }
+    ensures refused { IfErr result (λ why. (why ≡ no_memory) ⊎ (steps_result 1 changer.old.tracker.config path.now ≡ Err why)) }
 {
-    match apply_plan(changer, plan) {
+    match apply_path(changer, path) {
         Ok(()) => Ok(()),
         Err(stop) => Err(refusal(stop.refused, stop.step as u64)),
     }

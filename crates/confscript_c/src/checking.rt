@@ -1,64 +1,41 @@
 //! What is wrong with a configuration, by the invariants of etcd's `confchange`:
 //!
 //! ```text
-//! Voters:[1 2] VotersOutgoing:[] Learners:[2] LearnersNext:[] AutoLeave:false    a learner is a voter
+//! Voters:[1 2] VotersOutgoing:[] Learners:[2] LearnersNext:[] AutoLeave:false    2 is a voter and a learner
 //! ```
-ghost use Rattle.std.specs.Prelude.{◌≡◌, ◌⊎◌, Ok};
+ghost use Rattle.std.specs.Prelude.{◌≡◌, ◌⊎◌};
 ghost use Rattle.confscript_c.specs.Answer.{no_memory};
-ghost use Rattle.confscript_c.specs.Checked.{check_answer, saved_answer, broken_answer, status_of};
-ghost use Rattle.conf_change.specs.Configuration.{first_broken};
+ghost use Rattle.confscript_c.specs.Checked.{check_answer, wrong_answer};
 
 use crate::answer::Answer;
-use crate::input_lines::read_saved;
+use crate::numbers::violation_answer;
 use crate::status::Status;
-use conf_change::{ConfState, Config, Invariant, RestoreFault, check, described};
+use conf_change::{Config, ConfigurationFault, read_configuration};
 use quorum_sets::InlineIds;
 use std::alloc::Global;
 
-/// Reports the first broken invariant of the configuration of a ConfState line, in the order of the statuses. The call
-/// is done if none is broken, even if there is no voter. It is refused if the text is not a ConfState line, or if a
-/// list of the line names an id twice (etcd's `confchange`; `ZeroId` and `NextAndIncoming` are own).
+/// Reports what is wrong with the configuration of a ConfState line: an id that one of its lists names twice, or else the
+/// first broken invariant, in the order of the statuses. The number is the id that is listed twice, or the least one
+/// that breaks the invariant, if the invariant is about ids. The call is done if nothing is wrong, even if there is no
+/// voter. It is refused if the text is not a ConfState line (etcd's `confchange`; `ZeroId` and `NextAndIncoming` are own).
 #[unsafe(no_mangle)]
 pub extern "C" fn confscript_check(alloc: Global, state: &[u8]) -> Answer
     ensures { (result ≡ no_memory) ⊎ (result ≡ check_answer state.now) }
 {
-    match read_saved(alloc, 1, state) {
-        Ok(saved) => check_saved(alloc, &saved),
-        Err(why) => why,
+    let read: Result<Config<InlineIds>, ConfigurationFault> = read_configuration(alloc, state);
+    match read {
+        Ok(_) => Answer::done(0),
+        Err(fault) => wrong_answer(fault),
     }
 }
 
-// The answer for a saved configuration, whose lists may still name an id twice.
-fn check_saved(alloc: Global, saved: &ConfState) -> Answer
-    ensures { (result ≡ no_memory) ⊎ (result ≡ saved_answer (Ok saved.now)) }
+// The answer for a line that names no valid configuration.
+fn wrong_answer(fault: ConfigurationFault) -> Answer
+    ensures { result ≡ wrong_answer fault }
 {
-    match described(alloc, saved) {
-        Ok(config) => checked(&config),
-        Err(RestoreFault::NotAConfiguration) => Answer::new(Status::RepeatedId, 0),
-        Err(RestoreFault::NoMemory) => Answer::no_memory(),
-    }
-}
-
-// The answer for a configuration: done, or its first broken invariant.
-fn checked(config: &Config<InlineIds>) -> Answer
-    ensures { result ≡ broken_answer (first_broken config.now) }
-{
-    match check(config) {
-        Ok(()) => Answer::done(0),
-        Err(broken) => Answer::new(status_of(broken), 0),
-    }
-}
-
-// The status that reports a broken invariant.
-fn status_of(broken: Invariant) -> Status
-    ensures { result ≡ status_of broken }
-{
-    match broken {
-        Invariant::ZeroId => Status::ZeroId,
-        Invariant::NextNotOutgoing => Status::NextNotOutgoing,
-        Invariant::NextAndIncoming => Status::NextAndIncoming,
-        Invariant::LearnerAndVoter => Status::LearnerAndVoter,
-        Invariant::NotJointButNext => Status::NotJointButNext,
-        Invariant::NotJointButAutoLeave => Status::NotJointButAutoLeave,
+    match fault {
+        ConfigurationFault::BadConfState => Answer::new(Status::BadConfState, 1),
+        ConfigurationFault::NotAConfiguration(violation) => violation_answer(violation),
+        ConfigurationFault::NoMemory => Answer::no_memory(),
     }
 }

@@ -1,8 +1,15 @@
-//! Laws of configurations in numbers: what is true of all arrays. Each is the contract of a function that does nothing.
-ghost use Rattle.std.specs.Prelude.{◌≡◌, ◌↔◌, ℕ, List, true, Ok, Some};
+//! Laws of paths that are applied, and of configurations in numbers: what is true of all texts and arrays. Each is the
+//! contract of a function that does nothing.
+ghost use Rattle.std.specs.Prelude.{◌≡◌, ◌↔◌, ℕ, List, ◌++◌, true, Ok, Some};
+ghost use Rattle.std.specs.List.{All};
 ghost use Rattle.quorum_sets.specs.Ids.{Ids};
 ghost use Rattle.conf_change.specs.Configuration.{Configuration, is_restorable};
 ghost use Rattle.conf_change.specs.ConfState.{ConfStateLists, restored};
+ghost use Rattle.conf_change.specs.declared.step.Step.{Step};
+ghost use Rattle.conf_plan.specs.PlanCode.{path_in};
+ghost use Rattle.conf_plan.specs.PlanSteps.{HasU64Ids};
+ghost use Rattle.conf_plan.specs.PlanText.{plan_text};
+ghost use Rattle.confscript_c.specs.Applied.{apply_result};
 ghost use Rattle.confscript_c.specs.Numbers.{array_of, configuration_of, has_form, lists_in, numbers_of, restore_result};
 ghost use Rattle.confscript_c.specs.Stepped.{step_result};
 ghost use Rattle.confscript_c.specs.declared.stepping.NumberedChange.{NumberedChange};
@@ -12,6 +19,21 @@ pub fn arrays_are_read_again()
     ensures form { (saved : ConfStateLists) (fresh : List ℕ) → has_form (array_of saved fresh) ≡ true }
     ensures lists { (saved : ConfStateLists) (fresh : List ℕ) → lists_in (array_of saved fresh) ≡ saved }
 {}
+
+/// Lines may be applied in parts: the line that `confscript_apply` writes for the first ones goes in with the rest, and
+/// gives what all of them give at once.
+pub fn lines_are_applied_in_parts()
+    ensures lines { (state line first rest all : List ℕ) (before after : List Step) → path_in first ≡ Ok before → path_in rest ≡ Ok after → path_in all ≡ Ok (before ++ after)
+        → apply_result state first ≡ Ok line → (out : List ℕ) → (apply_result state all ≡ Ok out) ↔ (apply_result line rest ≡ Ok out) }
+    ensures printed { (state line : List ℕ) (before after : List Step) → All HasU64Ids before → All HasU64Ids after → apply_result state (plan_text before) ≡ Ok line
+        → (out : List ℕ) → (apply_result state (plan_text (before ++ after)) ≡ Ok out) ↔ (apply_result line (plan_text after) ≡ Ok out) }
+{
+    conf_change::laws::restored_is_described();
+    conf_change::laws::conf_state_describes();
+    conf_change::laws::trackers_stay_sound();
+    conf_plan::laws::ids_are_named();
+    conf_plan::laws::one_path_per_text();
+}
 
 /// An array has a configuration exactly if it has the form and etcd's `Restore` restores its saved configuration to it.
 /// What a call writes, the next takes as it is: the array of a configuration that can be restored has that

@@ -5,7 +5,7 @@
 //! text, if it has one, into a buffer of the caller:
 //!
 //! ```text
-//! confscript_plan("Voters:[1 2 3] ..", "Voters:[2 3 5] ..")  ->  done, 46 bytes
+//! confscript_plan("voters=(1 2 3)", "r1 v5")  ->  done, 46 bytes
 //!     enter-joint autoleave=false r1 v5
 //!     leave-joint
 //! ```
@@ -14,9 +14,9 @@
 //! again with a larger buffer. If memory runs out, that is the status, and nothing is written either.
 //!
 //! ```text
-//! confscript_plan         two lines, a strategy        the steps from the first to the second
+//! confscript_plan         two texts, a strategy        the steps from the first to the second, a table, or JSON
 //! confscript_apply        a line, steps                the line after the steps
-//! confscript_check        a line                       the first broken invariant
+//! confscript_check        a line                       the first broken invariant, and the id that breaks it
 //! confscript_committed    an index for each voter      the committed index
 //! confscript_vote         a vote for each voter        pending, lost or won
 //! confscript_restore      a configuration in numbers   the configuration, all members beginning afresh
@@ -34,8 +34,10 @@ mod checking;
 mod input_lines;
 pub mod laws;
 mod numbers;
+mod plan_texts;
 mod planning;
 mod quorums;
+mod request;
 mod restoring;
 mod status;
 mod stepping;

@@ -96,8 +96,8 @@ fn invalid_answer(fault: ConfigurationFault) -> Answer
     }
 }
 
-// The answer for an id that is listed twice or a broken invariant. The number is the id, if there is one.
-fn violation_answer(violation: Violation) -> Answer
+/// The answer for an id that is listed twice or a broken invariant. The number is the id, if there is one.
+pub(crate) fn violation_answer(violation: Violation) -> Answer
     ensures { result ≡ violation_answer violation }
 {
     match violation {

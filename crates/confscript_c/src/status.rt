@@ -17,13 +17,13 @@ pub enum Status {
     TooSmall = 1,
     /// Memory ran out.
     NoMemory = 2,
-    /// A line is not a ConfState line. The number is that of the line: 1 or 2.
+    /// A text is not a ConfState line. The number is that of the text: 1 or 2.
     BadConfState = 3,
     /// An id is listed twice. The number is the id, if the configuration is in numbers.
     RepeatedId = 4,
-    /// A line names no configuration that the call accepts. The number is that of the line: 1 or 2.
+    /// A text names no configuration that the call accepts. The number is that of the text: 1 or 2.
     NotAConfiguration = 5,
-    /// A configuration has no incoming voter. The number is that of its line: 1 or 2.
+    /// A configuration has no incoming voter. The number is that of its text: 1 or 2.
     NoVoter = 6,
     /// A line of a plan is not a step. The number is that of the line, from 1.
     BadLine = 7,
@@ -57,10 +57,20 @@ pub enum Status {
     BadStep = 26,
     /// The number of the kind of a change is unknown. The number is that of the change, from 1.
     BadChange = 27,
+    /// The code of the output is unknown.
+    BadOutput = 28,
+    /// A text is in no form of a configuration. The number is that of the text: 1 or 2.
+    UnknownForm = 29,
+    /// A text is not a configuration as it is printed. The number is that of the text: 1 or 2.
+    BadPrinted = 30,
+    /// A text is not the JSON of a configuration. The number is that of the text: 1 or 2.
+    BadJson = 31,
+    /// A text is not a list of changes. The number is that of the text: 2.
+    BadChangeList = 32,
 }
 
 impl Status {
-    /// The code of the status, from 0 to 27.
+    /// The code of the status, from 0 to 32.
     pub fn code(self) -> u32
         ensures { result ≡ code_of self }
     {
@@ -100,6 +110,11 @@ impl Status {
             Status::JointTarget => "the target is joint",
             Status::BadStep => "unknown step",
             Status::BadChange => "unknown kind of change",
+            Status::BadOutput => "unknown output",
+            Status::UnknownForm => "no form of a configuration",
+            Status::BadPrinted => "not a printed configuration",
+            Status::BadJson => "not the JSON of a configuration",
+            Status::BadChangeList => "not a list of changes",
         }
     }
 }
@@ -147,6 +162,11 @@ fn text_of_code(code: u32) -> &'static str
         25 => Status::JointTarget.text(),
         26 => Status::BadStep.text(),
         27 => Status::BadChange.text(),
+        28 => Status::BadOutput.text(),
+        29 => Status::UnknownForm.text(),
+        30 => Status::BadPrinted.text(),
+        31 => Status::BadJson.text(),
+        32 => Status::BadChangeList.text(),
         _ => "unknown status",
     }
 }

@@ -3,7 +3,7 @@ use Rattle.std.proofs.lemmas.Bool.{and_from, and_parts}
 use Rattle.quorum_sets.specs.Ids.{ascending}
 use Rattle.conf_change.specs.Configuration.{is_valid, has_voter_or_is_empty}
 use Rattle.conf_change.specs.ConfState.{lists_of, restored}
-use Rattle.conf_plan.specs.Alive.{catching_up}
+use Rattle.conf_plan.specs.OnTheWay.{catching_up}
 use Rattle.confscript_c.specs.Numbers.{all_members, configuration_of, lists_in, numbers_of}
 use Rattle.confscript_c.proofs.ArraysRead.{has_form-array_of, lists_in-array_of, configuration_of-valid, IsRead-from_configuration_of, IsRestored-from_result, IsStepped-from_result}
 use Rattle.confscript_c.proofs.laws.written_arrays_are_taken.Goals as goal

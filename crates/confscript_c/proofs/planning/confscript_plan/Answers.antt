@@ -9,5 +9,5 @@ same_text a b e = cc
 
 pub returns-in-Ok-clause-leads : goal.returns-in-Ok-clause-leads
 returns-in-Ok-clause-leads c = λ _ text is.
-    let P : List ℕ → Type 0 = λ t. LeadsToTarget c.args.strategy c.args.now.now c.args.target.now t in
+    let P : List ℕ → Type 0 = λ t. LeadsToTarget c.args.strategy c.args.output c.args.down.now c.args.now.now c.args.target.now t in
     subst P (same_text _ _ (sym c.in-Ok.ensures.text ∙ is)) c.in-Ok.ensures.leads

@@ -1,28 +1,45 @@
-use Rattle.std.proofs.Common.{◌≡◌, Bool, true, false, ◌++◌, [], refl, ap, subst, ◌∙◌}
-use Rattle.quorum_sets.specs.Ids.{no_ids}
-use Rattle.conf_plan.specs.PathBy.{Serves}
-use Rattle.conf_plan.specs.PlanCode.{plan_in}
+use Rattle.std.proofs.Common.{◌≡◌, Bool, true, false, ◌||◌, ◌&&◌, refl, ap, ◌∙◌}
+use Rattle.std.specs.Prelude.{Some, Ok}
+use Rattle.std.proofs.lemmas.Bool.{and_from}
+use Rattle.quorum_sets.specs.Ids.{is_empty}
+use Rattle.conf_change.specs.Configuration.{Configuration, is_valid, has_voter, is_restorable, has_voter_or_is_empty}
+use Rattle.conf_change.specs.ConfState.{ConfStateLists, restored}
+use Rattle.conf_change.specs.ConfStateLine.{conf_state_in}
+use Rattle.conf_change.specs.Violation.{valid_of}
+use Rattle.conf_plan.specs.PlanCode.{path_in}
 use Rattle.conf_plan.specs.PlanText.{plan_text}
-use Rattle.confscript_c.proofs.PlanLeads.{steps_result-run, IsRun-by}
+use Rattle.plan_output.specs.Steps.{ids_down}
+use Rattle.confscript_c.specs.Applied.{applied}
+use Rattle.confscript_c.proofs.PlanLeads.{steps_result-run, IsRun-by, restored_of-from_line}
 use Rattle.confscript_c.proofs.planning.text_between.Goals as goal
 
 not_false : (b : Bool) → (b ≡ false → ⊥) → b ≡ true
 not_false true none = refl
 not_false false none = absurd (none refl)
 
-pub returns-in-Ok-clause-path : goal.returns-in-Ok-clause-path
-returns-in-Ok-clause-path c =
+-- a valid configuration with a voter can be restored
+restorable : (c : Configuration) → is_valid c ≡ true → has_voter c ≡ true → is_restorable c ≡ true
+restorable c valid votes =
+    and_from (is_valid c) (has_voter_or_is_empty c) valid
+    (ap (λ b. b || (is_empty c.incoming && is_empty c.outgoing && is_empty c.learners && is_empty c.learners_next)) votes)
+
+pub returns-in_ok-path_text-in-Ok-clause-path : goal.returns-in_ok-path_text-in-Ok-clause-path
+returns-in_ok-path_text-in-Ok-clause-path c =
     let steps = c.in-Ok.path in
     let now = c.args.now.now in
+    let request = c.args.request.now in
     let target = c.args.target.now in
-    let printed = c.in_ok-print_path-in-Ok.ensures in
-    let none : c.new-text.result.items ≡ [] = c.new-text.ensures.items in
-    let is = printed.ok ∙ ap (λ prefix. prefix ++ plan_text steps) none in
-    let serves = subst (λ down. Serves c.args.strategy down now steps target) c.empty-none.ensures c.in-Ok.ensures.serves in record {
+    let promises = c.in-Ok.ensures.promises in
+    let taken = steps_result-run 1 now target steps (IsRun-by request.strategy (ids_down request.down) now target steps promises) in
+    let voter = not_false _ (λ e. let refused = c.path_between.ensures.no_voter_now.1 e in cc) in
+    let restores : (saved : ConfStateLists) → valid_of saved ≡ Ok now → restored saved ≡ Some now = λ saved is. (c.restored_is_described.ensures saved now).1
+    (((c.valid_is_described.ensures saved now).0 is).0, restorable now c.requires.valid_now voter) in
+    record {
       steps = steps;
-      printed = is;
-      serves = serves;
-      taken = steps_result-run 1 now target steps (IsRun-by c.args.strategy no_ids now target steps serves);
-      read = λ few. ap plan_in is ∙ printed.reads_back few;
-      voter = not_false _ (λ e. let refused = c.in-Ok.ensures.no_voter_now.1 e in cc);
+      printed = c.in_ok-path_text-in-Ok.ensures.text;
+      promises = promises;
+      taken = taken;
+      in_one_call = λ output line is.
+          ap (λ from. applied from (path_in (plan_text steps))) (restored_of-from_line now restores (conf_state_in line) is)
+          ∙ ap (applied (Ok now)) (c.in_ok-path_text-in-Ok.ensures.reads_back output) ∙ taken;
     }
