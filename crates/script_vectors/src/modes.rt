@@ -4,13 +4,16 @@ ghost use Rattle.dd_file.specs.Gathered.{NothingBuffered};
 ghost use Rattle.conf_tool.specs.Ranges.{IsInRange};
 
 use crate::matching::Matching;
-use conf_change::{ConfigurationFault, Floor, Violation};
+use conf_change::{Floor, Violation};
 use conf_plan::Strategy;
 use conf_session::SessionIds;
-use conf_tool::run::{run, run_and_flush};
-use conf_tool::{Mode, Options, PlanInputFault, PlanOptions, PlanOutput, Status, ToolFault};
+use conf_tool::run::{run, run_and_flush, run_pair_and_flush};
+use conf_tool::{
+    Mode, Options, Origin, PairTexts, PlanInputFault, PlanOptions, PlanOutput, Status, ToolFault,
+};
 use dd_file::blocks::Blocks;
 use dd_file::device::{FromRead, Sink, Source, ToWrite};
+use plan_input::TextFault;
 use quorum_sets::{MemberSet, NoMemory};
 use std::alloc::{AllocError, Global};
 use test_vectors::twice;
@@ -291,15 +294,18 @@ pub(crate) static PLANNED: [Case; 12] = [
         Command::Plan(Strategy::Shortest, PlanOutput::Json, &[]),
         BAD_JSON,
         b"{\"plan\":1,\"steps\":0}\n",
-        Err(ToolFault::Configurations(PlanInputFault::BadJson(4))),
+        Err(ToolFault::Configurations(PlanInputFault::BadText(
+            Origin::Line(4),
+            TextFault::BadJson,
+        ))),
     ),
     (
         Command::Plan(Strategy::LearnersFirst, PlanOutput::Table, &[]),
         TWICE,
         b"",
-        Err(ToolFault::Configurations(PlanInputFault::BadLine(
-            2,
-            ConfigurationFault::NotAConfiguration(Violation::ListedTwice(1)),
+        Err(ToolFault::Configurations(PlanInputFault::BadText(
+            Origin::Line(2),
+            TextFault::NotAConfiguration(Violation::ListedTwice(1)),
         ))),
     ),
 ];
@@ -457,5 +463,79 @@ fn runs_each_mode_over_blocks(rt: HostRuntime) {
 fn runs_plan_with_each_option_over_blocks(rt: HostRuntime) {
     for (index, case) in PLANNED.iter().enumerate() {
         assert!(rt; ends_over_blocks(rt.alloc(), *case), "row {index}");
+    }
+}
+
+// The values of `--from` and `--to`, the output of `plan`, and how it ends.
+type PairCase = (
+    &'static str,
+    &'static str,
+    &'static [u8],
+    Result<Status, ToolFault>,
+);
+
+static TEXTS: [PairCase; 5] = [
+    (
+        "voters=(1 2 3)",
+        "r1 v4",
+        b"enter-joint autoleave=false r1 v4\nleave-joint\n",
+        CLEAN,
+    ),
+    ("voters=(1)&&(1 2)", "", b"leave-joint\n", CLEAN),
+    ("{\"voters\":[1]}", "r1", NO_TARGET, DIFFERENT),
+    (
+        "v1",
+        "x",
+        b"",
+        Err(ToolFault::Configurations(PlanInputFault::BadText(
+            Origin::From,
+            TextFault::UnknownForm,
+        ))),
+    ),
+    (
+        "voters=(1)",
+        "{}}",
+        b"",
+        Err(ToolFault::Configurations(PlanInputFault::BadText(Origin::To, TextFault::BadJson))),
+    ),
+];
+
+// How `plan` ends for a pair of texts, and the writer of the blocks.
+fn pair_outcome(
+    alloc: Global,
+    case: PairCase,
+    mut blocks: Blocks<ToWrite<Matching>>,
+) -> (Result<Status, ToolFault>, Matching)
+    requires { NothingBuffered blocks }
+{
+    let (from, to, _, _) = case;
+    let texts = PairTexts { from, to };
+    let outcome = run_pair_and_flush(alloc, PlanOptions::default(), texts, &mut blocks);
+    (outcome, blocks.into_inner().into_inner())
+}
+
+// Whether `plan` ends as expected for a pair of texts and writes its output, or on `NoMemory` a prefix of it.
+fn ends_for_pair(alloc: Global, case: PairCase, blocks: Blocks<ToWrite<Matching>>) -> bool
+    requires { NothingBuffered blocks }
+{
+    let (result, writer) = pair_outcome(alloc, case, blocks);
+    if result == Err(ToolFault::NoMemory) {
+        writer.is_prefix()
+    } else {
+        (result == case.3) & writer.is_whole()
+    }
+}
+
+fn plans_for_texts(alloc: Global, case: PairCase) -> bool {
+    match blocks_for(alloc, case.2) {
+        Ok(blocks) => ends_for_pair(alloc, case, blocks),
+        Err(_) => false,
+    }
+}
+
+#[test]
+fn plans_for_pairs_of_texts(rt: HostRuntime) {
+    for (index, case) in TEXTS.iter().enumerate() {
+        assert!(rt; plans_for_texts(rt.alloc(), *case), "row {index}");
     }
 }

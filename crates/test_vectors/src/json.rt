@@ -4,14 +4,14 @@ use crate::paths::FIVE;
 use crate::twice;
 use conf_change::{Change, Changes, ConfState, Config, Kind, Step};
 use quorum_sets::{InlineIds, MemberSet, NoMemory, TreeIds};
-use raft_json::{JsonFault, conf_change_value, conf_state_value, read_conf_state_json};
+use raft_json::{JsonFault, conf_change_value, conf_state_value, read_saved_json};
 use std::alloc::Global;
 
 const JOINT: &str =
     "Voters:[2 3 4] VotersOutgoing:[1 2 3] Learners:[5] LearnersNext:[1] AutoLeave:true";
 
 // The JSON of a saved configuration, and its line.
-static READ: [(&str, &str); 9] = [
+static READ: [(&str, &str); 11] = [
     (
         "{}",
         "Voters:[] VotersOutgoing:[] Learners:[] LearnersNext:[] AutoLeave:false",
@@ -46,10 +46,21 @@ static READ: [(&str, &str); 9] = [
         "{\"\\u0076oters\":[1]}",
         "Voters:[1] VotersOutgoing:[] Learners:[] LearnersNext:[] AutoLeave:false",
     ),
+    // What etcdctl 3.4.23 prints of a cluster of one member, and of three of which one is a learner.
+    (
+        "{\"header\":{\"cluster_id\":14841639068965178418,\"member_id\":10276657743932975437,\"raft_term\":2},\
+        \"members\":[{\"ID\":10276657743932975437,\"name\":\"default\",\"peerURLs\":[\"http://localhost:2380\"],\
+        \"clientURLs\":[\"http://localhost:2379\"]}]}",
+        "Voters:[10276657743932975437] VotersOutgoing:[] Learners:[] LearnersNext:[] AutoLeave:false",
+    ),
+    (
+        "{\"members\":[{\"ID\":7},{\"isLearner\":true,\"ID\":2,\"name\":\"\"},{\"ID\":1,\"isLearner\":false}]}",
+        "Voters:[7 1] VotersOutgoing:[] Learners:[2] LearnersNext:[] AutoLeave:false",
+    ),
 ];
 
 // Almost the JSON of a saved configuration.
-static BAD: [&str; 24] = [
+static BAD: [&str; 29] = [
     "",
     "null",
     "[]",
@@ -74,6 +85,11 @@ static BAD: [&str; 24] = [
     "{\"voters\":[18446744073709551616]}",
     "{\"voters\":[1],\"auto_leave\":0}",
     "{\"learners\":[[1]]}",
+    "{\"members\":null}",
+    "{\"members\":{}}",
+    "{\"members\":[{\"id\":1}]}",
+    "{\"members\":[{\"ID\":\"1\"}]}",
+    "{\"members\":[{\"ID\":1,\"isLearner\":1}]}",
 ];
 
 // The changes of a simple step, and what is proposed for it: a step without a change is proposed as an update.
@@ -92,7 +108,7 @@ static PROPOSED: [(&[Change], &str); 2] = [
 ];
 
 fn read_json(alloc: Global, json: &[u8]) -> Result<ConfState, JsonFault> {
-    twice!(JsonFault::NoMemory, read_conf_state_json(alloc, json))
+    twice!(JsonFault::NoMemory, read_saved_json(alloc, json))
 }
 
 fn is_read(alloc: Global, json: &str, line: &str) -> bool {

@@ -23,6 +23,8 @@ mod json;
 #[cfg(test)]
 mod paths;
 #[cfg(test)]
+mod plan_inputs;
+#[cfg(test)]
 mod plans;
 #[cfg(test)]
 mod printed_paths;

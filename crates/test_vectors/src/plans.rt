@@ -10,7 +10,7 @@ use crate::twice;
 use conf_change::{Changer, Config, Refused, Step, check};
 use conf_plan::{
     Path, Plan, PlanFault, PlanTextFault, StepRefused, Strategy, apply_plan, changes_text,
-    command_text, plan, print_plan, read_plan,
+    command_text, plan, print_path, print_plan, read_path, read_plan,
 };
 use quorum_sets::{InlineIds, MemberSet, NoMemory, TreeIds};
 use std::alloc::Global;
@@ -307,6 +307,42 @@ static NO_PLANS: [(&str, PlanTextFault); 8] = [
         PlanTextFault::TooManySteps,
     ),
 ];
+
+// Texts of more than four lines, and the lines of the paths that they are parsed as, or the first error.
+static LONG_TEXTS: [(&str, Result<&str, PlanTextFault>); 4] = [
+    (
+        "leave-joint\nleave-joint\nleave-joint\nleave-joint\n leave-joint",
+        Ok("leave-joint\nleave-joint\nleave-joint\nleave-joint\nleave-joint\n"),
+    ),
+    (
+        "simple l4\nsimple v04\nsimple r1\nsimple l5\nsimple  v5\nsimple r2\n",
+        Ok("simple l4\nsimple v4\nsimple r1\nsimple l5\nsimple v5\nsimple r2\n"),
+    ),
+    (
+        "simple\nsimple\nsimple\nsimple\nsimple\nsimple v1 x1\n",
+        Err(PlanTextFault::BadLine(6)),
+    ),
+    (
+        "simple\nsimple\nsimple\nsimple\nnothing to do\n",
+        Err(PlanTextFault::BadLine(5)),
+    ),
+];
+
+fn is_read(alloc: Global, text: &str, expected: Result<&str, PlanTextFault>) -> bool {
+    let read = twice!(PlanTextFault::NoMemory, read_path(alloc, text.as_bytes()));
+    match (read, expected) {
+        (Ok(path), Ok(lines)) => appends!(alloc, lines, |text| print_path(text, &path)),
+        (Err(fault), Err(expected)) => fault == expected,
+        _ => false,
+    }
+}
+
+#[test]
+fn reads_paths_of_any_length(rt: HostRuntime) {
+    for (text, expected) in &LONG_TEXTS {
+        assert!(rt; is_read(rt.alloc(), *text, *expected), "{text}");
+    }
+}
 
 // A plan's text, and the command and the changes of its first step.
 static TOKENS_OF_STEPS: [(&str, &str, &str); 5] = [

@@ -97,7 +97,7 @@ static FLOORS: [(&[&str], Floor); 6] = [
 ];
 
 // Arguments that are refused with a usage error or the help, and the exit status.
-static REFUSED: [(&[&str], i32); 36] = [
+static REFUSED: [(&[&str], i32); 42] = [
     (&["confscript"], 2),
     (&["confscript", "check", "a", "b"], 2),
     (&["confscript", "rewrite", "--history", "1001"], 2),
@@ -130,6 +130,12 @@ static REFUSED: [(&[&str], i32); 36] = [
     (&["confscript", "plan", "--down", "1,"], 2),
     (&["confscript", "plan", "--down", "1 2"], 2),
     (&["confscript", "plan", "--down", "18446744073709551616"], 2),
+    (&["confscript", "plan", "--from", "voters=(1)"], 2),
+    (&["confscript", "plan", "--to", "v1"], 2),
+    (&["confscript", "plan", "--from=a", "--to=b", "f"], 2),
+    (&["confscript", "plan", "--from", "a", "--to", "b", "-"], 2),
+    (&["confscript", "plan", "--from=a", "--from=b", "--to=c"], 2),
+    (&["confscript", "check", "--from=a", "--to=b"], 2),
     (&["confscript", "--version"], 0),
     (&["confscript", "--help"], 0),
     (&["confscript", "lines", "--help"], 0),
@@ -150,6 +156,7 @@ fn have_mode(
         & (invocation.options.history == history)
         & (invocation.options.steps == steps)
         & (invocation.file == file)
+        & invocation.pair.is_none()
 }
 
 #[test]
@@ -266,6 +273,40 @@ fn accepts_arguments_of_plan(rt: HostRuntime) {
     }
 }
 
+// Arguments of `plan` with a pair, and its texts.
+static PAIRED: [(&[&str], &str, &str); 3] = [
+    (
+        &["confscript", "plan", "--from", "voters=(1)", "--to", "v2"],
+        "voters=(1)",
+        "v2",
+    ),
+    (
+        &["confscript", "plan", "--to=--from", "--from="],
+        "",
+        "--from",
+    ),
+    (
+        &["confscript", "plan", "--to", "", "--down=1", "--from", "a"],
+        "a",
+        "",
+    ),
+];
+
+fn have_pair(rt: &impl Runtime, arguments: &[&str], from: &str, to: &str) -> bool {
+    let invocation = command_line(rt.alloc(), arguments).expect(rt, "arguments that are accepted");
+    match invocation.pair {
+        Some(texts) => (texts.from == from) & (texts.to == to) & invocation.file.is_none(),
+        None => false,
+    }
+}
+
+#[test]
+fn accepts_pairs(rt: HostRuntime) {
+    for (arguments, from, to) in &PAIRED {
+        assert!(rt; have_pair(&rt, *arguments, *from, *to), "of {arguments:?}");
+    }
+}
+
 fn have_floor(rt: &impl Runtime, arguments: &[&str], floor: Floor) -> bool {
     let invocation = command_line(rt.alloc(), arguments).expect(rt, "arguments that are accepted");
     invocation.options.floor == floor
@@ -282,7 +323,7 @@ fn accepts_initial_next_indexes(rt: HostRuntime) {
 fn status_of(rt: &impl Runtime, arguments: &[&str]) -> Option<i32> {
     match command_line(rt.alloc(), arguments) {
         Err(ArgumentFault::Clap(error)) => Some(error.exit_code()),
-        Err(ArgumentFault::BadIds) => Some(2),
+        Err(ArgumentFault::BadIds | ArgumentFault::BadPair) => Some(2),
         _ => None,
     }
 }

@@ -5,8 +5,9 @@ use conf_change::{
 };
 use conf_plan::{NoPath, PlanFault, PlanTextFault, StepRefused};
 use conf_session::UndoFault;
-use conf_tool::{PlanInputFault, ToolFault};
-use dd_file::fault::{DeviceFault, FileFault, WriteFault};
+use conf_tool::{Origin, PlanInputFault, ToolFault};
+use dd_file::fault::{DeviceFault, FileFault, SyntaxFault, WriteFault};
+use plan_input::TextFault;
 use quorum_sets::NoMemory;
 use std::fmt::Display;
 use test_vectors::runtime::Runtime;
@@ -205,14 +206,20 @@ fn messages_of_plans(rt: HostRuntime) {
 }
 
 static FILES: [(FileFault, &str); 7] = [
-    (FileFault::BadDirective(1), "line 1: bad directive"),
-    (FileFault::BadDirective(12), "line 12: bad directive"),
     (
-        FileFault::AfterDouble(1),
+        FileFault::Syntax(1, SyntaxFault::BadDirective),
+        "line 1: bad directive",
+    ),
+    (
+        FileFault::Syntax(12, SyntaxFault::BadDirective),
+        "line 12: bad directive",
+    ),
+    (
+        FileFault::Syntax(1, SyntaxFault::AfterDouble),
         "line 1: line after double separator is not blank",
     ),
     (
-        FileFault::UnclosedDouble(1),
+        FileFault::Syntax(1, SyntaxFault::UnclosedDouble),
         "line 1: double separator is not closed",
     ),
     (FileFault::InputTooLong(1), "line 1: input too long"),
@@ -229,29 +236,48 @@ fn messages_of_files(rt: HostRuntime) {
     );
 }
 
+const UNKNOWN_FORM: &str =
+    "--from: not a configuration: expected voters=(1 2 3) learners=(4), a ConfState line, or JSON of a ConfState or of \
+    etcdctl member list";
+
 const BAD_LINE: &str =
     "line 1: bad conf state: expected Voters:[1 2] VotersOutgoing:[] Learners:[3] LearnersNext:[] \
     AutoLeave:false";
 
+const BAD_PRINTED: &str =
+    "--to: bad configuration: expected voters=(1 2)&&(1 2 3) learners=(4) learners_next=(3) autoleave, without what is \
+    empty";
+
 const BAD_JSON: &str =
     "line 3: bad JSON: expected {\"voters\":[1,2],\"voters_outgoing\":[],\"learners\":[3],\"learners_next\":[],\
-    \"auto_leave\":false}";
+    \"auto_leave\":false}, or etcdctl member list -w json";
 
-static CONFIGURATIONS: [(PlanInputFault, &str); 5] = [
-    (PlanInputFault::BadJson(3), BAD_JSON),
+static CONFIGURATIONS: [(PlanInputFault, &str); 7] = [
     (
-        PlanInputFault::BadLine(1, ConfigurationFault::BadConfState),
+        PlanInputFault::BadText(Origin::From, TextFault::UnknownForm),
+        UNKNOWN_FORM,
+    ),
+    (
+        PlanInputFault::BadText(Origin::Line(1), TextFault::BadConfState),
         BAD_LINE,
     ),
     (
-        PlanInputFault::BadLine(
-            2,
-            ConfigurationFault::NotAConfiguration(Violation::LearnerAndVoter(3)),
+        PlanInputFault::BadText(Origin::To, TextFault::BadPrinted),
+        BAD_PRINTED,
+    ),
+    (
+        PlanInputFault::BadText(Origin::Line(3), TextFault::BadJson),
+        BAD_JSON,
+    ),
+    (
+        PlanInputFault::BadText(
+            Origin::Line(2),
+            TextFault::NotAConfiguration(Violation::LearnerAndVoter(3)),
         ),
         "line 2: not a configuration: 3 is a voter and a learner",
     ),
     (
-        PlanInputFault::BadLine(2, ConfigurationFault::NoMemory),
+        PlanInputFault::BadText(Origin::Line(2), TextFault::NoMemory),
         "line 2: out of memory",
     ),
     (PlanInputFault::NotTwoLines, "expected two lines"),
@@ -259,17 +285,17 @@ static CONFIGURATIONS: [(PlanInputFault, &str); 5] = [
 
 static RUNS: [(ToolFault, &str); 7] = [
     (
-        ToolFault::Script(FileFault::BadDirective(1)),
+        ToolFault::Script(FileFault::Syntax(1, SyntaxFault::BadDirective)),
         "line 1: bad directive",
     ),
     (
-        ToolFault::Script(FileFault::BadDirective(2)),
+        ToolFault::Script(FileFault::Syntax(2, SyntaxFault::BadDirective)),
         "line 2: bad directive",
     ),
     (
-        ToolFault::Configurations(PlanInputFault::BadLine(
-            2,
-            ConfigurationFault::NotAConfiguration(Violation::ZeroId),
+        ToolFault::Configurations(PlanInputFault::BadText(
+            Origin::Line(2),
+            TextFault::NotAConfiguration(Violation::ZeroId),
         )),
         "line 2: not a configuration: 0 is not an id",
     ),

@@ -1,4 +1,4 @@
-//! Applying plans, and their texts; where there is no path, and which members have to catch up.
+//! Applying plans and paths, and their texts; where there is no path, and which members have to catch up.
 ghost use Rattle.std.specs.Prelude.{◌≡◌, true};
 ghost use Rattle.conf_change.specs.Configuration.{is_valid};
 
@@ -7,7 +7,8 @@ use crate::ample::sets_and_quorums::set_of;
 use crate::runtime::Runtime;
 use conf_change::{Change, Changer, Config, Kind, Refused, check};
 use conf_plan::{
-    NoPath, Plan, StepRefused, Strategy, apply_plan, catching_up, plan_by, print_plan, read_plan,
+    NoPath, Plan, StepRefused, Strategy, apply_path, apply_plan, catching_up, plan_by, print_plan,
+    read_path, read_plan,
 };
 use quorum_sets::{TreeIds, symdiff};
 
@@ -19,6 +20,17 @@ const ONE: Sets = [&[1], &[], &[], &[]];
 
 const TWO: Sets = [&[1, 2], &[], &[], &[]];
 
+// A changer at `voters=(1)`.
+fn one_voter(rt: &impl Runtime) -> Changer<TreeIds> {
+    let mut changer = Changer::new(rt.alloc(), 0);
+    let one = Change {
+        kind: Kind::Voter,
+        id: 1,
+    };
+    changer.simple_one(one).expect(rt, "a voter");
+    changer
+}
+
 // Whether applying a text's plan to a changer at `voters=(1)` has this result, and leaves it with these voters.
 fn is_stopped(
     rt: &impl Runtime,
@@ -26,15 +38,10 @@ fn is_stopped(
     expected: Result<(), StepRefused>,
     voters: Sets,
 ) -> bool {
-    let plan = plan_of(rt, text);
-    let mut changer: Changer<TreeIds> = Changer::new(rt.alloc(), 0);
-    let made = changer.simple_one(Change {
-        kind: Kind::Voter,
-        id: 1,
-    });
-    let stopped = apply_plan(&mut changer, &plan);
+    let mut changer = one_voter(rt);
+    let stopped = apply_plan(&mut changer, &plan_of(rt, text));
     let config = config_of(rt, voters, false);
-    made.is_ok() & (stopped == expected) & changer.tracker().config().same(&config)
+    (stopped == expected) & changer.tracker().config().same(&config)
 }
 
 #[test]
@@ -45,6 +52,52 @@ fn stops_at_the_first_step_that_is_refused(rt: HostRuntime) {
         is_stopped(&rt, "simple v2\nleave-joint", stop, TWO)
             & is_stopped(&rt, "simple v2", Ok(()), TWO)
             & is_stopped(&rt, "nothing to do", Ok(()), ONE)
+    );
+}
+
+const TWO_OF_THREE: Sets = [&[2, 3], &[], &[4], &[]];
+
+// Whether applying texts of paths one after another to a changer at `voters=(1)` ends in this result, and leaves it with
+// these voters.
+fn ends_with(
+    rt: &impl Runtime,
+    texts: &[&str],
+    expected: Result<(), StepRefused>,
+    voters: Sets,
+) -> bool {
+    let mut changer = one_voter(rt);
+    let mut stopped = Ok(());
+    for text in texts {
+        let path = read_path(rt.alloc(), text.as_bytes()).expect(rt, "a path");
+        stopped = apply_path(&mut changer, &path);
+    }
+    let config = config_of(rt, voters, false);
+    (stopped == expected) & changer.tracker().config().same(&config)
+}
+
+const FIRST_STEPS: &str = "simple l2\nsimple v2\n";
+
+const OTHER_STEPS: &str = "simple l3\nsimple v3\nsimple r1\nsimple l4\n";
+
+const ALL_STEPS: &str = "simple l2\nsimple v2\nsimple l3\nsimple v3\nsimple r1\nsimple l4\n";
+
+#[test]
+fn applies_paths_of_any_length(rt: HostRuntime) {
+    let refused = Refused::NotJoint;
+    let seventh = Err(StepRefused { step: 7, refused });
+    let third = Err(StepRefused { step: 3, refused });
+    let too_many =
+        "simple l2\nsimple v2\nsimple l3\nsimple v3\nsimple r1\nsimple l4\nleave-joint\n";
+    assert!(rt;
+        ends_with(&rt, &[ALL_STEPS], Ok(()), TWO_OF_THREE)
+            & ends_with(&rt, &[FIRST_STEPS, OTHER_STEPS], Ok(()), TWO_OF_THREE)
+            & ends_with(&rt, &[too_many], seventh, TWO_OF_THREE)
+            & ends_with(
+                &rt,
+                &[ALL_STEPS, "simple\nsimple\nleave-joint"],
+                third,
+                TWO_OF_THREE
+            )
     );
 }
 
