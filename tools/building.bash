@@ -19,16 +19,20 @@ is_own() {
   grep -q "^$1[: ]" "$top/crates.txt"
 }
 
-# crates_below CRATE: the crates of this repository that a crate depends on, each after those that it depends on itself.
-# Some are printed more than once.
+# crates_below CRATE: the crates of this repository that a crate depends on, each once and after those that it depends on
+# itself.
 crates_below() {
-  local library
-  for library in $(libraries_of "$1"); do
-    if is_own "$library"; then
-      crates_below "$library"
-      echo "$library"
-    fi
-  done
+  awk -v crate="$1" '
+    { name = $1; sub(/:.*/, "", name); libraries = $0; sub(/^[^:]*:/, "", libraries); below[name] = libraries }
+    function visit(name,    found, count, i) {
+      count = split(below[name], found)
+      for (i = 1; i <= count; i++) if (found[i] in below && !(found[i] in seen)) {
+        seen[found[i]]
+        visit(found[i])
+        print found[i]
+      }
+    }
+    END { visit(crate) }' "$top/crates.txt"
 }
 
 # rlib_of CRATE: the path of the library that is built of a crate.
@@ -153,7 +157,7 @@ prove_below() {
   local logs=$1 jobs=$3 jobs_beside crate left=() first='' beside='' ended status
   local -A began
   jobs_beside=$(jobs_for_machine "$jobs")
-  for crate in $(crates_below "$2" | awk '!seen[$0]++'); do
+  for crate in $(crates_below "$2"); do
     is_built "$crate" || left+=("$crate")
   done
   trap end_proofs EXIT

@@ -15,5 +15,7 @@ complete -c confscript -n '__fish_seen_subcommand_from undo' -l steps -x -d 'how
 complete -c confscript -n '__fish_seen_subcommand_from plan' -l strategy -x -a 'shortest learners-first one-at-a-time' -d 'how the plan is made'
 complete -c confscript -n '__fish_seen_subcommand_from plan' -l output -x -a 'steps script table json' -d 'how the plan is printed'
 complete -c confscript -n '__fish_seen_subcommand_from plan' -l down -x -d 'ids that are down, separated by commas'
+complete -c confscript -n '__fish_seen_subcommand_from plan' -l from -x -d 'the current configuration, in place of a file'
+complete -c confscript -n '__fish_seen_subcommand_from plan' -l to -x -d 'the target, or changes of the current configuration'
 complete -c confscript -s h -l help -d 'print help'
 complete -c confscript -n "not __fish_seen_subcommand_from $modes" -s V -l version -d 'print the version'
