@@ -660,7 +660,7 @@ static void refused_steps(void) {
     REFUSED("step: not a valid configuration", step, CONFSCRIPT_LEARNER_AND_VOTER, 2);
 }
 
-/* Applies a plan to a line, so many lines in each call, and writes the last result to `line`. */
+/* Applies a plan to a line, at most `lines` lines in each call, and writes the last result to `line`. */
 static struct confscript_answer applied(char *line, const char *steps, int lines) {
     struct confscript_answer answer;
     do {

@@ -122,7 +122,7 @@ _library.confscript_version.argtypes, _library.confscript_version.restype = (), 
 
 
 def _uint(value, bits=64):
-    """Returns an int that fits into so many bits; ctypes would wrap it around."""
+    """Returns an int that fits into this number of bits; ctypes would wrap it around."""
     number = operator.index(value)
     if not 0 <= number < 1 << bits:
         raise OverflowError(f"{number} is not in the range 0 to 2**{bits}-1")
