@@ -1,9 +1,9 @@
 -- Text without a byte at its end.
-use Rattle.std.proofs.Common.{◌≡◌, ℕ, Bool, true, false, cond, ◌&&◌, ◌⊎◌, inl, inr, List, [], ◌∷◌, ◌++◌, refl, sym, ◌∙◌, ap, eq-eqb, rules}
+use Rattle.std.proofs.Common.{◌≡◌, ℕ, true, cond, ◌&&◌, ◌⊎◌, inl, inr, List, [], ◌∷◌, ◌++◌, refl, ◌∙◌, ap, eqb-true, arith}
 use Rattle.std.specs.Prelude.{◌==◌}
+use Rattle.std.proofs.lemmas.Bool.Decides.{nat_tests}
 use Rattle.ascii_text.specs.WhiteSpace.{is_space, is_blank, without_trailing_space}
 use Rattle.ascii_text.specs.Lines.{without_last}
-use Rattle.ascii_text.proofs.WhiteSpace.{ends-blank}
 
 -- a list has no element, or a last one
 pub list-by_last : {A : Type 0} (xs : List A) → (xs ≡ []) ⊎ ((prefix : List A) × (x : A) × (xs ≡ prefix ++ x ∷ []))
@@ -13,24 +13,15 @@ list-by_last (x ∷ xs) = elim (list-by_last xs) [ inl e ↦ inr ([], x, ap (λ 
 -- bytes with one more at their end
 pub without_last-push : (b x : ℕ) (xs : List ℕ) → without_last b (xs ++ x ∷ []) ≡ cond (x == b) xs (xs ++ x ∷ [])
 without_last-push b x [] = refl
-without_last-push b x (y ∷ []) = at (x == b) where
-  at : (c : Bool) → y ∷ cond c [] (x ∷ []) ≡ cond c (y ∷ []) (y ∷ x ∷ [])
-  at true = refl
-  at false = refl
-without_last-push b x (y ∷ z ∷ xs) = ap (λ t. y ∷ t) (without_last-push b x (z ∷ xs)) ∙ at (x == b) where
-  at : (c : Bool) → y ∷ cond c (z ∷ xs) (z ∷ xs ++ x ∷ []) ≡ cond c (y ∷ z ∷ xs) (y ∷ z ∷ xs ++ x ∷ [])
-  at true = refl
-  at false = refl
+without_last-push b x (y ∷ []) = grind arith
+without_last-push b x (y ∷ z ∷ xs) = grind (arith, without_last-push b x (z ∷ xs))
 
 -- bytes that end in that byte, that end in another, and none
 pub without_last-same : (b x : ℕ) (prefix bytes : List ℕ) → bytes ≡ prefix ++ x ∷ [] → x ≡ b → prefix ≡ without_last b bytes
-without_last-same b x prefix bytes e h =
-    sym (ap (without_last b) e ∙ without_last-push b x prefix ∙ ap (λ c. cond c prefix (prefix ++ x ∷ [])) (eq-eqb x b h))
+without_last-same b x prefix bytes e h = grind (arith, nat_tests, e, h, without_last-push b x prefix)
 
 pub without_last-other : (b x : ℕ) (prefix bytes : List ℕ) → bytes ≡ prefix ++ x ∷ [] → (x ≡ b → ⊥) → bytes ≡ without_last b bytes
-without_last-other b x prefix bytes e ne =
-    let h : (x == b) ≡ false = search rules in
-    e ∙ sym (ap (without_last b) e ∙ without_last-push b x prefix ∙ ap (λ c. cond c prefix (prefix ++ x ∷ [])) h)
+without_last-other b x prefix bytes e ne = grind (arith, nat_tests, e, ne, without_last-push b x prefix)
 
 -- bytes with more after them
 pub without_last-append : (b : ℕ) (xs : List ℕ) (y : ℕ) (ys : List ℕ) → without_last b (xs ++ y ∷ ys) ≡ xs ++ without_last b (y ∷ ys)
@@ -39,21 +30,14 @@ without_last-append b (x ∷ []) y ys = refl
 without_last-append b (x ∷ z ∷ xs) y ys = ap (λ t. x ∷ t) (without_last-append b (z ∷ xs) y ys)
 
 -- white space at the end makes no text blank
-blank-last : (c x : ℕ) (b : Bool) → (x == c) ≡ b → is_space c ≡ true → is_blank (cond b [] (x ∷ [])) ≡ is_blank (x ∷ [])
-blank-last c x true e h = let is : x ≡ c = search rules in rw (is, h) refl
-blank-last c x false e h = refl
-
 pub is_blank-without_last : (c : ℕ) (xs : List ℕ) → is_space c ≡ true → is_blank (without_last c xs) ≡ is_blank xs
 is_blank-without_last c [] h = refl
-is_blank-without_last c (x ∷ []) h = blank-last c x (x == c) refl h
+is_blank-without_last c (x ∷ []) h = grind (arith, h, eqb-true x c)
 is_blank-without_last c (x ∷ y ∷ ys) h = ap (λ b. is_space x && b) (is_blank-without_last c (y ∷ ys) h)
 
 pub without_trailing_space-without_last : (c : ℕ) (xs : List ℕ) → is_space c ≡ true → without_trailing_space (without_last c xs) ≡ without_trailing_space xs
 without_trailing_space-without_last c [] h = refl
-without_trailing_space-without_last c (x ∷ []) h = at (x == c) refl where
-  at : (b : Bool) → (x == c) ≡ b → without_trailing_space (cond b [] (x ∷ [])) ≡ without_trailing_space (x ∷ [])
-  at true e = let is : x ≡ c = search rules in sym (ends-blank (x ∷ []) (ap (λ y. is_blank (y ∷ [])) is ∙ ap (λ b. b && true) h))
-  at false e = refl
+without_trailing_space-without_last c (x ∷ []) h = grind (arith, h, eqb-true x c)
 without_trailing_space-without_last c (x ∷ y ∷ ys) h =
     ap (λ b. cond (is_space x && b) [] (x ∷ without_trailing_space (without_last c (y ∷ ys)))) (is_blank-without_last c (y ∷ ys) h)
     ∙ ap (λ t. cond (is_blank (x ∷ y ∷ ys)) [] (x ∷ t)) (without_trailing_space-without_last c (y ∷ ys) h)

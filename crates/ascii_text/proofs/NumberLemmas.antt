@@ -1,13 +1,15 @@
 -- The function that reads a number, against the relation.
-use Rattle.std.proofs.Common.{◌≡◌, ℕ, ◌+◌, ◌*◌, ◌<◌, ◌≤◌, ◌^◌, ◌-◌, true, false, ltb, leb, List, length, take, get_or, Some, None, refl, sym, ◌∙◌, arith, ◌&&◌}
-use Rattle.std.specs.Char.{is_ascii_digit, digit_value}
+use Rattle.std.proofs.Common.{◌≡◌, ℕ, ◌+◌, ◌*◌, ◌<◌, ◌≤◌, ◌^◌, ◌-◌, true, false, ltb, leb, List, length, take, get_or, Some, None, refl, sym, ap, subst, ◌∙◌, length-take, arith, ◌&&◌}
+use Rattle.std.specs.Char.{is_ascii_digit}
+use Rattle.std.specs.Prelude.{min}
 use Rattle.std.specs.Int.{IsInRange}
 use Rattle.std.specs.Str.{all_ascii_digits}
 use Rattle.std.specs.Str.Parse.{AllDigits, digits_value}
 use Rattle.std.proofs.lemmas.Bool.{lt-ltb, ltb-true, le-leb, leb-true, and_parts, and_from, true≢false}
+use Rattle.std.proofs.lemmas.List.{take_all}
 use Rattle.std.proofs.lemmas.Option.{cond_some}
 use Rattle.std.proofs.lemmas.Str.Parse.{IsNumeralModel, numerals_by_value, tells_digits, tells_all_ascii_digits, digits_value_short, digits_value-take-le, digit_at}
-use Rattle.std.proofs.lemmas.Int.Digits.{digits_value_more}
+use Rattle.std.proofs.lemmas.Int.Digits.{digits_value_more, digits_more}
 use Rattle.std.proofs.lemmas.Str.{digit_value_digit}
 use Rattle.ascii_text.specs.Tokens.{has_bytes}
 use Rattle.ascii_text.specs.Number.{ParsesToNumber, number_in}
@@ -45,25 +47,32 @@ number_in-none_at digits i within other = number_in-none digits (λ number h.
     let byte = get_or digits i 0 in
     true≢false (sym (and_from (leb 48 byte) (leb byte 57) (le-leb 48 byte digit.0) (le-leb byte 57 digit.1)) ∙ other))
 
--- leading digits whose value is too large
-pub number_in-none_prefix : (digits : List ℕ) (i : ℕ) → 2 ^ 64 ≤ digits_value 10 (take i digits) → number_in digits ≡ None
-number_in-none_prefix digits i large = number_in-none digits (λ number h. omega (arith, h.value, h.in_range, digits_value-take-le 10 digits i (omega arith)))
+-- ---- digits that are read one after another
+-- the first i bytes are digits whose value is n
+pub record IsRead (digits : List ℕ) (i n : ℕ) : Type 0 where
+  pub all_digits : AllDigits 10 (take i digits)
+  pub value : n ≡ digits_value 10 (take i digits)
 
-pub number_in-some : (digits : List ℕ) → 0 < length digits → AllDigits 10 digits → digits_value 10 digits < 2 ^ 64 → number_in digits ≡ Some (digits_value 10 digits)
-number_in-some digits some all below = number_in-ok digits _ (record { numeral = (some, all); value = refl; in_range = below })
+pub IsRead-more : (digits : List ℕ) (i n : ℕ) → IsRead digits i n → i < length digits → is_ascii_digit (get_or digits i 0) ≡ true → IsRead digits (i + 1) (n * 10 + (get_or digits i 0 - 48))
+IsRead-more digits i n read within digit =
+    let range = and_parts (leb 48 (get_or digits i 0)) (leb (get_or digits i 0) 57) digit in
+    let in_range : IsInRange 48 57 (get_or digits i 0) = (leb-true 48 _ range.0, leb-true _ 57 range.1) in
+    let value = digit_value_digit (get_or digits i 0) in_range in
+    record {
+      all_digits = digits_more 10 digits i within read.all_digits (omega (arith, in_range.1, value));
+      value = omega (arith, read.value, value, digits_value_more 10 digits i within);
+    }
 
-IsInRange-digit : (byte : ℕ) → is_ascii_digit byte ≡ true → IsInRange 48 57 byte
-IsInRange-digit byte digit = let range = and_parts (leb 48 byte) (leb byte 57) digit in (leb-true 48 byte range.0, leb-true byte 57 range.1)
+-- few digits have a small value
+pub IsRead-few : (digits : List ℕ) (i n k : ℕ) → IsRead digits i n → min i (length digits) ≤ k → n < 10 ^ k
+IsRead-few digits i n k read few = rw read.value (digits_value_short (numerals_by_value _ tells_digits) (take i digits) k read.all_digits (omega (arith, length-take i digits)))
 
-pub digit_value-lt : (byte : ℕ) → is_ascii_digit byte ≡ true → digit_value byte < 10
-digit_value-lt byte digit = let range = IsInRange-digit byte digit in omega (arith, range.0, range.1, digit_value_digit byte range)
+pub IsRead-whole : (digits : List ℕ) (i n : ℕ) → IsRead digits i n → length digits ≤ i → 0 < length digits → n < 2 ^ 64 → Some n ≡ number_in digits
+IsRead-whole digits i n read end some below =
+    let whole = take_all i digits end in
+    sym (number_in-ok digits n (record { numeral = (some, subst (AllDigits 10) whole read.all_digits); value = sym (read.value ∙ ap (digits_value 10) whole); in_range = below }))
 
--- few digits spell a small number
-pub digits_value-few : (digits : List ℕ) (k : ℕ) → AllDigits 10 digits → length digits ≤ k → digits_value 10 digits < 10 ^ k
-digits_value-few = digits_value_short (numerals_by_value _ tells_digits)
-
--- one digit more
-pub digits_value-take_more : (digits : List ℕ) (i : ℕ) → i < length digits → is_ascii_digit (get_or digits i 0) ≡ true → digits_value 10 (take (i + 1) digits) ≡ digits_value 10 (take i digits) * 10 + (get_or digits i 0 - 48)
-digits_value-take_more digits i within digit =
-    let value = digit_value_digit (get_or digits i 0) (IsInRange-digit _ digit) in
-    digits_value_more 10 digits i within ∙ omega arith
+-- one digit more, and the value is too large
+pub number_in-none_more : (digits : List ℕ) (i n : ℕ) → IsRead digits i n → i < length digits → is_ascii_digit (get_or digits i 0) ≡ true → 2 ^ 64 ≤ n * 10 + (get_or digits i 0 - 48) → None ≡ number_in digits
+number_in-none_more digits i n read within digit large =
+    sym (number_in-none digits (λ number h. omega (arith, large, h.value, h.in_range, (IsRead-more digits i n read within digit).value, digits_value-take-le 10 digits (i + 1) (omega arith))))

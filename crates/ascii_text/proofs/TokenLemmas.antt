@@ -1,7 +1,7 @@
 -- The tokens of a text, one by one.
-use Rattle.std.proofs.Common.{◌≡◌, ℕ, ◌+◌, ◌<◌, Bool, true, false, not, cond, ◌&&◌, List, [], ◌∷◌, ◌++◌, length, take, drop, get_or, filter, refl, sym, ap, ◌∙◌, arith, inl, inr}
+use Rattle.std.proofs.Common.{◌≡◌, ℕ, ◌+◌, ◌<◌, true, not, cond, List, [], ◌∷◌, ◌++◌, length, take, drop, get_or, filter, refl, sym, ap, ◌∙◌, arith, inl, inr}
 use Rattle.std.specs.List.{slice_split, onto_first, position_or_len, after_first}
-use Rattle.std.proofs.lemmas.Bool.{lt-ltb, cases_lt}
+use Rattle.std.proofs.lemmas.Bool.{lt-ltb, cases_lt, cases_Bool, and_parts}
 use Rattle.std.proofs.lemmas.List.{append-nil, take_all, drop_all, drop_more, length-take}
 use Rattle.std.proofs.lemmas.List.Elements.{filter-append}
 use Rattle.std.proofs.lemmas.List.Sums.{prefix_len-le-length, fails_before_first, passes_at_first}
@@ -18,28 +18,21 @@ onto_first-append b (p ∷ ps) qs h = refl
 split-at_space : (prefix : List ℕ) (b : ℕ) (back : List ℕ) → is_space b ≡ true → slice_split is_space (prefix ++ b ∷ back) ≡ slice_split is_space prefix ++ slice_split is_space back
 split-at_space [] b back h = ap (λ c. cond c ([] ∷ slice_split is_space back) (onto_first b (slice_split is_space back))) h
 split-at_space (x ∷ prefix) b back h =
-    ap (λ ps. cond (is_space x) ([] ∷ ps) (onto_first x ps)) (split-at_space prefix b back h) ∙ at (is_space x) where
-      at : (c : Bool) → cond c ([] ∷ (slice_split is_space prefix ++ slice_split is_space back)) (onto_first x (slice_split is_space prefix ++ slice_split is_space back))
-          ≡ cond c ([] ∷ slice_split is_space prefix) (onto_first x (slice_split is_space prefix)) ++ slice_split is_space back
-      at true = refl
-      at false = onto_first-append x (slice_split is_space prefix) (slice_split is_space back) (omega (arith, length-slice_split is_space prefix))
+    let onto = onto_first-append x (slice_split is_space prefix) (slice_split is_space back) (omega (arith, length-slice_split is_space prefix)) in
+    grind (arith, split-at_space prefix b back h, onto)
 
 pub tokens_in-at_space : (prefix : List ℕ) (b : ℕ) (back : List ℕ) → is_space b ≡ true → tokens_in (prefix ++ b ∷ back) ≡ tokens_in prefix ++ tokens_in back
 tokens_in-at_space prefix b back h = ap (filter has_bytes) (split-at_space prefix b back h) ∙ filter-append has_bytes (slice_split is_space prefix) (slice_split is_space back)
 
 tokens_in-blank : (bytes : List ℕ) → is_blank bytes ≡ true → tokens_in bytes ≡ []
 tokens_in-blank [] h = refl
-tokens_in-blank (b ∷ bs) h = at (is_space b) refl h (tokens_in-blank bs) where
-  at : (c : Bool) → is_space b ≡ c → (c && is_blank bs) ≡ true → (is_blank bs ≡ true → tokens_in bs ≡ []) → tokens_in (b ∷ bs) ≡ []
-  at true e k ih = tokens_in-at_space [] b bs e ∙ ih k
-  at false e k ih = cc
+tokens_in-blank (b ∷ bs) h = let both = and_parts (is_space b) (is_blank bs) h in tokens_in-at_space [] b bs both.0 ∙ tokens_in-blank bs both.1
 
 tokens_in-before_blank : (prefix back : List ℕ) → is_blank back ≡ true → tokens_in (prefix ++ back) ≡ tokens_in prefix
 tokens_in-before_blank prefix [] h = ap tokens_in (append-nil prefix)
-tokens_in-before_blank prefix (b ∷ back) h = at (is_space b) refl h where
-  at : (c : Bool) → is_space b ≡ c → (c && is_blank back) ≡ true → tokens_in (prefix ++ b ∷ back) ≡ tokens_in prefix
-  at true e k = tokens_in-at_space prefix b back e ∙ ap (λ ws. tokens_in prefix ++ ws) (tokens_in-blank back k) ∙ append-nil (tokens_in prefix)
-  at false e k = cc
+tokens_in-before_blank prefix (b ∷ back) h =
+    let both = and_parts (is_space b) (is_blank back) h in
+    tokens_in-at_space prefix b back both.0 ∙ ap (λ ws. tokens_in prefix ++ ws) (tokens_in-blank back both.1) ∙ append-nil (tokens_in prefix)
 
 -- so white space at the end changes no tokens
 pub tokens_in-ends : (bytes : List ℕ) → tokens_in bytes ≡ tokens_in (without_trailing_space bytes)
@@ -48,10 +41,10 @@ tokens_in-ends bytes = let t = ends-tail bytes in ap tokens_in t.whole ∙ token
 -- white space before the first token
 tokens_in-without_leading_space : (text : List ℕ) → tokens_in (without_leading_space text) ≡ tokens_in text
 tokens_in-without_leading_space [] = refl
-tokens_in-without_leading_space (b ∷ bs) = at (is_space b) refl (tokens_in-without_leading_space bs) where
-  at : (c : Bool) → is_space b ≡ c → tokens_in (without_leading_space bs) ≡ tokens_in bs → tokens_in (cond c (without_leading_space bs) (b ∷ bs)) ≡ tokens_in (b ∷ bs)
-  at true e ih = ih ∙ sym (tokens_in-at_space [] b bs e)
-  at false e ih = refl
+tokens_in-without_leading_space (b ∷ bs) = elim (cases_Bool (is_space b)) [
+  | inl e ↦ ap (λ c. tokens_in (cond c (without_leading_space bs) (b ∷ bs))) e ∙ tokens_in-without_leading_space bs ∙ sym (tokens_in-at_space [] b bs e)
+  | inr e ↦ ap (λ c. tokens_in (cond c (without_leading_space bs) (b ∷ bs))) e
+]
 
 filter-cons_yes : (full_line : List ℕ) (full_lines : List (List ℕ)) → 0 < length full_line → filter has_bytes (full_line ∷ full_lines) ≡ full_line ∷ filter has_bytes full_lines
 filter-cons_yes full_line full_lines some = rw (lt-ltb 0 (length full_line) some) refl
@@ -74,11 +67,7 @@ tokens_first text some =
 -- a text without white space before it begins with another byte, or is empty
 empty_from_no_token : (text : List ℕ) → position_or_len is_space (without_leading_space text) ≡ 0 → without_leading_space text ≡ []
 empty_from_no_token [] none = refl
-empty_from_no_token (b ∷ bs) none = at (is_space b) refl (empty_from_no_token bs) none where
-  at : (c : Bool) → is_space b ≡ c → (position_or_len is_space (without_leading_space bs) ≡ 0 → without_leading_space bs ≡ []) →
-      position_or_len is_space (cond c (without_leading_space bs) (b ∷ bs)) ≡ 0 → cond c (without_leading_space bs) (b ∷ bs) ≡ []
-  at true e ih none = ih none
-  at false e ih none = let more : position_or_len is_space (b ∷ bs) ≡ 1 + position_or_len is_space bs = rw e refl in absurd (omega (arith, more, none))
+empty_from_no_token (b ∷ bs) none = grind (arith, none, empty_from_no_token bs)
 
 -- what is up to the next white space, in a text without white space before it, is the first token; where that is empty, there is none
 pub tokens_in-none_at_prefix : (text : List ℕ) → position_or_len is_space (without_leading_space text) ≡ 0 → tokens_in text ≡ []

@@ -3,17 +3,14 @@
 ghost use Rattle.std.specs.Prelude.{◌≡◌, ◌≤◌, ◌<◌, [], ◌∷◌, length, IfSome, MatchOption};
 ghost use Rattle.ascii_text.specs.Lines.{first_len, full_lines, without_last, line_of, ends_in_newline};
 
-use memchr::memchr;
+use crate::position::far_position_of;
 
 /// The length of the first full line in bytes, 0 if the text is empty.
 pub fn first_line_len(bytes: &[u8]) -> usize
     ensures count { result ≡ first_len bytes.now }
     ensures bound { result ≤ length bytes.now }
 {
-    match memchr(b'\n', bytes) {
-        Some(i) => i + 1,
-        None => bytes.len(),
-    }
+    (far_position_of(bytes, b'\n') + 1).min(bytes.len())
 }
 
 /// The first full line of a text, and the text after it. An empty text has none (own).

@@ -3,5 +3,4 @@
 pub mod Members
 pub mod Union
 pub mod Difference
-pub mod LeastCommon
 pub mod WrittenOut

@@ -1,6 +1,5 @@
--- How a set is kept: a rising list, or a tree.
+-- How a set is kept: an ascending list, or a tree.
 
 pub mod AscendingList
 pub mod Positions
 pub mod Tree
-pub mod MapEntries

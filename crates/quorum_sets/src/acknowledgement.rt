@@ -16,6 +16,7 @@ pub trait AckSource {
         ensures { result ≡ finite.get (acks self.now) id };
 }
 
+#[tactic(auto, using(crate::proofs::IdSets::Members::entries_steps))]
 impl AckSource for BTreeMap<u64, u64> {
     ghost acks = { λ map. finite.from_entries map.entries };
 

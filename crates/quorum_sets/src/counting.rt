@@ -14,9 +14,7 @@ pub fn count_where<S: MemberSet, F: Fn(u64) -> bool>(set: &S, test: F) -> usize
     let mut count = 0;
     for position in 0..set.len() {
         if let Some(id) = set.at(position) {
-            if test(id) {
-                count += 1;
-            }
+            count += usize::from(test(id));
         }
     }
     count

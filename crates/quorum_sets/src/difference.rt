@@ -25,9 +25,7 @@ fn common_count<S: MemberSet>(a: &S, b: &S) -> usize
     let mut other_position = 0;
     for position in 0..a.len() {
         if let Some(id) = a.at(position) {
-            if contains_from(b, &mut other_position, id) {
-                count += 1;
-            }
+            count += usize::from(contains_from(b, &mut other_position, id));
         }
     }
     count

@@ -31,6 +31,7 @@ impl Model for InlineIds {
     ghost invariant = { λ inner. IsIdList inner.list };
 }
 
+#[tactic(auto, using(crate::proofs::KeptSets::AscendingList::list_steps))]
 impl MemberSet for InlineIds {
     ghost ids = { λ set. set };
 

@@ -53,6 +53,6 @@ pub use member_set::MemberSet;
 pub use overlap::common_member;
 pub use tolerance::{commits_without, may_be_down};
 pub use tree_ids::TreeIds;
-pub use unions::union;
+pub use unions::{add_ids, union};
 pub use vote_source::VoteSource;
 pub use voting::{Tally, VoteResult, joint_result, joint_vote, vote};

@@ -4,6 +4,7 @@ ghost use Rattle.std.specs.Prelude.{ℕ, IfSome, IfNone};
 ghost use Rattle.quorum_sets.specs.Voters.{pair};
 ghost use Rattle.quorum_sets.specs.Overlap.{IsCommon, IsLeastCommon, IsCommonMember};
 
+use crate::lookup::contains_from;
 use crate::majority::is_quorum;
 use crate::member_set::MemberSet;
 
@@ -32,18 +33,12 @@ fn least_common<S: MemberSet>(a: &S, b: &S) -> Option<u64>
     ensures least { IfSome result (IsLeastCommon (S.ids a.now) (S.ids b.now)) }
     ensures none { IfNone result ((id : ℕ) → ¬ IsCommon (S.ids a.now) (S.ids b.now) id) }
 {
-    let mut position = 0;
     let mut other_position = 0;
-    while position < a.len() && other_position < b.len() {
-        let id = a.at(position);
-        let other = b.at(other_position);
-        if id == other {
-            return id;
-        }
-        if id < other {
-            position += 1;
-        } else {
-            other_position += 1;
+    for position in 0..a.len() {
+        if let Some(id) = a.at(position) {
+            if contains_from(b, &mut other_position, id) {
+                return Some(id);
+            }
         }
     }
     None

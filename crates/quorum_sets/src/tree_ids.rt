@@ -28,6 +28,7 @@ impl Model for TreeIds {
     ghost view = { λ inner. ids_of inner.tree.keys };
 }
 
+#[tactic(auto, using(crate::proofs::KeptSets::Tree::tree_steps))]
 impl MemberSet for TreeIds {
     ghost ids = { λ set. set };
 

@@ -18,8 +18,8 @@ pub fn union<S: MemberSet>(a: &S, b: &S) -> Result<S, NoMemory>
     S::of_list(alloc, ids.as_slice())
 }
 
-// Appends the ids of a set, in ascending order.
-pub(crate) fn add_ids<S: MemberSet>(ids: &mut SmallVec<u64, 16>, set: &S) -> Result<(), NoMemory>
+/// Appends the ids of a set to a list, in ascending order.
+pub fn add_ids<S: MemberSet>(ids: &mut SmallVec<u64, 16>, set: &S) -> Result<(), NoMemory>
     ensures { OnOk result (ids.new.items ≡ ids.old.items ++ ascending (S.ids set.now)) }
 {
     ids.reserve(set.len())?;

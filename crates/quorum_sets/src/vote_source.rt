@@ -16,6 +16,7 @@ pub trait VoteSource {
         ensures { result ≡ finite.get (votes self.now) id };
 }
 
+#[tactic(auto, using(crate::proofs::IdSets::Members::entries_steps))]
 impl VoteSource for BTreeMap<u64, bool> {
     ghost votes = { votes_in };
 

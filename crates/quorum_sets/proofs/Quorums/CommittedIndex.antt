@@ -1,161 +1,94 @@
 -- The committed index by counting, and as the greatest reached one.
-use Rattle.std.proofs.Common.{◌≡◌, ℕ, zero, suc, add-zero, ◌+◌, ◌*◌, ◌<◌, ◌≤◌, Bool, true, false, cond, ◌==◌, List, [], ◌∷◌, length, max, fold, refl, sym, ap, ◌∙◌, arith, inl, inr}
-use Rattle.std.specs.Prelude.{nat_eq, nat_lt, nat_le, count_by, filter, sum}
+use Rattle.std.proofs.Common.{◌≡◌, ℕ, zero, suc, add-zero, ◌+◌, ◌*◌, ◌<◌, ◌≤◌, Bool, true, false, cond, not, ◌==◌, List, [], ◌∷◌, length, max, fold, refl, sym, ap, subst, ◌∙◌, arith, inl, inr}
+use Rattle.std.specs.Prelude.{nat_eq, nat_lt, nat_le, count_by, filter}
 use Rattle.std.specs.List.Sorted.{IsPermutation}
 use Rattle.std.specs.List.{list_any}
-use Rattle.std.proofs.lemmas.Bool.{cases_Bool, cases_lt, cond_both, ltb-true, lt-ltb, leb-true, le-leb, or_parts, or_cases, eqb-true, eqb-false, le-ltb, both_ways, cases_order, false_from_ne_true, cond-true, cond-false}
+use Rattle.std.proofs.lemmas.Bool.{cases_lt, cases_order, cond_both, lt-ltb, ltb-true, le-leb, le-ltb, ltb-false, eq-eqb, ne_eqb, eqb-true, eqb-false, false_from_ne_true}
 use Rattle.std.proofs.lemmas.Bool.Decides.{nat_tests}
 use Rattle.std.proofs.lemmas.List.{length-map}
-use Rattle.std.proofs.lemmas.List.Sums.{sum_by-cons}
 use Rattle.std.proofs.lemmas.List.Sorted.{length_permutation}
-use Rattle.quorum_sets.specs.Ids.{Ids, ascending, is_empty, size}
+use Rattle.quorum_sets.specs.Ids.{Ids, ascending, size}
 use Rattle.quorum_sets.specs.Committed.{Acks, acked_index, acked_indexes, greatest_index, is_reached, is_passed, IsCommitted, committed_index, committed_of}
 use Rattle.quorum_sets.specs.Voters.{most}
-use Rattle.quorum_sets.proofs.Quorums.Counts.{count_by-mono, most-permuted, majority_passes-values}
+use Rattle.quorum_sets.proofs.Quorums.Counts.{count_by-both, count_by-mono, count_by-none, count_by-permuted, most-mono, majority_passes-values}
 
 -- ---- the greatest item that passes
-fold_max-le : (a : ℕ) (xs : List ℕ) → a ≤ fold max a xs
-fold_max-le a [] = omega arith
-fold_max-le a (x ∷ xs) = let rest = fold_max-le (max a x) xs in omega arith
+record IsGreatest (p : ℕ → Bool) (least : ℕ) (xs : List ℕ) (m : ℕ) : Type 0 where
+  passes : p m ≡ true
+  above : least ≤ m
+  bound : (x : ℕ) → list_any (λ y. x == y) xs ≡ true → p x ≡ true → x ≤ m
 
-passes_max : (p : ℕ → Bool) (a x : ℕ) → p a ≡ true → p x ≡ true → p (max a x) ≡ true
-passes_max p a x first second = elim (cases_lt a x) [
-  | inl less ↦ let e : max a x ≡ x = omega arith in ap p e ∙ second
-  | inr more ↦ let e : max a x ≡ a = omega arith in ap p e ∙ first
-]
-
-pub fold_max_filter-passes : (p : ℕ → Bool) (a : ℕ) (xs : List ℕ) → p a ≡ true → p (fold max a (filter p xs)) ≡ true
-fold_max_filter-passes p a [] here = here
-fold_max_filter-passes p a (x ∷ xs) here =
-    cond_both (p x) (x ∷ filter p xs) (filter p xs) (λ ys. p (fold max a ys) ≡ true)
-    (λ passes. fold_max_filter-passes p (max a x) xs (passes_max p a x here passes))
-    (λ fails. fold_max_filter-passes p a xs here)
-
-pub fold_max_filter-bound : (p : ℕ → Bool) (a x : ℕ) (xs : List ℕ) → p x ≡ true → list_any (λ y. x == y) xs ≡ true → x ≤ fold max a (filter p xs)
-fold_max_filter-bound p a x [] here among = let no : false ≡ true = among in cc
-fold_max_filter-bound p a x (y ∷ xs) here among =
-    cond_both (p y) (y ∷ filter p xs) (filter p xs) (λ ys. x ≤ fold max a ys)
-    (λ passes. elim (or_cases (x == y) (list_any (λ z. x == z) xs) among) [
-      | inl same ↦ let rest = fold_max-le (max a y) (filter p xs) in let e : x ≡ y = eqb-true x y same in omega arith
-      | inr later ↦ fold_max_filter-bound p (max a y) x xs here later
-    ])
-    (λ fails. elim (or_cases (x == y) (list_any (λ z. x == z) xs) among) [
-      | inl same ↦ let e : x ≡ y = eqb-true x y same in let no : true ≡ false = sym here ∙ ap p e ∙ fails in cc
-      | inr later ↦ fold_max_filter-bound p a x xs here later
-    ])
-
--- ---- counts of what is above k
-count_above-next : (k : ℕ) (xs : List ℕ) → list_any (λ y. (k + 1) == y) xs ≡ false → count_by (nat_lt k) xs ≡ count_by (nat_lt (k + 1)) xs
-count_above-next k [] none = refl
-count_above-next k (x ∷ xs) none =
-    let parts = or_parts ((k + 1) == x) (list_any (λ y. (k + 1) == y) xs) none in
-    let rest = count_above-next k xs parts.1 in
-    let here : nat_lt k x ≡ nat_lt (k + 1) x = (let other = parts.0 in grind (arith, nat_tests)) in
-    sum_by-cons (λ y. cond (nat_lt k y) 1 0) x xs ∙ (λ i. cond (here i) 1 0 + rest i) ∙ sym (sum_by-cons (λ y. cond (nat_lt (k + 1) y) 1 0) x xs)
-
-count_above-sum : (k : ℕ) (xs : List ℕ) → sum xs ≤ k → count_by (nat_lt k) xs ≡ 0
-count_above-sum k [] small = refl
-count_above-sum k (x ∷ xs) small =
-    let added = sum_by-cons (λ y. y) x xs in
-    let rest = count_above-sum k xs (omega arith) in
-    let here : nat_lt k x ≡ false = grind (arith, nat_tests) in
-    sum_by-cons (λ y. cond (nat_lt k y) 1 0) x xs ∙ (λ i. cond (here i) 1 0 + rest i)
-
--- ---- where no index of the list is above m and reached, nothing above m is
-abbrev IsTop : ℕ → List ℕ → Type 0
-IsTop m xs = (x : ℕ) → list_any (λ y. x == y) xs ≡ true → most (nat_le x) xs ≡ true → x ≤ m
-
-above_is_at_least : (k : ℕ) (xs : List ℕ) → most (nat_lt k) xs ≡ most (nat_le (k + 1)) xs
-above_is_at_least k xs =
-    let here : (x : ℕ) → nat_lt k x ≡ nat_le (k + 1) x = λ x. grind (arith, nat_tests) in
-    λ i. most (λ x. here x i) xs
-
-climb : (m d : ℕ) (xs : List ℕ) → IsTop m xs → most (nat_lt m) xs ≡ true → most (nat_lt (m + d)) xs ≡ true
-climb m zero xs top start = rw add-zero start
-climb m (suc d) xs top start =
-    let before = climb m d xs top start in
-    let here : most (nat_le (m + d + 1)) xs ≡ true = sym (above_is_at_least (m + d) xs) ∙ before in
-    let none : list_any (λ y. (m + d + 1) == y) xs ≡ false = false_from_ne_true _ (λ among. let low = top (m + d + 1) among here in absurd (omega arith)) in
-    let e : m + suc d ≡ m + d + 1 = omega arith in
-    rw e ((λ i. nat_lt (length xs) (2 * sym (count_above-next (m + d) xs none) i)) ∙ before)
-
-pub most-above_top : (m : ℕ) (xs : List ℕ) → IsTop m xs → most (nat_lt m) xs ≡ false
-most-above_top m xs top = false_from_ne_true _ (λ start.
-    let far = climb m (sum xs) xs top start in
-    let no_voter = count_above-sum (m + sum xs) xs (omega arith) in
-    let less = ltb-true (length xs) (2 * count_by (nat_lt (m + sum xs)) xs) far in
-    absurd (omega arith))
+greatest-is : (p : ℕ → Bool) (a : ℕ) (xs : List ℕ) → p a ≡ true → IsGreatest p a xs (fold max a (filter p xs))
+greatest-is p a [] here = record { passes = here; above = omega arith; bound = λ x among is. cc }
+greatest-is p a (y ∷ ys) here = cond_both (p y) (y ∷ filter p ys) (filter p ys) (λ zs. IsGreatest p a (y ∷ ys) (fold max a zs))
+    (λ passes.
+    let rest = greatest-is p (max a y) ys (elim (cases_lt a y) [
+      | inl less ↦ let e : max a y ≡ y = omega arith in ap p e ∙ passes
+      | inr more ↦ let e : max a y ≡ a = omega arith in ap p e ∙ here
+    ]) in
+    record { passes = rest.passes; above = omega (arith, rest.above); bound = λ x among is. grind (arith, among, is, eqb-true x y, rest.bound x, rest.above) })
+    (λ fails. let rest = greatest-is p a ys here in record { passes = rest.passes; above = rest.above; bound = λ x among is. grind (arith, among, is, fails, eqb-true x y, rest.bound x) })
 
 -- ---- the committed index of a list
-count_at_least-zero : (xs : List ℕ) → count_by (nat_le 0) xs ≡ length xs
-count_at_least-zero [] = refl
-count_at_least-zero (x ∷ xs) =
-    let rest = count_at_least-zero xs in
-    let here : nat_le 0 x ≡ true = le-leb 0 x (omega arith) in
-    sum_by-cons (λ y. cond (nat_le 0 y) 1 0) x xs ∙ (λ i. cond (here i) 1 0 + rest i) ∙ omega arith
+-- k is the committed index of the list, by counting
+pub record IsCommittedOf (xs : List ℕ) (k : ℕ) : Type 0 where
+  pub of_none : length xs ≡ 0 → k ≡ greatest_index
+  pub reached : 0 < length xs → length xs < 2 * count_by (nat_le k) xs
+  pub not_passed : 0 < length xs → 2 * count_by (nat_lt k) xs ≤ length xs
 
--- zero is reached by all
-most-zero : (xs : List ℕ) → nat_eq (length xs) 0 ≡ false → most (nat_le 0) xs ≡ true
-most-zero xs some_voter =
-    let some = eqb-false (length xs) 0 some_voter in
-    let all = count_at_least-zero xs in
-    lt-ltb _ _ (omega arith)
+-- where no index of the list is above m and reached, and more than half were above m, they would be above every number
+climb : (m d : ℕ) (xs : List ℕ) → ((x : ℕ) → list_any (λ y. x == y) xs ≡ true → most (nat_le x) xs ≡ true → x ≤ m) → most (nat_lt m) xs ≡ true → most (nat_lt (m + d)) xs ≡ true
+climb m zero xs bound start = rw add-zero start
+climb m (suc d) xs bound start =
+    let before = climb m d xs bound start in
+    let reached = most-mono (nat_lt (m + d)) (nat_le (m + d + 1)) xs (λ x here above. grind (arith, nat_tests, above)) before in
+    most-mono (nat_lt (m + d)) (nat_lt (m + suc d)) xs (λ x here above. elim (cases_order x (m + d + 1)) [
+      | inl same ↦ absurd (let low = bound x here (ap (λ k. most (nat_le k) xs) same ∙ reached) in omega arith)
+      | inr other ↦ grind (arith, nat_tests, above, other)
+    ]) before
 
-abbrev top : List ℕ → ℕ
-top xs = fold max 0 (filter (λ k. most (nat_le k) xs) xs)
+not_above : (m : ℕ) (xs : List ℕ) → ((x : ℕ) → list_any (λ y. x == y) xs ≡ true → most (nat_le x) xs ≡ true → x ≤ m) → most (nat_lt m) xs ≡ false
+not_above m xs bound = false_from_ne_true _ (λ start.
+    let all = greatest-is (λ _. true) 0 xs refl in
+    let end : ℕ = fold max 0 (filter (λ _. true) xs) in
+    let none = count_by-none (nat_lt (m + end)) xs (λ x here. le-ltb _ _ (omega (arith, all.bound x here refl))) in
+    absurd (omega (arith, ltb-true _ _ (climb m end xs bound start))))
 
-top-is : (xs : List ℕ) → nat_eq (length xs) 0 ≡ false → top xs ≡ committed_of xs
-top-is xs some_voter = sym (cond-false (nat_eq (length xs) 0) greatest_index (top xs) some_voter)
-
--- more than half of a list have reached its committed index
-pub committed_of-reached : (xs : List ℕ) → nat_eq (length xs) 0 ≡ false → most (nat_le (committed_of xs)) xs ≡ true
-committed_of-reached xs some_voter =
-    ap (λ k. most (nat_le k) xs) (sym (top-is xs some_voter)) ∙ fold_max_filter-passes (λ k. most (nat_le k) xs) 0 xs (most-zero xs some_voter)
-
--- not more than half have passed it
-pub committed_of-not_passed : (xs : List ℕ) → nat_eq (length xs) 0 ≡ false → most (nat_lt (committed_of xs)) xs ≡ false
-committed_of-not_passed xs some_voter =
-    ap (λ k. most (nat_lt k) xs) (sym (top-is xs some_voter))
-    ∙ most-above_top (top xs) xs (λ x among here. fold_max_filter-bound (λ k. most (nat_le k) xs) 0 x xs here among)
-
-passed_below : (xs : List ℕ) (j k : ℕ) → j < k → most (nat_le k) xs ≡ true → most (nat_lt j) xs ≡ true
-passed_below xs j k below reached =
-    let more = count_by-mono (nat_le k) (nat_lt j) (λ x enough. lt-ltb _ _ (let at_least = leb-true _ _ enough in omega arith)) xs in
-    let most_of_all = ltb-true _ _ reached in
-    lt-ltb _ _ (omega arith)
+pub IsCommittedOf-committed_of : (xs : List ℕ) → IsCommittedOf xs (committed_of xs)
+IsCommittedOf-committed_of xs = cond_both (nat_eq (length xs) 0) greatest_index (fold max 0 (filter (λ k. most (nat_le k) xs) xs)) (IsCommittedOf xs)
+    (λ no_voter. let none = eqb-true (length xs) 0 no_voter in record { of_none = λ _. refl; reached = λ some. absurd (omega arith); not_passed = λ some. absurd (omega arith) })
+    (λ some_voter.
+    -- all have reached 0
+    let all = count_by-both (nat_le 0) xs in
+    let none = count_by-none (λ x. not (nat_le 0 x)) xs (λ x here. ap not (le-leb 0 x (omega arith))) in
+    let is = greatest-is (λ k. most (nat_le k) xs) 0 xs (lt-ltb _ _ (omega (arith, eqb-false (length xs) 0 some_voter))) in
+    record {
+      of_none = λ none. absurd (eqb-false (length xs) 0 some_voter none);
+      reached = λ _. ltb-true _ _ is.passes;
+      not_passed = λ _. ltb-false _ _ (not_above _ xs is.bound);
+    })
 
 -- at most one index is reached and not passed
-reached-alone : (xs : List ℕ) (j k : ℕ) → most (nat_le j) xs ≡ true → most (nat_lt j) xs ≡ false → most (nat_le k) xs ≡ true → most (nat_lt k) xs ≡ false → j ≡ k
-reached-alone xs j k j_reached j_not_passed k_reached k_not_passed = elim (cases_order j k) [
-  | inl same ↦ same
-  | inr (inl below) ↦ absurd (both_ways _ j_not_passed (passed_below xs j k below k_reached))
-  | inr (inr above) ↦ absurd (both_ways _ k_not_passed (passed_below xs k j above j_reached))
-]
+not_reached : (xs : List ℕ) (j k : ℕ) → j < k → count_by (nat_le k) xs ≤ count_by (nat_lt j) xs
+not_reached xs j k below = count_by-mono (nat_le k) (nat_lt j) xs (λ x here enough. grind (arith, nat_tests, enough, below))
 
--- the one that is reached and not passed is the committed index
-pub committed_of-alone : (xs : List ℕ) (k : ℕ) → (length xs ≡ 0 → k ≡ greatest_index) → (0 < length xs → length xs < 2 * count_by (nat_le k) xs) → (0 < length xs → 2 * count_by (nat_lt k) xs ≤ length xs) → k ≡ committed_of xs
-committed_of-alone xs k of_none reached not_passed = elim (cases_Bool (nat_eq (length xs) 0)) [
-  | inl no_voter ↦ of_none (eqb-true (length xs) 0 no_voter) ∙ sym (cond-true _ greatest_index (top xs) no_voter)
-  | inr some_voter ↦
-      let some = eqb-false (length xs) 0 some_voter in
-      reached-alone xs k (committed_of xs) (lt-ltb _ _ (reached (omega arith))) (le-ltb _ _ (not_passed (omega arith))) (committed_of-reached xs some_voter) (committed_of-not_passed xs some_voter)
+pub IsCommittedOf-alone : (xs : List ℕ) (j k : ℕ) → IsCommittedOf xs j → IsCommittedOf xs k → j ≡ k
+IsCommittedOf-alone xs j k first second = elim (cases_lt 0 (length xs)) [
+  | inl some ↦ grind (arith, not_reached xs j k, not_reached xs k j, first.reached some, first.not_passed some, second.reached some, second.not_passed some)
+  | inr none ↦ first.of_none (omega arith) ∙ sym (second.of_none (omega arith))
 ]
 
 -- the order of the list does not matter
 pub committed_of-permuted : (xs ys : List ℕ) → IsPermutation xs ys → committed_of xs ≡ committed_of ys
 committed_of-permuted xs ys moved =
-    let same = length_permutation xs ys moved in elim (cases_Bool (nat_eq (length xs) 0)) [
-      | inl no_voter ↦
-          cond-true _ greatest_index (top xs) no_voter
-          ∙ sym (cond-true _ greatest_index (top ys) (ap (λ n. nat_eq n 0) same ∙ no_voter))
-      | inr some_voter ↦
-          let other = ap (λ n. nat_eq n 0) same ∙ some_voter in
-          let k = committed_of xs in
-          reached-alone ys k (committed_of ys)
-          (most-permuted (nat_le k) xs ys moved ∙ committed_of-reached xs some_voter)
-          (most-permuted (nat_lt k) xs ys moved ∙ committed_of-not_passed xs some_voter)
-          (committed_of-reached ys other) (committed_of-not_passed ys other)
-    ]
+    let k = committed_of xs in
+    let is = IsCommittedOf-committed_of xs in
+    let same = length_permutation xs ys moved in
+    IsCommittedOf-alone ys k (committed_of ys) (record {
+      of_none = λ none. is.of_none (omega arith);
+      reached = λ some. omega (arith, is.reached (omega arith), count_by-permuted (nat_le k) xs ys moved);
+      not_passed = λ some. omega (arith, is.not_passed (omega arith), count_by-permuted (nat_lt k) xs ys moved);
+    }) (IsCommittedOf-committed_of ys)
 
 -- ---- the committed index of a set
 is_reached-acked : (ids : Ids) (acks : Acks) (k : ℕ) → is_reached ids acks k ≡ most (nat_le k) (acked_indexes ids acks)
@@ -164,32 +97,33 @@ is_reached-acked ids acks k = majority_passes-values (nat_le k) (acked_index ack
 is_passed-acked : (ids : Ids) (acks : Acks) (k : ℕ) → is_passed ids acks k ≡ most (nat_lt k) (acked_indexes ids acks)
 is_passed-acked ids acks k = majority_passes-values (nat_lt k) (acked_index acks) ids
 
-length-acked_indexes : (ids : Ids) (acks : Acks) → length (acked_indexes ids acks) ≡ size ids
-length-acked_indexes ids acks = length-map (ascending ids) (acked_index acks)
-
-is_empty-acked : (ids : Ids) (acks : Acks) → nat_eq (length (acked_indexes ids acks)) 0 ≡ is_empty ids
-is_empty-acked ids acks = ap (λ n. nat_eq n 0) (length-acked_indexes ids acks)
+length-acked : (ids : Ids) (acks : Acks) → length (acked_indexes ids acks) ≡ size ids
+length-acked ids acks = length-map (ascending ids) (acked_index acks)
 
 -- it is that of the list of its acknowledged indexes
 pub committed_index-acked : (ids : Ids) (acks : Acks) → committed_index ids acks ≡ committed_of (acked_indexes ids acks)
 committed_index-acked ids acks =
-    λ i. cond (sym (is_empty-acked ids acks) i) greatest_index (fold max 0 (filter (λ k. is_reached-acked ids acks k i) (acked_indexes ids acks)))
+    λ i. cond (nat_eq (sym (length-acked ids acks) i) 0) greatest_index (fold max 0 (filter (λ k. is_reached-acked ids acks k i) (acked_indexes ids acks)))
 
 pub IsCommitted-committed_index : (ids : Ids) (acks : Acks) → IsCommitted ids acks (committed_index ids acks)
 IsCommitted-committed_index ids acks =
-    let xs = acked_indexes ids acks in
-    let is = committed_index-acked ids acks in
+    let k = committed_of (acked_indexes ids acks) in
+    let is = IsCommittedOf-committed_of (acked_indexes ids acks) in
+    let len = length-acked ids acks in
+    subst (IsCommitted ids acks) (sym (committed_index-acked ids acks)) (record {
+      of_empty = λ no_voter. is.of_none (len ∙ eqb-true (size ids) 0 no_voter);
+      reached = λ some_voter. is_reached-acked ids acks k ∙ lt-ltb _ _ (is.reached (omega (arith, len, eqb-false (size ids) 0 some_voter)));
+      not_passed = λ some_voter. is_passed-acked ids acks k ∙ le-ltb _ _ (is.not_passed (omega (arith, len, eqb-false (size ids) 0 some_voter)));
+    })
+
+by_list : (ids : Ids) (acks : Acks) (k : ℕ) → IsCommitted ids acks k → IsCommittedOf (acked_indexes ids acks) k
+by_list ids acks k is =
+    let len = length-acked ids acks in
     record {
-      of_empty = λ no_voter. cond-true _ _ _ no_voter;
-      reached = λ some_voter. ap (is_reached ids acks) is ∙ is_reached-acked ids acks (committed_of xs) ∙ committed_of-reached xs (is_empty-acked ids acks ∙ some_voter);
-      not_passed = λ some_voter. ap (is_passed ids acks) is ∙ is_passed-acked ids acks (committed_of xs) ∙ committed_of-not_passed xs (is_empty-acked ids acks ∙ some_voter);
+      of_none = λ none. is.of_empty (eq-eqb (size ids) 0 (omega arith));
+      reached = λ some. ltb-true _ _ (sym (is_reached-acked ids acks k) ∙ is.reached (ne_eqb (size ids) 0 (λ none. omega arith)));
+      not_passed = λ some. ltb-false _ _ (sym (is_passed-acked ids acks k) ∙ is.not_passed (ne_eqb (size ids) 0 (λ none. omega arith)));
     }
 
 pub IsCommitted-alone : (ids : Ids) (acks : Acks) (j k : ℕ) → IsCommitted ids acks j → IsCommitted ids acks k → j ≡ k
-IsCommitted-alone ids acks j k first second = elim (cases_Bool (is_empty ids)) [
-  | inl no_voter ↦ first.of_empty no_voter ∙ sym (second.of_empty no_voter)
-  | inr some_voter ↦
-      reached-alone (acked_indexes ids acks) j k
-      (sym (is_reached-acked ids acks j) ∙ first.reached some_voter) (sym (is_passed-acked ids acks j) ∙ first.not_passed some_voter)
-      (sym (is_reached-acked ids acks k) ∙ second.reached some_voter) (sym (is_passed-acked ids acks k) ∙ second.not_passed some_voter)
-]
+IsCommitted-alone ids acks j k first second = IsCommittedOf-alone _ j k (by_list ids acks j first) (by_list ids acks k second)

@@ -1,24 +1,16 @@
 -- Rows that ascend by their first number, and then by their second: where the rows with a first number begin.
-use Rattle.std.proofs.Common.{◌≡◌, ℕ, ◌<◌, ◌≤◌, Bool, true, false, cond, List, length, get_or, refl, sym, ap, ◌∙◌, arith, inl, inr, ◌==◌}
+use Rattle.std.proofs.Common.{◌≡◌, ℕ, ◌<◌, ◌≤◌, true, false, List, length, get_or, sym, ap, ◌∙◌, arith, inl, inr}
 use Rattle.std.specs.Prelude.{nat_lt}
-use Rattle.std.specs.declared.cmp.Ordering.TheVariants.{Less, Equal, Greater}
 use Rattle.std.specs.Ordering.{nat_cmp, ordering_then, is_lt}
 use Rattle.std.specs.List.{Contains}
 use Rattle.std.specs.List.Sorted.{IsSorted, IsPartitionPoint, IsPartitionedBy}
-use Rattle.std.proofs.lemmas.Bool.{ltb-true, ltb-false, eq-eqb, cases_lt}
+use Rattle.std.proofs.lemmas.Bool.{ltb-true, ltb-false, cases_lt}
+use Rattle.std.proofs.lemmas.Bool.Decides.{nat_tests}
 use Rattle.std.proofs.lemmas.Cmp.{nat_cmp_total, on_total, then_total}
 use Rattle.std.proofs.lemmas.List.Sorted.{ranks_by, sorted_far, IsPartitionedBy-ltb}
 
-not_less_by : (less same less_id same_id : Bool) → is_lt (ordering_then (cond less Less (cond same Equal Greater)) (cond less_id Less (cond same_id Equal Greater))) ≡ false → (less ≡ false) × (same ≡ true → less_id ≡ false)
-not_less_by true same less_id same_id h = cc
-not_less_by false true true same_id h = cc
-not_less_by false true false same_id h = (refl, λ _. refl)
-not_less_by false false less_id same_id h = (refl, λ no. cc)
-
 not_less : (i x j y : ℕ) → is_lt (ordering_then (nat_cmp i j) (nat_cmp x y)) ≡ false → (j ≤ i) × (j ≡ i → y ≤ x)
-not_less i x j y h =
-    let parts = not_less_by (nat_lt i j) (i == j) (nat_lt x y) (x == y) h in
-    (ltb-false i j parts.0, λ same. ltb-false x y (parts.1 (eq-eqb i j (sym same))))
+not_less i x j y h = (grind (arith, nat_tests, h), λ same. grind (arith, nat_tests, h, same))
 
 pub rows-ordered : (rows : List (ℕ × ℕ)) → IsSorted (λ x y. ordering_then (nat_cmp x.0 y.0) (nat_cmp x.1 y.1)) rows → (j k : ℕ) (d : ℕ × ℕ) → j ≤ k → k < length rows → ((get_or rows j d).0 ≤ (get_or rows k d).0) × ((get_or rows j d).0 ≡ (get_or rows k d).0 → (get_or rows j d).1 ≤ (get_or rows k d).1)
 rows-ordered rows ascends j k d before within =

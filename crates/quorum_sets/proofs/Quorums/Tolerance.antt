@@ -1,157 +1,77 @@
 -- How many ids may be down: by trying every set of ids, and by counting.
-use Rattle.std.proofs.Common.{◌≡◌, ℕ, ◌+◌, ◌-◌, ◌*◌, ◌<◌, ◌≤◌, Bool, true, false, cond, not, ◌&&◌, ◌||◌, ◌==◌, List, [], ◌∷◌, ◌++◌, length, take, drop, refl, sym, ap, subst, ◌∙◌, arith, inl, inr, eq-eqb, length-take, length-drop, is_some}
-use Rattle.std.specs.Prelude.{count_by, filter, nat_le, nat_lt, min, Option, Some, None}
-use Rattle.std.specs.List.{list_any}
-use Rattle.std.proofs.lemmas.Bool.{cases_Bool, both_ways, and_parts, and_from, or_left, or_right, ltb-true, lt-ltb, le-ltb, leb-true, leb-false, le-leb, lt-leb, eqb-true, eqb-false, cond-true, cond-false, cond_both, false_from_ne_true}
+use Rattle.std.proofs.Common.{◌≡◌, ℕ, ◌+◌, ◌-◌, ◌*◌, ◌≤◌, Bool, true, false, cond, not, ◌&&◌, ◌||◌, ◌==◌, List, [], ◌∷◌, ◌++◌, length, take, drop, refl, sym, ap, subst, ◌∙◌, arith, inl, inr, length-take, length-drop, is_some, ◌↔◌}
+use Rattle.std.specs.Prelude.{filter, nat_le, nat_lt, Option, Some, None}
+use Rattle.std.proofs.lemmas.Bool.{cases_Bool, both_ways, or_left, or_right, ltb-true, lt-ltb, leb-true, leb-false, cond-true, cond-false, cond_both}
+use Rattle.std.proofs.lemmas.Bool.Decides.{nat_tests}
 use Rattle.std.proofs.lemmas.List.Folds.{list_any-append}
-use Rattle.std.proofs.lemmas.List.Sums.{sum_by-cons, sum_by-take-drop, count_by-le-length, length-filter}
-use Rattle.quorum_sets.specs.Ids.{Ids, no_ids, has, with_id, ascending, size, ids_of, union, count_of, majority_passes, is_empty}
+use Rattle.std.proofs.lemmas.List.Sums.{sum_by-take-drop, count_by-le-length, length-filter}
+use Rattle.quorum_sets.specs.Ids.{Ids, no_ids, has, ascending, size, ids_of, union, count_of, majority_passes, is_empty}
 use Rattle.quorum_sets.specs.Voters.{Voters, majority, is_quorum}
 use Rattle.quorum_sets.specs.Tolerance.{voters_without, commits_without, Tolerates, IsMostDown, surplus, least, may_be_down, least_minority}
-use Rattle.quorum_sets.proofs.IdSets.Members.{has-ascending, has-ids_of, has-ids_where, has-no_ids, has-same_ids, has-with_id, ascending-no_ids}
+use Rattle.quorum_sets.proofs.IdSets.Members.{has-ascending, has-ids_of, has-ids_where, has-no_ids, ascending-no_ids}
 use Rattle.quorum_sets.proofs.IdSets.Difference.{count_of-rest, count_of-within, size-with_id}
 use Rattle.quorum_sets.proofs.IdSets.Union.{has-union}
-use Rattle.quorum_sets.proofs.Quorums.Counts.{or-second}
-
--- ---- counts
--- a count rests on the items of the list alone
-count_by-alike : (p q : ℕ → Bool) (xs : List ℕ) → ((x : ℕ) → list_any (λ y. x == y) xs ≡ true → p x ≡ q x) → count_by p xs ≡ count_by q xs
-count_by-alike p q [] alike = refl
-count_by-alike p q (x ∷ xs) alike =
-    let rest = count_by-alike p q xs (λ y here. alike y (or_right (y == x) _ here)) in
-    let head = alike x (or_left (x == x) _ (eq-eqb x x refl)) in
-    rw (sum_by-cons (λ y. cond (p y) 1 0) x xs, sum_by-cons (λ y. cond (q y) 1 0) x xs) (λ i. cond (head i) 1 0 + rest i)
-
-pub count_by-none : (p : ℕ → Bool) (xs : List ℕ) → ((x : ℕ) → list_any (λ y. x == y) xs ≡ true → p x ≡ false) → count_by p xs ≡ 0
-count_by-none p [] none = refl
-count_by-none p (x ∷ xs) none =
-    let rest = count_by-none p xs (λ y here. none y (or_right (y == x) _ here)) in
-    let head : ◌≡◌ {A = ℕ} (cond (p x) 1 0) 0 = ap (λ b. cond b 1 0) (none x (or_left (x == x) _ (eq-eqb x x refl))) in
-    rw (sum_by-cons (λ y. cond (p y) 1 0) x xs) (omega arith)
-
-majority_passes-alike : (p q : ℕ → Bool) (ids : Ids) → ((x : ℕ) → has ids x ≡ true → p x ≡ q x) → majority_passes p ids ≡ majority_passes q ids
-majority_passes-alike p q ids alike = ap (λ n. nat_lt (size ids) (2 * n)) (count_by-alike p q (ascending ids) (λ x here. alike x (has-ascending ids x ∙ here)))
-
--- a quorum rests on the voters alone
-pub is_quorum-alike : (voters : Voters) (a b : Ids) → ((q : ℕ) → (has voters.incoming q || has voters.outgoing q) ≡ true → has a q ≡ has b q) → is_quorum voters a ≡ is_quorum voters b
-is_quorum-alike voters a b alike = λ i.
-    majority_passes-alike (has a) (has b) voters.incoming (λ q here. alike q (or_left _ _ here)) i
-    && (is_empty voters.outgoing || majority_passes-alike (has a) (has b) voters.outgoing (λ q here. alike q (or_right (has voters.incoming q) _ here)) i)
+use Rattle.quorum_sets.proofs.Quorums.Counts.{count_by-filter, count_by-le, count_by-mono, count_by-none, passes_in, passes_in-from, passes_in-parts}
 
 -- ---- which voters are left
-pub has-voters_without : (voters : Voters) (away : Ids) (q : ℕ) → has (voters_without voters away) q ≡ (not (has away q) && (has voters.incoming q || has voters.outgoing q))
-has-voters_without voters away q =
-    has-ids_where (λ id. not (has away id)) (ascending voters.incoming ++ ascending voters.outgoing) q
-    ∙ ap (λ b. not (has away q) && b)
-    (list_any-append (λ x. q == x) (ascending voters.incoming) (ascending voters.outgoing) ∙ (λ i. sym (has-ascending voters.incoming q) i || sym (has-ascending voters.outgoing q) i))
+-- a majority rests on the ids of the set alone
+majority_passes-alike : (p q : ℕ → Bool) (ids : Ids) → ((x : ℕ) → has ids x ≡ true → p x ≡ q x) → majority_passes p ids ≡ majority_passes q ids
+majority_passes-alike p q ids alike =
+    let up = count_by-mono p q (ascending ids) (λ x here is. sym (alike x (has-ascending ids x ∙ here)) ∙ is) in
+    let down = count_by-mono q p (ascending ids) (λ x here is. alike x (has-ascending ids x ∙ here) ∙ is) in
+    let same : count_of p ids ≡ count_of q ids = omega arith in
+    ap (λ n. nat_lt (size ids) (2 * n)) same
 
-and_any : (a b : Bool) → b ≡ true → (a && b) ≡ a
-and_any true b e = e
-and_any false b e = refl
+passes_in-alike : (voters : Voters) (p q : ℕ → Bool) → ((x : ℕ) → (has voters.incoming x || has voters.outgoing x) ≡ true → p x ≡ q x) → passes_in voters p ≡ passes_in voters q
+passes_in-alike voters p q alike = λ i.
+    majority_passes-alike p q voters.incoming (λ x here. alike x (or_left _ _ here)) i
+    && (is_empty voters.outgoing || majority_passes-alike p q voters.outgoing (λ x here. alike x (or_right (has voters.incoming x) _ here)) i)
 
--- the voters that are left are a quorum where, in both sets, more than half are not away
-abbrev stay : Ids → ℕ → Bool
+abbrev pub stay : Ids → ℕ → Bool
 stay away id = not (has away id)
 
+-- the voters that are left are a quorum where, in both sets, more than half are not away
 pub commits_without-majority_passes : (voters : Voters) (away : Ids) → commits_without voters away ≡ (majority_passes (stay away) voters.incoming && (is_empty voters.outgoing || majority_passes (stay away) voters.outgoing))
-commits_without-majority_passes voters away = λ i.
-    majority_passes-alike (has (voters_without voters away)) (stay away) voters.incoming (λ q here. left q (or_left _ _ here)) i
-    && (is_empty voters.outgoing || majority_passes-alike (has (voters_without voters away)) (stay away) voters.outgoing (λ q here. left q (or_right (has voters.incoming q) _ here)) i)
-  where
-    left : (q : ℕ) → (has voters.incoming q || has voters.outgoing q) ≡ true → has (voters_without voters away) q ≡ stay away q
-    left q here = has-voters_without voters away q ∙ and_any (stay away q) _ here
+commits_without-majority_passes voters away = passes_in-alike voters (has (voters_without voters away)) (stay away) (λ x here.
+    grind (
+      arith,
+      here,
+      has-ids_where (stay away) (ascending voters.incoming ++ ascending voters.outgoing) x,
+      list_any-append (λ y. x == y) (ascending voters.incoming) (ascending voters.outgoing),
+      has-ascending voters.incoming x,
+      has-ascending voters.outgoing x,
+    ))
 
 -- any ids that have just the voters that are not away are a quorum where these commit
 pub is_quorum-without : (voters : Voters) (away ids : Ids) → ((q : ℕ) → (has voters.incoming q || has voters.outgoing q) ≡ true → has ids q ≡ not (has away q))
     → is_quorum voters ids ≡ commits_without voters away
-is_quorum-without voters away ids stays =
-    is_quorum-alike voters ids (voters_without voters away) (λ q here. stays q here ∙ sym (has-voters_without voters away q ∙ and_any (stay away q) _ here))
+is_quorum-without voters away ids stays = passes_in-alike voters (has ids) (stay away) stays ∙ sym (commits_without-majority_passes voters away)
 
 -- ---- a set, and how many are down
 -- the counted ids of a set
 abbrev counted : Ids → Ids → ℕ
 counted ids uncounted = count_of (stay uncounted) ids
 
-stay_or_down : (d u : Bool) → cond (not u) 1 0 ≤ cond (not (d || u)) 1 0 + cond d 1 0
-stay_or_down true true = omega arith
-stay_or_down true false = omega arith
-stay_or_down false true = omega arith
-stay_or_down false false = omega arith
-
--- those that are down are all that is lost
-count_by-stay_or_down : (d u : ℕ → Bool) (xs : List ℕ) → count_by (λ x. not (u x)) xs ≤ count_by (λ x. not (d x || u x)) xs + count_by d xs
-count_by-stay_or_down d u [] = omega arith
-count_by-stay_or_down d u (x ∷ xs) =
-    let head = stay_or_down (d x) (u x) in
-    let rest = count_by-stay_or_down d u xs in
-    rw (sum_by-cons (λ y. cond (not (u y)) 1 0) x xs, sum_by-cons (λ y. cond (not (d y || u y)) 1 0) x xs, sum_by-cons (λ y. cond (d y) 1 0) x xs) (omega arith)
-
-counted-union : (ids down uncounted : Ids) → counted ids (union down uncounted) ≡ count_of (λ id. not (has down id || has uncounted id)) ids
-counted-union ids down uncounted = λ i. count_of (λ id. not (has-union down uncounted id i)) ids
-
 -- a majority stays where at most k are down and the counted ids are k more than a majority
 majority_passes-lasts : (ids uncounted down : Ids) (k : ℕ) → majority (size ids) + k ≤ counted ids uncounted → size down ≤ k → majority_passes (stay (union down uncounted)) ids ≡ true
 majority_passes-lasts ids uncounted down k enough few =
-    let lost = count_by-stay_or_down (has down) (has uncounted) (ascending ids) in
-    let within = count_of-within ids down (count_of (has down) ids) refl in
-    let same = counted-union ids down uncounted in
-    lt-ltb _ _ (omega arith)
-
-kept_count : (d u : Bool) → not u ≡ true → ◌≡◌ {A = ℕ} (cond (not (d || u)) 1 0) (cond (not d) 1 0)
-kept_count true true e = refl
-kept_count true false e = refl
-kept_count false true e = cc
-kept_count false false e = refl
-
-dropped_count : (d u : Bool) → not u ≡ false → ◌≡◌ {A = ℕ} (cond (not (d || u)) 1 0) 0
-dropped_count true true e = refl
-dropped_count true false e = refl
-dropped_count false true e = refl
-dropped_count false false e = cc
-
-count_by-filtered : (d u : ℕ → Bool) (xs : List ℕ) → count_by (λ x. not (d x || u x)) xs ≡ count_by (λ x. not (d x)) (filter (λ x. not (u x)) xs)
-count_by-filtered d u [] = refl
-count_by-filtered d u (x ∷ xs) =
-    let kept = filter (λ y. not (u y)) xs in
-    let rest = count_by-filtered d u xs in
-    sum_by-cons (λ y. cond (not (d y || u y)) 1 0) x xs
-    ∙ cond_both (not (u x)) (x ∷ kept) kept (λ ys. cond (not (d x || u x)) 1 0 + count_by (λ y. not (d y || u y)) xs ≡ count_by (λ y. not (d y)) ys)
-    (λ stays. (λ i. kept_count (d x) (u x) stays i + rest i) ∙ sym (sum_by-cons (λ y. cond (not (d y)) 1 0) x kept))
-    (λ left. let none = dropped_count (d x) (u x) left in omega arith)
+    let lost = count_by-le (stay uncounted) (stay (union down uncounted)) (has down) (ascending ids) (λ x here is. grind (arith, is, has-union down uncounted x)) in
+    lt-ltb _ _ (omega (arith, lost, count_of-within ids down (count_of (has down) ids) refl))
 
 size-ids_of : (xs : List ℕ) → size (ids_of xs) ≤ length xs
-size-ids_of [] = let none = ap length ascending-no_ids in let same = ap size (has-same_ids (ids_of []) no_ids (λ q. has-ids_of [] q ∙ sym (has-no_ids q))) in omega arith
-size-ids_of (x ∷ xs) =
-    let same = ap size (has-same_ids (ids_of (x ∷ xs)) (with_id (ids_of xs) x) (λ q. has-ids_of (x ∷ xs) q ∙ ap (λ b. (q == x) || b) (sym (has-ids_of xs q)) ∙ sym (has-with_id (ids_of xs) x q))) in
-    let rest = size-ids_of xs in
-    let step = at_most_one_more (has (ids_of xs) x) (size (ids_of xs)) (size (with_id (ids_of xs) x)) (size-with_id (ids_of xs) x) in
-    omega arith
-  where
-    at_most_one_more : (b : Bool) (before after : ℕ) → after ≡ cond b before (before + 1) → after ≤ before + 1
-    at_most_one_more true before after e = omega arith
-    at_most_one_more false before after e = omega arith
+size-ids_of [] = omega (arith, ap length ascending-no_ids)
+size-ids_of (x ∷ xs) = grind (arith, size-ids_of xs, size-with_id (ids_of xs) x)
 
--- where the counted ids are less than k more than a majority, some k of them are a majority's loss
-record Broken (ids uncounted : Ids) (k : ℕ) : Type 0 where
-  down : Ids
-  few : size down ≤ k
-  broken : majority_passes (stay (union down uncounted)) ids ≡ false
-
-broken-from_count : (ids uncounted : Ids) (k : ℕ) → counted ids uncounted < majority (size ids) + k → Broken ids uncounted k
-broken-from_count ids uncounted k less =
+-- where it stays whichever k are down, the first k of the counted ids among them, the counted ids are k more
+counted-from_lasting : (ids uncounted : Ids) (k : ℕ) → ((down : Ids) → size down ≤ k → majority_passes (stay (union down uncounted)) ids ≡ true) → majority (size ids) + k ≤ counted ids uncounted
+counted-from_lasting ids uncounted k lasts =
     let xs = filter (stay uncounted) (ascending ids) in
-    let first = take k xs in
-    let down = ids_of first in
-    let size_down = size-ids_of first in
-    let length_first = length-take k xs in
-    let length_rest = length-drop k xs in
-    let length_all = length-filter (stay uncounted) (ascending ids) in
-    let same = counted-union ids down uncounted in
-    let kept = count_by-filtered (has down) (has uncounted) (ascending ids) in
-    let split = sum_by-take-drop (λ x. cond (stay down x) 1 0) xs k in
-    let in_first = count_by-none (stay down) first (λ x here. ap not (has-ids_of first x ∙ here)) in
-    let in_rest = count_by-le-length (stay down) (drop k xs) in
-    record { down = down; few = omega arith; broken = le-ltb _ _ (omega arith) }
+    let down = ids_of (take k xs) in
+    let left = stay (union down uncounted) in
+    let most = ltb-true _ _ (lasts down (omega (arith, size-ids_of (take k xs), length-take k xs))) in
+    let kept = count_by-mono left (λ x. stay uncounted x && left x) (ascending ids) (λ x here is. grind (arith, is, has-union down uncounted x)) in
+    let none = count_by-none left (take k xs) (λ x here. grind (arith, here, has-union down uncounted x, has-ids_of (take k xs) x)) in
+    omega (arith, most, kept, count_by-filter left (stay uncounted) (ascending ids), none, sum_by-take-drop (λ x. cond (left x) 1 0) xs k, count_by-le-length left (drop k xs), length-drop k xs, length-filter (stay uncounted) (ascending ids))
 
 -- ---- a pair of sets
 -- both sets have counted ids that are k more than a majority
@@ -162,81 +82,52 @@ pub record HaveMore (voters : Voters) (uncounted : Ids) (k : ℕ) : Type 0 where
 pub Tolerates-from_counts : (voters : Voters) (uncounted : Ids) (k : ℕ) → HaveMore voters uncounted k → Tolerates voters uncounted k
 Tolerates-from_counts voters uncounted k more down few =
     commits_without-majority_passes voters (union down uncounted)
-    ∙ and_from _ _ (majority_passes-lasts voters.incoming uncounted down k more.incoming few) (elim (cases_Bool (is_empty voters.outgoing)) [
-      | inl no_voter ↦ or_left _ _ no_voter
-      | inr some_voter ↦ or_right _ _ (majority_passes-lasts voters.outgoing uncounted down k (more.outgoing some_voter) few)
-    ])
-
--- in each set, more than half stay
-stays_in : (voters : Voters) (away : Ids) → commits_without voters away ≡ true → (majority_passes (stay away) voters.incoming ≡ true) × (is_empty voters.outgoing ≡ false → majority_passes (stay away) voters.outgoing ≡ true)
-stays_in voters away commits =
-    let parts = and_parts _ _ (sym (commits_without-majority_passes voters away) ∙ commits) in
-    (parts.0, λ some_voter. or-second _ _ some_voter parts.1)
-
-counted-from_lasting : (ids uncounted : Ids) (k : ℕ) → ((down : Ids) → size down ≤ k → majority_passes (stay (union down uncounted)) ids ≡ true) → majority (size ids) + k ≤ counted ids uncounted
-counted-from_lasting ids uncounted k lasts = elim (cases_Bool (nat_le (majority (size ids) + k) (counted ids uncounted))) [
-  | inl enough ↦ leb-true _ _ enough
-  | inr less ↦
-      let breaks = broken-from_count ids uncounted k (leb-false _ _ less) in
-      absurd (both_ways _ breaks.broken (lasts breaks.down breaks.few))
-]
+    ∙ passes_in-from voters (stay (union down uncounted)) (majority_passes-lasts voters.incoming uncounted down k more.incoming few)
+    (λ some_voter. majority_passes-lasts voters.outgoing uncounted down k (more.outgoing some_voter) few)
 
 pub counts-from_Tolerates : (voters : Voters) (uncounted : Ids) (k : ℕ) → Tolerates voters uncounted k → HaveMore voters uncounted k
-counts-from_Tolerates voters uncounted k tolerates = record {
-  incoming = counted-from_lasting voters.incoming uncounted k (λ down few. (stays_in voters _ (tolerates down few)).0);
-  outgoing = λ some_voter. counted-from_lasting voters.outgoing uncounted k (λ down few. (stays_in voters _ (tolerates down few)).1 some_voter);
-}
+counts-from_Tolerates voters uncounted k tolerates =
+    let parts = λ (down : Ids) (few : size down ≤ k). passes_in-parts voters (stay (union down uncounted)) (sym (commits_without-majority_passes voters (union down uncounted)) ∙ tolerates down few) in
+    record {
+      incoming = counted-from_lasting voters.incoming uncounted k (λ down few. (parts down few).0);
+      outgoing = λ some_voter. counted-from_lasting voters.outgoing uncounted k (λ down few. (parts down few).1 some_voter);
+    }
 
 -- ---- the answer by counting
--- the surplus is what the counted ids have more than a majority
-abbrev IsSurplus : Ids → Ids → Option ℕ → Type 0
-IsSurplus ids uncounted None = counted ids uncounted < majority (size ids)
-IsSurplus ids uncounted (Some k) = counted ids uncounted ≡ majority (size ids) + k
+-- at most this many, or not even 0
+abbrev Allows : Option ℕ → ℕ → Type 0
+Allows None k = ⊥
+Allows (Some n) k = k ≤ n
 
-surplus-is : (ids uncounted : Ids) → IsSurplus ids uncounted (surplus ids uncounted)
-surplus-is ids uncounted =
-    cond_both (nat_le (majority (size ids)) (counted ids uncounted)) _ _ (IsSurplus ids uncounted)
-    (λ enough. let within = leb-true _ _ enough in omega arith) (λ less. leb-false _ _ less)
+Allows-least : (a b : Option ℕ) (k : ℕ) → Allows (least a b) k ↔ (Allows a k × Allows b k)
+Allows-least None b k = (λ h. absurd h, λ h. h.0)
+Allows-least (Some a) None k = (λ h. absurd h, λ h. h.1)
+Allows-least (Some a) (Some b) k = (λ h. (omega arith, omega arith), λ h. omega (arith, h.0, h.1))
 
-most_of_one : (voters : Voters) (uncounted : Ids) (a : Option ℕ) → is_empty voters.outgoing ≡ true → IsSurplus voters.incoming uncounted a → IsMostDown voters uncounted a
-most_of_one voters uncounted None single a_is = record {
-  tolerated = tt;
-  greatest = tt;
-  none = λ tolerates. let more = (counts-from_Tolerates voters uncounted 0 tolerates).incoming in absurd (omega arith);
-}
-most_of_one voters uncounted (Some k) single a_is = record {
-  tolerated = Tolerates-from_counts voters uncounted k (record { incoming = omega arith; outgoing = λ some_voter. absurd (both_ways _ some_voter single) });
-  greatest = λ other tolerates. let more = (counts-from_Tolerates voters uncounted other tolerates).incoming in omega arith;
-  none = tt;
-}
+Allows-surplus : (ids uncounted : Ids) (k : ℕ) → Allows (surplus ids uncounted) k ↔ (majority (size ids) + k ≤ counted ids uncounted)
+Allows-surplus ids uncounted k =
+    cond_both (nat_le (majority (size ids)) (counted ids uncounted)) _ _ (λ a. Allows a k ↔ (majority (size ids) + k ≤ counted ids uncounted))
+    (λ enough. let within = leb-true _ _ enough in (λ h. omega arith, λ h. omega arith)) (λ less. let over = leb-false _ _ less in (λ h. absurd h, λ h. omega arith))
 
-most_of_both : (voters : Voters) (uncounted : Ids) (a b : Option ℕ) → is_empty voters.outgoing ≡ false → IsSurplus voters.incoming uncounted a → IsSurplus voters.outgoing uncounted b
-    → IsMostDown voters uncounted (least a b)
-most_of_both voters uncounted None b joint a_is b_is = record {
-  tolerated = tt;
-  greatest = tt;
-  none = λ tolerates. let more = (counts-from_Tolerates voters uncounted 0 tolerates).incoming in absurd (omega arith);
-}
-most_of_both voters uncounted (Some a) None joint a_is b_is = record {
-  tolerated = tt;
-  greatest = tt;
-  none = λ tolerates. let more = (counts-from_Tolerates voters uncounted 0 tolerates).outgoing joint in absurd (omega arith);
-}
-most_of_both voters uncounted (Some a) (Some b) joint a_is b_is = record {
-  tolerated = Tolerates-from_counts voters uncounted (min a b) (record { incoming = omega arith; outgoing = λ some_voter. omega arith });
-  greatest = λ other tolerates.
-      let more = counts-from_Tolerates voters uncounted other tolerates in
-      let of_incoming = more.incoming in
-      let of_outgoing = more.outgoing joint in
-      omega arith;
+Allows-may_be_down : (voters : Voters) (uncounted : Ids) (k : ℕ) → Allows (may_be_down voters uncounted) k ↔ HaveMore voters uncounted k
+Allows-may_be_down voters uncounted k =
+    let first = Allows-surplus voters.incoming uncounted k in
+    let second = Allows-surplus voters.outgoing uncounted k in
+    let both = Allows-least (surplus voters.incoming uncounted) (surplus voters.outgoing uncounted) k in
+    cond_both (is_empty voters.outgoing) _ _ (λ a. Allows a k ↔ HaveMore voters uncounted k)
+    (λ single. (λ h. record { incoming = first.0 h; outgoing = λ some_voter. absurd (both_ways _ some_voter single) }, λ more. first.1 more.incoming))
+    (λ joint. (λ h. record { incoming = first.0 (both.0 h).0; outgoing = λ some_voter. second.0 (both.0 h).1 }, λ more. both.1 (first.1 more.incoming, second.1 (more.outgoing joint))))
+
+IsMostDown-from_Allows : (voters : Voters) (uncounted : Ids) (answer : Option ℕ) → ((k : ℕ) → Allows answer k ↔ HaveMore voters uncounted k) → IsMostDown voters uncounted answer
+IsMostDown-from_Allows voters uncounted None by_count = record { tolerated = tt; greatest = tt; none = λ tolerates. (by_count 0).1 (counts-from_Tolerates voters uncounted 0 tolerates) }
+IsMostDown-from_Allows voters uncounted (Some k) by_count = record {
+  tolerated = Tolerates-from_counts voters uncounted k ((by_count k).0 (omega arith));
+  greatest = λ other tolerates. (by_count other).1 (counts-from_Tolerates voters uncounted other tolerates);
   none = tt;
 }
 
 pub IsMostDown-may_be_down : (voters : Voters) (uncounted : Ids) → IsMostDown voters uncounted (may_be_down voters uncounted)
-IsMostDown-may_be_down voters uncounted =
-    cond_both (is_empty voters.outgoing) _ _ (IsMostDown voters uncounted)
-    (λ single. most_of_one voters uncounted _ single (surplus-is voters.incoming uncounted))
-    (λ joint. most_of_both voters uncounted _ _ joint (surplus-is voters.incoming uncounted) (surplus-is voters.outgoing uncounted))
+IsMostDown-may_be_down voters uncounted = IsMostDown-from_Allows voters uncounted _ (Allows-may_be_down voters uncounted)
 
 -- an answer that is the one by counting
 pub IsMostDown-from_counted : (voters : Voters) (uncounted : Ids) (answer : Option ℕ) → answer ≡ may_be_down voters uncounted → IsMostDown voters uncounted answer
@@ -249,24 +140,14 @@ pub IsMostDown-alone : (voters : Voters) (uncounted : Ids) (a b : Option ℕ) �
 IsMostDown-alone voters uncounted None None a_is b_is = refl
 IsMostDown-alone voters uncounted None (Some b) a_is b_is = absurd (a_is.none (tolerates_none voters uncounted b b_is.tolerated))
 IsMostDown-alone voters uncounted (Some a) None a_is b_is = absurd (b_is.none (tolerates_none voters uncounted a a_is.tolerated))
-IsMostDown-alone voters uncounted (Some a) (Some b) a_is b_is =
-    let up = b_is.greatest a a_is.tolerated in
-    let down = a_is.greatest b b_is.tolerated in
-    let same : a ≡ b = omega arith in
-    ap Some same
+IsMostDown-alone voters uncounted (Some a) (Some b) a_is b_is = let same : a ≡ b = omega (arith, b_is.greatest a a_is.tolerated, a_is.greatest b b_is.tolerated) in ap Some same
 
 -- ---- where every id counts
-count_of-no_voter : (ids : Ids) → count_of (has no_ids) ids ≡ 0
-count_of-no_voter ids = count_by-none (has no_ids) (ascending ids) (λ x here. has-no_ids x)
-
 pub counted-all : (ids : Ids) → count_of (λ id. not (has no_ids id)) ids ≡ size ids
-counted-all ids = let all = count_of-rest ids no_ids in let none = count_of-no_voter ids in omega arith
+counted-all ids = omega (arith, count_of-rest ids no_ids, count_by-none (has no_ids) (ascending ids) (λ x here. has-no_ids x))
 
 surplus-all : (ids : Ids) → is_empty ids ≡ false → surplus ids no_ids ≡ Some (size ids - majority (size ids))
-surplus-all ids some_voter =
-    let some = eqb-false (size ids) 0 some_voter in
-    let all = counted-all ids in
-    cond-true (nat_le (majority (size ids)) (counted ids no_ids)) _ _ (le-leb _ _ (omega arith)) ∙ ap (λ n. Some (n - majority (size ids))) all
+surplus-all ids some_voter = grind (arith, nat_tests, some_voter, counted-all ids)
 
 pub may_be_down-all : (voters : Voters) → is_empty voters.incoming ≡ false → may_be_down voters no_ids ≡ Some (least_minority voters)
 may_be_down-all voters some_voter = elim (cases_Bool (is_empty voters.outgoing)) [
@@ -277,22 +158,21 @@ may_be_down-all voters some_voter = elim (cases_Bool (is_empty voters.outgoing))
 -- ---- where no id votes
 pub may_be_down-no_voter : (voters : Voters) (uncounted : Ids) → is_empty voters.incoming ≡ true → may_be_down voters uncounted ≡ None
 may_be_down-no_voter voters uncounted no_voter =
-    let none = eqb-true (size voters.incoming) 0 no_voter in
-    let within = count_by-le-length (stay uncounted) (ascending voters.incoming) in
-    let no_surplus : surplus voters.incoming uncounted ≡ None = cond-false (nat_le (majority (size voters.incoming)) (counted voters.incoming uncounted)) _ _ (lt-leb (majority (size voters.incoming)) (counted voters.incoming uncounted) (omega arith)) in
+    let no_surplus : surplus voters.incoming uncounted ≡ None = grind (arith, nat_tests, no_voter, count_by-le-length (stay uncounted) (ascending voters.incoming)) in
     cond_both (is_empty voters.outgoing) _ _ (λ answer. answer ≡ None) (λ single. no_surplus) (λ joint. ap (λ a. least a (surplus voters.outgoing uncounted)) no_surplus)
 
 -- ---- whether the voters commit
-commits_with_answer : (voters : Voters) (away : Ids) (answer : Option ℕ) → IsMostDown voters away answer → commits_without voters away ≡ is_some answer
-commits_with_answer voters away (Some k) is =
-    let none = ap length ascending-no_ids in
-    ap (commits_without voters) (has-same_ids away (union no_ids away) (λ q. sym (has-union no_ids away q ∙ ap (λ b. b || has away q) (has-no_ids q)))) ∙ is.tolerated no_ids (omega arith)
-commits_with_answer voters away None is = false_from_ne_true _ (λ commits.
-    let stays = stays_in voters away commits in
-    is.none (Tolerates-from_counts voters away 0 (record {
-      incoming = let most = ltb-true _ _ stays.0 in omega arith;
-      outgoing = λ some_voter. let most = ltb-true _ _ (stays.1 some_voter) in omega arith;
-    })))
+is_some-surplus : (ids away : Ids) → majority_passes (stay away) ids ≡ is_some (surplus ids away)
+is_some-surplus ids away = grind (arith, nat_tests)
+
+is_some-least : (single : Bool) (a b : Option ℕ) → (is_some a && (single || is_some b)) ≡ is_some (cond single a (least a b))
+is_some-least true a b = grind arith
+is_some-least false (Some a) (Some b) = refl
+is_some-least false (Some a) None = refl
+is_some-least false None b = refl
 
 pub commits_without-is_some : (voters : Voters) (away : Ids) → commits_without voters away ≡ is_some (may_be_down voters away)
-commits_without-is_some voters away = commits_with_answer voters away _ (IsMostDown-may_be_down voters away)
+commits_without-is_some voters away =
+    commits_without-majority_passes voters away
+    ∙ (λ i. is_some-surplus voters.incoming away i && (is_empty voters.outgoing || is_some-surplus voters.outgoing away i))
+    ∙ is_some-least (is_empty voters.outgoing) (surplus voters.incoming away) (surplus voters.outgoing away)

@@ -1,10 +1,6 @@
-use Rattle.std.proofs.Common.{◌≡◌, ◌<◌, ◌^◌, take}
-use Rattle.std.specs.Str.Parse.{AllDigits, digits_value}
+use Rattle.std.proofs.Common.{◌<◌, ◌^◌}
+use Rattle.ascii_text.proofs.NumberLemmas.{IsRead}
 use Rattle.ascii_text.proofs.number.read_long.Given as goal
 
 abbrev pub invariant-loop-digit : goal.invariant-loop-digit
-invariant-loop-digit l = record {
-  all_digits : AllDigits 10 (take l.digit-index l.digits);
-  value : l.number ≡ digits_value 10 (take l.digit-index l.digits);
-  fits : l.number < 2 ^ 64;
-}
+invariant-loop-digit l = record { read : IsRead l.digits l.digit-index l.number; fits : l.number < 2 ^ 64 }

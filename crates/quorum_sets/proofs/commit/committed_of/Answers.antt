@@ -1,5 +1,5 @@
 use Rattle.std.proofs.Common.{arith, ◌∙◌}
-use Rattle.quorum_sets.proofs.Quorums.CommittedIndex.{committed_of-alone}
+use Rattle.quorum_sets.proofs.Quorums.CommittedIndex.{IsCommittedOf-alone, IsCommittedOf-committed_of}
 use Rattle.quorum_sets.proofs.Quorums.MajorityPosition.{majority-position}
 use Rattle.quorum_sets.proofs.commit.committed_of.Goals as goal
 
@@ -13,4 +13,8 @@ returns-else-n-eq0-clause-not_passed c some =
 
 pub returns-else-n-eq0-clause-index : goal.returns-else-n-eq0-clause-index
 returns-else-n-eq0-clause-index c =
-    committed_of-alone c.args.indexes.now _ (λ none. absurd (c.if-n-eq0.false (c.sort_unstable.ensures.len ∙ none))) (returns-else-n-eq0-clause-reached c) (returns-else-n-eq0-clause-not_passed c)
+    IsCommittedOf-alone c.args.indexes.now _ _ (record {
+      of_none = λ none. absurd (c.if-n-eq0.false (c.sort_unstable.ensures.len ∙ none));
+      reached = returns-else-n-eq0-clause-reached c;
+      not_passed = returns-else-n-eq0-clause-not_passed c;
+    }) (IsCommittedOf-committed_of c.args.indexes.now)
