@@ -1,5 +1,4 @@
 -- Walks over the ids of a set.
 
-pub mod TestOfEachId
 pub mod PositionByPosition
 pub mod FirstThat

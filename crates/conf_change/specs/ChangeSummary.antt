@@ -3,7 +3,7 @@
 use Rattle.std.specs.Prelude.{◌≡◌, ℕ, false, not, ◌&&◌, ◌||◌, ◌==◌, List, Some, None, is_some, unwrap_or, if◌then◌else◌}
 use Rattle.std.specs.List.{list_any}
 use Rattle.std.specs.Ordering.{nat_cmp}
-use Rattle.std.specs.BTreeMap.{BTreeMap, get}
+use Rattle.std.specs.FinMap.{find}
 use Rattle.conf_change.specs.Change.{is_update, is_removal, last_effective, removes}
 use Rattle.conf_change.specs.declared.change.Change.{Change}
 use Rattle.conf_change.specs.declared.change_summary.ChangeSummary.{ChangeSummary}
@@ -24,6 +24,6 @@ and_change summary change = record {
 }
 
 -- the summaries of the changes, one for each of the ids and each id that the changes name
-pub record AreSummaries (ids : List ℕ) (changes : List Change) (summaries : BTreeMap ℕ ChangeSummary) : Type 0 where
-  pub each : (q : ℕ) → unwrap_or (get nat_cmp summaries q) empty_summary ≡ summary_in changes q
-  pub entries : (q : ℕ) → is_some (get nat_cmp summaries q) ≡ (list_any (λ id. q == id) ids || list_any (λ change. q == change.id) changes)
+pub record AreSummaries (ids : List ℕ) (changes : List Change) (summaries : List (ℕ × ChangeSummary)) : Type 0 where
+  pub each : (q : ℕ) → unwrap_or (find nat_cmp q summaries) empty_summary ≡ summary_in changes q
+  pub entries : (q : ℕ) → is_some (find nat_cmp q summaries) ≡ (list_any (λ id. q == id) ids || list_any (λ change. q == change.id) changes)

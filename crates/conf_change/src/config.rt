@@ -10,6 +10,7 @@ ghost use Rattle.conf_change.specs.Configuration.{empty_configuration, is_joint,
 ghost use Rattle.conf_change.specs.Outcome.{after_leave};
 ghost use Rattle.conf_change.specs.declared.config.Invariant.{Invariant};
 
+use crate::first_that::first_that;
 use quorum_sets::{MemberSet, NoMemory, contains_from, symdiff, union};
 use std::alloc::Global;
 use std::marker::Model;
@@ -166,8 +167,15 @@ pub fn check<S: MemberSet>(config: &Config<S>) -> Result<(), Invariant>
     if holds_zero(config) {
         return Err(Invariant::ZeroId);
     }
-    check_next(&config.learners_next, &config.incoming, &config.outgoing)?;
-    if !is_apart_from_both(&config.learners, &config.incoming, &config.outgoing) {
+    if !is_within(&config.learners_next, &config.outgoing) {
+        return Err(Invariant::NextNotOutgoing);
+    }
+    if !is_apart(&config.learners_next, &config.incoming) {
+        return Err(Invariant::NextAndIncoming);
+    }
+    if !is_apart(&config.learners, &config.incoming)
+        || !is_apart(&config.learners, &config.outgoing)
+    {
         return Err(Invariant::LearnerAndVoter);
     }
     check_single(config)
@@ -207,46 +215,16 @@ fn begins_with_zero<S: MemberSet>(set: &S) -> bool
     contains_from(set, &mut 0, 0)
 }
 
-// Checks the two invariants of the next learners.
-fn check_next<S: MemberSet>(next: &S, incoming: &S, outgoing: &S) -> Result<(), Invariant>
-    ensures kept { OnOk result ((is_within (S.ids next.now) (S.ids outgoing.now) && is_apart (S.ids next.now) (S.ids incoming.now)) ≡ true) }
-    ensures not_kept { OnErr result ((is_within (S.ids next.now) (S.ids outgoing.now) && is_apart (S.ids next.now) (S.ids incoming.now)) ≡ false) }
-    ensures broken { IfErr result (λ broken. broken ≡ (if is_within (S.ids next.now) (S.ids outgoing.now) then Invariant.NextAndIncoming else Invariant.NextNotOutgoing)) }
+// Whether each id of the first set is in the second.
+fn is_within<S: MemberSet>(ids: &S, others: &S) -> bool
+    ensures { result ≡ is_within (S.ids ids.now) (S.ids others.now) }
 {
-    let mut apart = true;
-    let mut incoming_position = 0;
-    let mut outgoing_position = 0;
-    for position in 0..next.len() {
-        if let Some(id) = next.at(position) {
-            if !contains_from(outgoing, &mut outgoing_position, id) {
-                return Err(Invariant::NextNotOutgoing);
-            }
-            if contains_from(incoming, &mut incoming_position, id) {
-                apart = false;
-            }
-        }
-    }
-    if apart {
-        Ok(())
-    } else {
-        Err(Invariant::NextAndIncoming)
-    }
+    first_that(ids, |id| !others.contains(id)).is_none()
 }
 
-// Whether no id of the set is in one of the other two.
-fn is_apart_from_both<S: MemberSet>(ids: &S, first: &S, second: &S) -> bool
-    ensures { result ≡ (is_apart (S.ids ids.now) (S.ids first.now) && is_apart (S.ids ids.now) (S.ids second.now)) }
+// Whether no id of the first set is in the second.
+fn is_apart<S: MemberSet>(ids: &S, others: &S) -> bool
+    ensures { result ≡ is_apart (S.ids ids.now) (S.ids others.now) }
 {
-    let mut first_position = 0;
-    let mut second_position = 0;
-    for position in 0..ids.len() {
-        if let Some(id) = ids.at(position) {
-            if contains_from(first, &mut first_position, id)
-                || contains_from(second, &mut second_position, id)
-            {
-                return false;
-            }
-        }
-    }
-    true
+    first_that(ids, |id| others.contains(id)).is_none()
 }

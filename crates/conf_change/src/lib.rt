@@ -47,6 +47,7 @@ pub mod config;
 pub mod configuration_line;
 pub mod configuration_step;
 mod edits;
+mod first_that;
 pub mod floor;
 pub mod laws;
 mod members;

@@ -88,8 +88,8 @@ fn take_out(members: &mut SmallVec<(u64, Progress), 1>, id: u64)
     }
 }
 
-// The position of the member with this id, or the one at which it is to be inserted.
-fn position_of(members: &[(u64, Progress)], id: u64) -> Result<usize, usize>
+// The position of the entry with this id, or the one at which it is to be inserted.
+pub(crate) fn position_of<V>(members: &[(u64, V)], id: u64) -> Result<usize, usize>
     requires { IsAscending (map (λ m. m.0) members.now) }
     ensures { MatchResult result (λ position. IsAtPosition (map (λ m. m.0) members.now) id position) (λ position. IsInsertionPoint (map (λ m. m.0) members.now) id position) }
 {

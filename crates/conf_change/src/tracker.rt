@@ -285,7 +285,7 @@ impl<S: MemberSet> Tracker<S> {
         let mut learners_next = S::empty(alloc);
         let mut members = SmallVec::with_capacity(alloc, summaries.len())?;
         let mut positions = Positions::default();
-        for (&id, summary) in &summaries {
+        for &(id, summary) in summaries.as_slice() {
             let roles = self
                 .roles(&outgoing, id, &mut positions)
                 .after(summary.last);

@@ -1,12 +1,11 @@
 //! What is wrong with a ConfState that describes no valid configuration, or with a configuration that is not valid. A
 //! user who wrote it by hand is shown the id to look at.
-ghost use Rattle.std.specs.Prelude.{◌≡◌, ◌↔◌, ℕ, Bool, None, find, IsTrue};
-ghost use Rattle.quorum_sets.specs.Counting.{Computes};
-ghost use Rattle.quorum_sets.specs.Ids.{ascending};
+ghost use Rattle.std.specs.Prelude.{◌≡◌, ◌↔◌, None, IsTrue};
 ghost use Rattle.conf_change.specs.Configuration.{is_valid};
 ghost use Rattle.conf_change.specs.Violation.{violation_by, violation_of};
 
 use crate::config::{Config, Invariant, check};
+use crate::first_that::first_that;
 use quorum_sets::MemberSet;
 use thiserror::Error;
 
@@ -79,19 +78,4 @@ fn violation_by<S: MemberSet>(config: &Config<S>, invariant: Invariant) -> Optio
         Invariant::NotJointButNext => Some(Violation::NotJointButNext(next.at(0)?)),
         Invariant::NotJointButAutoLeave => Some(Violation::NotJointButAutoLeave),
     }
-}
-
-// The least id of a set that passes the test.
-fn first_that<S: MemberSet, F: Fn(u64) -> bool>(ids: &S, test: F) -> Option<u64>
-    requires { F.IsAlwaysCallable test }
-    ensures { (passes : ℕ → Bool) → Computes (F.post test) passes → result ≡ find passes (ascending (S.ids ids.now)) }
-{
-    for position in 0..ids.len() {
-        if let Some(id) = ids.at(position) {
-            if test(id) {
-                return Some(id);
-            }
-        }
-    }
-    None
 }

@@ -1,5 +1,5 @@
 -- Lists of ids, and the configurations that they describe.
-use Rattle.std.proofs.Common.{◌≡◌, ℕ, Bool, true, false, cond, ◌&&◌, List, length, refl, sym, ap, subst, ◌∙◌, eq-eqb, eqb-true}
+use Rattle.std.proofs.Common.{arith, ◌≡◌, ℕ, Bool, true, false, cond, ◌&&◌, List, length, refl, sym, ap, subst, ◌∙◌, eq-eqb, eqb-true}
 use Rattle.std.specs.Prelude.{Option, Some, None}
 use Rattle.std.proofs.lemmas.Bool.{and_parts, and_from}
 use Rattle.quorum_sets.specs.Ids.{Ids, ascending, size, ids_of}
@@ -48,24 +48,22 @@ Describes-same saved c d is_c is_d = sym (named_by-from_Describes saved c is_c) 
 -- ---- the configuration to which a saved form is restored
 pub names_each_once-from_Describes : (saved : ConfStateLists) (c : Configuration) → Describes saved c → names_each_once saved ≡ true
 names_each_once-from_Describes saved c d =
-    and_from _ (names_once saved.learners_next)
-    (and_from _ (names_once saved.learners)
-    (and_from (names_once saved.voters) (names_once saved.voters_outgoing)
-    (names_once-from_Lists saved.voters c.incoming d.incoming) (names_once-from_Lists saved.voters_outgoing c.outgoing d.outgoing))
-    (names_once-from_Lists saved.learners c.learners d.learners)) (names_once-from_Lists saved.learners_next c.learners_next d.learners_next)
+    grind (
+      arith,
+      names_once-from_Lists saved.voters c.incoming d.incoming,
+      names_once-from_Lists saved.voters_outgoing c.outgoing d.outgoing,
+      names_once-from_Lists saved.learners c.learners d.learners,
+      names_once-from_Lists saved.learners_next c.learners_next d.learners_next,
+    )
 
 pub Describes-from_names_each_once : (saved : ConfStateLists) → names_each_once saved ≡ true → Describes saved (named_by saved)
-Describes-from_names_each_once saved e =
-    let four = and_parts (names_once saved.voters && names_once saved.voters_outgoing && names_once saved.learners) (names_once saved.learners_next) e in
-    let three = and_parts (names_once saved.voters && names_once saved.voters_outgoing) (names_once saved.learners) four.0 in
-    let two = and_parts (names_once saved.voters) (names_once saved.voters_outgoing) three.0 in
-    record {
-      incoming = Lists-from_names_once saved.voters two.0;
-      outgoing = Lists-from_names_once saved.voters_outgoing two.1;
-      learners = Lists-from_names_once saved.learners three.1;
-      learners_next = Lists-from_names_once saved.learners_next four.1;
-      auto_leave = refl;
-    }
+Describes-from_names_each_once saved e = record {
+  incoming = Lists-from_names_once saved.voters (grind arith);
+  outgoing = Lists-from_names_once saved.voters_outgoing (grind arith);
+  learners = Lists-from_names_once saved.learners (grind arith);
+  learners_next = Lists-from_names_once saved.learners_next (grind arith);
+  auto_leave = refl;
+}
 
 pub described-from_Describes : (saved : ConfStateLists) (c : Configuration) → Describes saved c → described saved ≡ Some c
 described-from_Describes saved c d = λ i. cond (names_each_once-from_Describes saved c d i) (Some (named_by-from_Describes saved c d i)) None

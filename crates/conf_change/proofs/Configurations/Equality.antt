@@ -1,34 +1,26 @@
 -- Sets and configurations that are found to be the same are equal.
-use Rattle.std.proofs.Common.{◌≡◌, ℕ, ◌+◌, Bool, true, false, cond, not, ◌==◌, List, [], ◌∷◌, refl, sym, subst, ap, ◌∙◌, inl, inr, arith, eqb-true, eq-eqb}
+use Rattle.std.proofs.Common.{◌≡◌, ℕ, ◌+◌, Bool, true, false, cond, not, ◌==◌, List, [], ◌∷◌, sym, subst, ◌∙◌, arith, eqb-true, eq-eqb}
 use Rattle.std.specs.Prelude.{◌↔◌, count_by}
 use Rattle.std.specs.Bool.{beq}
 use Rattle.std.specs.List.{list_any}
-use Rattle.std.proofs.lemmas.Bool.{true≢false, or_cases, and_parts, and_from, not_from_true}
+use Rattle.std.proofs.lemmas.Bool.{not_from_true}
 use Rattle.std.proofs.lemmas.List.Sums.{sum_by-cons}
+use Rattle.std.proofs.lemmas.Bool.Decides.{nat_tests}
 use Rattle.quorum_sets.specs.Ids.{Ids, has, ascending, difference_count}
 use Rattle.quorum_sets.proofs.Offered.{count_by-none, has-ascending, has-same_ids}
 use Rattle.conf_change.specs.Configuration.{Configuration, is_same_set, is_same}
 
 -- ---- a count of 0
 no_one : (b : Bool) → ◌≡◌ {A = ℕ} (cond b 1 0) 0 → b ≡ false
-no_one true e = absurd (omega arith)
-no_one false e = refl
+no_one b e = grind arith
 
 none_counted : (test : ℕ → Bool) (xs : List ℕ) → count_by test xs ≡ 0 → (q : ℕ) → list_any (λ x. q == x) xs ≡ true → test q ≡ false
 none_counted test [] none q here = cc
-none_counted test (x ∷ xs) none q here =
-    let both : cond (test x) 1 0 + count_by test xs ≡ 0 = sym (sum_by-cons (λ y. cond (test y) 1 0) x xs) ∙ none in
-    elim (or_cases (q == x) (list_any (λ y. q == y) xs) here) [
-      | inl same ↦ ap test (eqb-true q x same) ∙ no_one (test x) (omega arith)
-      | inr later ↦ none_counted test xs (omega arith) q later
-    ]
+none_counted test (x ∷ xs) none q here = grind (arith, nat_tests, sum_by-cons (λ y. cond (test y) 1 0) x xs, none_counted test xs, eqb-true q x)
 
 -- ---- sets
 alike : (a b : Bool) → (a ≡ true → not b ≡ false) → (b ≡ true → not a ≡ false) → a ≡ b
-alike true true f g = refl
-alike true false f g = absurd (true≢false (f refl))
-alike false true f g = absurd (true≢false (g refl))
-alike false false f g = refl
+alike a b f g = grind arith
 
 -- each id of the first set is in the second
 each_in : (a b : Ids) → count_by (λ id. not (has b id)) (ascending a) ≡ 0 → (q : ℕ) → has a q ≡ true → not (has b q) ≡ false
@@ -46,33 +38,20 @@ is_same_set-refl a =
 
 -- ---- configurations
 same_flags : (a b : Bool) → beq a b ≡ true → a ≡ b
-same_flags true true e = refl
-same_flags true false e = cc
-same_flags false true e = cc
-same_flags false false e = refl
-
-beq-refl : (a : Bool) → beq a a ≡ true
-beq-refl true = refl
-beq-refl false = refl
+same_flags a b e = grind arith
 
 pub is_same-equal : (a b : Configuration) → is_same a b ≡ true → a ≡ b
 is_same-equal a b e =
-    let flag_and = and_parts _ (beq a.auto_leave b.auto_leave) e in
-    let next_and = and_parts _ (is_same_set a.learners_next b.learners_next) flag_and.0 in
-    let learners_and = and_parts _ (is_same_set a.learners b.learners) next_and.0 in
-    let voters = and_parts (is_same_set a.incoming b.incoming) (is_same_set a.outgoing b.outgoing) learners_and.0 in
     λ i. record {
-      incoming = is_same_set-equal a.incoming b.incoming voters.0 i;
-      outgoing = is_same_set-equal a.outgoing b.outgoing voters.1 i;
-      learners = is_same_set-equal a.learners b.learners learners_and.1 i;
-      learners_next = is_same_set-equal a.learners_next b.learners_next next_and.1 i;
-      auto_leave = same_flags a.auto_leave b.auto_leave flag_and.1 i;
+      incoming = is_same_set-equal a.incoming b.incoming (grind arith) i;
+      outgoing = is_same_set-equal a.outgoing b.outgoing (grind arith) i;
+      learners = is_same_set-equal a.learners b.learners (grind arith) i;
+      learners_next = is_same_set-equal a.learners_next b.learners_next (grind arith) i;
+      auto_leave = same_flags a.auto_leave b.auto_leave (grind arith) i;
     }
 
 is_same-refl : (c : Configuration) → is_same c c ≡ true
-is_same-refl c =
-    and_from _ _ (and_from _ _ (and_from _ _ (and_from _ _ (is_same_set-refl c.incoming) (is_same_set-refl c.outgoing)) (is_same_set-refl c.learners)) (is_same_set-refl c.learners_next))
-    (beq-refl c.auto_leave)
+is_same-refl c = grind (arith, is_same_set-refl c.incoming, is_same_set-refl c.outgoing, is_same_set-refl c.learners, is_same_set-refl c.learners_next)
 
 pub is_same-is_equality : (a b : Configuration) → (is_same a b ≡ true) ↔ (a ≡ b)
 is_same-is_equality a b =

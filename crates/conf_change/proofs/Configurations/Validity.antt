@@ -1,7 +1,8 @@
 -- A valid configuration, member by member.
-use Rattle.std.proofs.Common.{◌≡◌, ℕ, Bool, true, false, not, ◌||◌, ◌==◌, List, [], ◌∷◌, refl, sym, ap, ◌∙◌, inl, inr, arith, length, eqb-true, eq-eqb}
+use Rattle.std.proofs.Common.{◌≡◌, ℕ, Bool, true, false, not, ◌||◌, ◌==◌, List, [], ◌∷◌, refl, sym, ap, ◌∙◌, arith, length, eqb-true, eq-eqb}
 use Rattle.std.specs.List.{list_any, list_all}
-use Rattle.std.proofs.lemmas.Bool.{or_cases, or_parts, or_from, or_left, or_right, and_parts, and_from, not-true, not_from_false, true≢false, false_from_ne_true}
+use Rattle.std.proofs.lemmas.Bool.{or_from, or_left, or_right, and_from, not-true, not_from_false, true≢false, false_from_ne_true}
+use Rattle.std.proofs.lemmas.Bool.Decides.{nat_tests}
 use Rattle.quorum_sets.specs.Ids.{Ids, no_ids, has, ascending, size, is_empty}
 use Rattle.quorum_sets.proofs.Offered.{has-ascending, has-no_ids, ascending-no_ids, has-same_ids}
 use Rattle.conf_change.specs.Configuration.{Configuration, is_joint, is_within, is_apart, is_valid}
@@ -10,11 +11,7 @@ pub use Rattle.conf_change.specs.Configuration.{ValidByMember}
 -- ---- tests of all ids of a set
 all-passed : (test : ℕ → Bool) (xs : List ℕ) → list_all test xs ≡ true → (q : ℕ) → list_any (λ x. q == x) xs ≡ true → test q ≡ true
 all-passed test [] all q e = cc
-all-passed test (x ∷ xs) all q e =
-    elim (or_cases (q == x) (list_any (λ y. q == y) xs) e) [
-      | inl same ↦ ap test (eqb-true q x same) ∙ (and_parts (test x) (list_all test xs) all).0
-      | inr later ↦ all-passed test xs (and_parts (test x) (list_all test xs) all).1 q later
-    ]
+all-passed test (x ∷ xs) all q e = grind (arith, nat_tests, all-passed test xs, eqb-true q x)
 
 all_from_each : (test : ℕ → Bool) (xs : List ℕ) → ((q : ℕ) → list_any (λ x. q == x) xs ≡ true → test q ≡ true) → list_all test xs ≡ true
 all_from_each test [] each = refl
@@ -56,13 +53,8 @@ apart_members a b e q here = not-true (has b q) (member_passes (λ id. not (has 
 apart_from_members : (a b : Ids) → ((q : ℕ) → has a q ≡ true → has b q ≡ false) → is_apart a b ≡ true
 apart_from_members a b each = all_from_members (λ id. not (has b id)) a (λ q here. not_from_false (has b q) (each q here))
 
-flag_from_keeps : (joint flag : Bool) → (joint || not flag) ≡ true → joint ≡ false → flag ≡ false
-flag_from_keeps true flag e f = cc
-flag_from_keeps false flag e f = not-true flag e
-
 keeps_from_flag : (joint flag : Bool) → (joint ≡ false → flag ≡ false) → (joint || not flag) ≡ true
-keeps_from_flag true flag f = refl
-keeps_from_flag false flag f = not_from_false flag (f refl)
+keeps_from_flag joint flag f = grind arith
 
 next_from_joint : (c : Configuration) → ((q : ℕ) → has c.learners_next q ≡ true → has c.outgoing q ≡ true) → (empty : Bool) → is_empty c.outgoing ≡ empty
     → (not empty || is_empty c.learners_next) ≡ true
@@ -72,28 +64,17 @@ next_from_joint c within true e =
     true≢false (sym (within q here) ∙ has-none_in_empty c.outgoing e q)))
 
 pub ValidByMember-from_is_valid : (c : Configuration) → is_valid c ≡ true → ValidByMember c
-ValidByMember-from_is_valid c e =
-    let zero_and = and_parts _ _ e in
-    let out_and = and_parts _ _ zero_and.1 in
-    let in_and = and_parts _ _ out_and.1 in
-    let learner_and = and_parts _ _ in_and.1 in
-    let learners = and_parts (is_apart c.learners c.incoming) (is_apart c.learners c.outgoing) learner_and.0 in
-    let joint_and = and_parts _ _ learner_and.1 in
-    let flag_and = and_parts _ _ joint_and.1 in
-    let zero = or_parts (has c.incoming 0 || has c.outgoing 0 || has c.learners 0) (has c.learners_next 0) (not-true _ zero_and.0) in
-    let zero_3 = or_parts (has c.incoming 0 || has c.outgoing 0) (has c.learners 0) zero.0 in
-    let zero_2 = or_parts (has c.incoming 0) (has c.outgoing 0) zero_3.0 in
-    record {
-      zero_incoming = zero_2.0;
-      zero_outgoing = zero_2.1;
-      zero_learners = zero_3.1;
-      zero_next = zero.1;
-      next_outgoing = within_members c.learners_next c.outgoing out_and.0;
-      next_incoming = apart_members c.learners_next c.incoming in_and.0;
-      learner_incoming = apart_members c.learners c.incoming learners.0;
-      learner_outgoing = apart_members c.learners c.outgoing learners.1;
-      auto_leave = flag_from_keeps (is_joint c) c.auto_leave flag_and.0;
-    }
+ValidByMember-from_is_valid c e = record {
+  zero_incoming = grind arith;
+  zero_outgoing = grind arith;
+  zero_learners = grind arith;
+  zero_next = grind arith;
+  next_outgoing = within_members c.learners_next c.outgoing (grind arith);
+  next_incoming = apart_members c.learners_next c.incoming (grind arith);
+  learner_incoming = apart_members c.learners c.incoming (grind arith);
+  learner_outgoing = apart_members c.learners c.outgoing (grind arith);
+  auto_leave = λ single. grind arith;
+}
 
 pub is_valid-from_members : (c : Configuration) → ValidByMember c → is_valid c ≡ true
 is_valid-from_members c m =

@@ -1,9 +1,9 @@
 -- What is wrong with a configuration or a saved form is there exactly if it is not valid.
-use Rattle.std.proofs.Common.{◌≡◌, ℕ, ◌+◌, ◌<◌, ◌≤◌, Bool, true, false, cond, not, ◌&&◌, ◌||◌, List, [], ◌∷◌, length, refl, sym, ap, subst, ◌∙◌, eq-eqb, eqb-true, arith, slice_get, suc}
-use Rattle.std.specs.Prelude.{Option, Some, None, Ok, find, option_map, option_and_then, nat_eq}
+use Rattle.std.proofs.Common.{◌≡◌, ℕ, ◌<◌, ◌≤◌, Bool, true, false, cond, not, ◌&&◌, ◌||◌, List, [], ◌∷◌, length, refl, sym, ap, subst, ◌∙◌, eq-eqb, eqb-true, arith, slice_get}
+use Rattle.std.specs.Prelude.{Option, Some, None, Ok, find, option_map, option_and_then, is_some, nat_eq}
 use Rattle.std.specs.Option.{option_or}
 use Rattle.std.specs.List.{list_all}
-use Rattle.std.proofs.lemmas.Bool.{and_from, and_parts}
+use Rattle.std.proofs.Math.Bool.{not-not}
 use Rattle.quorum_sets.specs.Ids.{has, ascending, size, ids_of}
 use Rattle.quorum_sets.proofs.Offered.{ascending-no_ids, size-with_id}
 use Rattle.conf_change.specs.Configuration.{Configuration, keeps, is_joint, is_valid, invariants, first_broken}
@@ -15,36 +15,16 @@ use Rattle.conf_change.specs.declared.config.Invariant.{Invariant}
 use Rattle.conf_change.specs.declared.config.Invariant.TheVariants.{ZeroId, NextNotOutgoing, NextAndIncoming, LearnerAndVoter, NotJointButNext, NotJointButAutoLeave}
 use Rattle.conf_change.specs.declared.violation.Violation.{Violation}
 use Rattle.conf_change.specs.declared.violation.Violation.TheVariants.{ListedTwice}
+use Rattle.conf_change.proofs.SetWalks.FirstThat.{list_all-find}
 use Rattle.conf_change.proofs.Configurations.DescribedByLists.{Describes-from_names_each_once, described-from_Describes}
 
 -- ---- a list without an id that passes a test
-none_fails : {X : Type 0} (test : X → Bool) (xs : List X) → find (λ x. not (test x)) xs ≡ None → list_all test xs ≡ true
-none_fails test [] e = refl
-none_fails test (x ∷ xs) e = by_test (test x) refl (none_fails test xs) e
-  where
-    by_test : (b : Bool) → test x ≡ b → (find (λ y. not (test y)) xs ≡ None → list_all test xs ≡ true) → cond (not b) (Some x) (find (λ y. not (test y)) xs) ≡ None → (test x && list_all test xs) ≡ true
-    by_test true is rest e = and_from (test x) (list_all test xs) is (rest e)
-    by_test false is rest e = cc
-
-none_passes : (test : ℕ → Bool) (xs : List ℕ) → find test xs ≡ None → list_all (λ x. not (test x)) xs ≡ true
-none_passes test [] e = refl
-none_passes test (x ∷ xs) e = by_test (test x) refl (none_passes test xs) e
-  where
-    by_test : (b : Bool) → test x ≡ b → (find test xs ≡ None → list_all (λ y. not (test y)) xs ≡ true) → cond b (Some x) (find test xs) ≡ None → (not (test x) && list_all (λ y. not (test y)) xs) ≡ true
-    by_test true is rest e = cc
-    by_test false is rest e = and_from (not (test x)) (list_all (λ y. not (test y)) xs) (ap not is) (rest e)
+none_passes : {X : Type 0} (test fails : X → Bool) (xs : List X) → ((x : X) → test x ≡ not (fails x)) → find fails xs ≡ None → list_all test xs ≡ true
+none_passes test fails xs same e = list_all-find test fails xs same ∙ ap (λ o. not (is_some o)) e
 
 neither_passes : (a b : ℕ → Bool) (xs : List ℕ) → find (λ x. a x || b x) xs ≡ None → (list_all (λ x. not (a x)) xs && list_all (λ x. not (b x)) xs) ≡ true
 neither_passes a b [] e = refl
-neither_passes a b (x ∷ xs) e = by_tests (a x) (b x) refl refl (neither_passes a b xs) e
-  where
-    by_tests : (p q : Bool) → a x ≡ p → b x ≡ q → (find (λ y. a y || b y) xs ≡ None → (list_all (λ y. not (a y)) xs && list_all (λ y. not (b y)) xs) ≡ true) →
-        cond (p || q) (Some x) (find (λ y. a y || b y) xs) ≡ None → ((not (a x) && list_all (λ y. not (a y)) xs) && (not (b x) && list_all (λ y. not (b y)) xs)) ≡ true
-    by_tests true q is_p is_q rest e = cc
-    by_tests false true is_p is_q rest e = cc
-    by_tests false false is_p is_q rest e =
-        let both = and_parts (list_all (λ y. not (a y)) xs) (list_all (λ y. not (b y)) xs) (rest e) in
-        and_from _ _ (and_from (not (a x)) (list_all (λ y. not (a y)) xs) (ap not is_p) both.0) (and_from (not (b x)) (list_all (λ y. not (b y)) xs) (ap not is_q) both.1)
+neither_passes a b (x ∷ xs) e = grind (arith, neither_passes a b xs)
 
 none_first : (joint : Bool) (xs : List ℕ) → slice_get xs 0 ≡ None → (joint || nat_eq (length xs) 0) ≡ true
 none_first true xs e = refl
@@ -52,14 +32,13 @@ none_first false [] e = refl
 none_first false (x ∷ xs) e = cc
 
 mapped_none : {A B : Type 0} (f : A → B) (o : Option A) → option_map f o ≡ None → o ≡ None
-mapped_none f None e = refl
-mapped_none f (Some x) e = cc
+mapped_none f o e = grind arith
 
 -- an invariant of which no violation is found is kept
 kept : (c : Configuration) (invariant : Invariant) → violation_by c invariant ≡ None → keeps c invariant ≡ true
 kept c ZeroId e = cc
-kept c NextNotOutgoing e = none_fails (has c.outgoing) (ascending c.learners_next) (mapped_none _ _ e)
-kept c NextAndIncoming e = none_passes (has c.incoming) (ascending c.learners_next) (mapped_none _ _ e)
+kept c NextNotOutgoing e = none_passes (has c.outgoing) _ (ascending c.learners_next) (λ id. sym (not-not (has c.outgoing id))) (mapped_none _ _ e)
+kept c NextAndIncoming e = none_passes _ (has c.incoming) (ascending c.learners_next) (λ id. refl) (mapped_none _ _ e)
 kept c LearnerAndVoter e = neither_passes (has c.incoming) (has c.outgoing) (ascending c.learners) (mapped_none _ _ e)
 kept c NotJointButNext e = none_first (is_joint c) (ascending c.learners_next) (mapped_none _ _ e)
 kept c NotJointButAutoLeave e = cc
@@ -71,15 +50,10 @@ violation_by-broken c invariant broken e = let kept_too = kept c invariant e in 
 -- what is found passes
 found_passes : {X : Type 0} (test : X → Bool) (xs : List X) (x : X) → find test xs ≡ Some x → test x ≡ true
 found_passes test [] x e = cc
-found_passes test (y ∷ xs) x e = by_test (test y) refl (found_passes test xs x) e
-  where
-    by_test : (b : Bool) → test y ≡ b → (find test xs ≡ Some x → test x ≡ true) → cond b (Some y) (find test xs) ≡ Some x → test x ≡ true
-    by_test true is rest e = let same : y ≡ x = cc in ap test (sym same) ∙ is
-    by_test false is rest e = rest e
+found_passes test (y ∷ xs) x e = grind (arith, found_passes test xs x)
 
 not-true : (b : Bool) → not b ≡ true → b ≡ false
-not-true true e = cc
-not-true false e = refl
+not-true b e = grind arith
 
 -- the first broken one is
 pub violation_by-first : (c : Configuration) (invariant : Invariant) → first_broken c ≡ Some invariant → violation_by c invariant ≡ None → ⊥
@@ -87,50 +61,34 @@ violation_by-first c invariant first = violation_by-broken c invariant (not-true
 
 -- a valid configuration has no violation
 none-from_is_valid : (c : Configuration) → is_valid c ≡ true → violation_of c ≡ None
-none-from_is_valid c valid = ap (option_and_then (violation_by c)) (all_pass invariants valid)
+none-from_is_valid c valid =
+    ap (option_and_then (violation_by c)) (none _ (sym (list_all-find (keeps c) (λ i. not (keeps c i)) invariants (λ i. sym (not-not (keeps c i)))) ∙ valid))
   where
-    all_pass : (all : List Invariant) → list_all (keeps c) all ≡ true → find (λ i. not (keeps c i)) all ≡ None
-    all_pass [] e = refl
-    all_pass (i ∷ all) e =
-        let parts = and_parts (keeps c i) (list_all (keeps c) all) e in
-        ap (λ b. cond (not b) (Some i) (find (λ j. not (keeps c j)) all)) parts.0 ∙ all_pass all parts.1
+    none : (o : Option Invariant) → not (is_some o) ≡ true → o ≡ None
+    none o e = grind arith
 
 -- a configuration without a violation is valid
 pub is_valid-from_none : (c : Configuration) → violation_of c ≡ None → is_valid c ≡ true
 is_valid-from_none c none = by_first (first_broken c) refl none
   where
     by_first : (o : Option Invariant) → first_broken c ≡ o → option_and_then (violation_by c) o ≡ None → is_valid c ≡ true
-    by_first None is e = none_fails (keeps c) invariants is
+    by_first None is e = none_passes (keeps c) _ invariants (λ i. sym (not-not (keeps c i))) is
     by_first (Some invariant) is e = absurd (violation_by-first c invariant is e)
 
 -- ---- lists that name an id twice
 size-few : (list : List ℕ) → size (ids_of list) ≤ length list
 size-few [] = let none : size (ids_of []) ≡ 0 = ap length ascending-no_ids in omega (arith, none)
-size-few (x ∷ list) = by_case (has (ids_of list) x) (size (ids_of list)) (size (ids_of (x ∷ list))) (size-with_id (ids_of list) x) (size-few list)
-  where
-    by_case : (b : Bool) (before after : ℕ) → after ≡ cond b before (before + 1) → before ≤ length list → after ≤ suc (length list)
-    by_case true before after e few = omega arith
-    by_case false before after e few = omega arith
+size-few (x ∷ list) = grind (arith, size-few list, size-with_id (ids_of list) x)
 
 -- no id is named again
 size-once : (list : List ℕ) → first_repeat list ≡ None → size (ids_of list) ≡ length list
 size-once [] e = ap length ascending-no_ids
-size-once (x ∷ list) e = by_case (has (ids_of list) x) (size (ids_of (x ∷ list))) (size-with_id (ids_of list) x) (size-once list) e
-  where
-    by_case : (b : Bool) (after : ℕ) → after ≡ cond b (size (ids_of list)) (size (ids_of list) + 1) → (first_repeat list ≡ None → size (ids_of list) ≡ length list) →
-        cond b (Some x) (first_repeat list) ≡ None → after ≡ suc (length list)
-    by_case true after is rest e = cc
-    by_case false after is rest e = let once = rest e in omega arith
+size-once (x ∷ list) e = grind (arith, size-once list, size-with_id (ids_of list) x)
 
 -- one is
 size-twice : (list : List ℕ) (id : ℕ) → first_repeat list ≡ Some id → size (ids_of list) < length list
 size-twice [] id e = cc
-size-twice (x ∷ list) id e = by_case (has (ids_of list) x) (size (ids_of (x ∷ list))) (size-with_id (ids_of list) x) (size-twice list id) e
-  where
-    by_case : (b : Bool) (after : ℕ) → after ≡ cond b (size (ids_of list)) (size (ids_of list) + 1) → (first_repeat list ≡ Some id → size (ids_of list) < length list) →
-        cond b (Some x) (first_repeat list) ≡ Some id → after < suc (length list)
-    by_case true after is rest e = let few = size-few list in omega arith
-    by_case false after is rest e = let fewer = rest e in omega arith
+size-twice (x ∷ list) id e = grind (arith, size-few list, size-twice list id, size-with_id (ids_of list) x)
 
 names_once-from_none : (list : List ℕ) → first_repeat list ≡ None → names_once list ≡ true
 names_once-from_none list e = eq-eqb (length list) (size (ids_of list)) (sym (size-once list e))
@@ -145,13 +103,6 @@ none-from_names_once list once = by_repeat (first_repeat list) refl
         let fewer = size-twice list id e in
         let bad : ⊥ = omega arith in absurd bad
 
-or_none : (a b : Option ℕ) → a ≡ None → b ≡ None → option_or a b ≡ None
-or_none a b is_a is_b = simp (is_a, is_b) refl
-
-or_parts : (a b : Option ℕ) → option_or a b ≡ None → (a ≡ None) × (b ≡ None)
-or_parts None b e = (refl, e)
-or_parts (Some x) b e = let bad : ⊥ = cc in absurd bad
-
 -- a form that is described names no id twice, and its configuration is the one that it names
 pub record IsNamed (saved : ConfStateLists) (c : Configuration) : Type 0 where
   pub named : named_by saved ≡ c
@@ -163,22 +114,14 @@ IsNamed-from_described saved c e = by_once (names_each_once saved) refl e
     by_once : (b : Bool) → names_each_once saved ≡ b → cond b (Some (named_by saved)) None ≡ Some c → IsNamed saved c
     by_once false is e = cc
     by_once true is e =
-        let four = and_parts (names_once saved.voters && names_once saved.voters_outgoing && names_once saved.learners) (names_once saved.learners_next) is in
-        let three = and_parts (names_once saved.voters && names_once saved.voters_outgoing) (names_once saved.learners) four.0 in
-        let two = and_parts (names_once saved.voters) (names_once saved.voters_outgoing) three.0 in
         record {
           named = cc;
-          once = or_none _ _ (or_none _ _ (or_none _ _ (none-from_names_once saved.voters two.0) (none-from_names_once saved.voters_outgoing two.1))
-              (none-from_names_once saved.learners three.1)) (none-from_names_once saved.learners_next four.1);
+          once = grind (arith, none-from_names_once saved.voters, none-from_names_once saved.voters_outgoing, none-from_names_once saved.learners, none-from_names_once saved.learners_next);
         }
 
 names_each_once-from_none : (saved : ConfStateLists) → repeat_in saved ≡ None → names_each_once saved ≡ true
 names_each_once-from_none saved e =
-    let four = or_parts _ _ e in
-    let three = or_parts _ _ four.0 in
-    let two = or_parts _ _ three.0 in
-    and_from _ _ (and_from _ _ (and_from _ _ (names_once-from_none saved.voters two.0) (names_once-from_none saved.voters_outgoing two.1))
-    (names_once-from_none saved.learners three.1)) (names_once-from_none saved.learners_next four.1)
+    grind (arith, names_once-from_none saved.voters, names_once-from_none saved.voters_outgoing, names_once-from_none saved.learners, names_once-from_none saved.learners_next)
 
 -- one that is not described names an id twice
 pub repeat_in-there : (saved : ConfStateLists) → described saved ≡ None → repeat_in saved ≡ None → ⊥

@@ -1,9 +1,9 @@
 -- A list of changes, made one after another: the configuration, and each id's progress.
-use Rattle.std.proofs.Common.{◌≡◌, ℕ, Bool, true, false, cond, not, ◌&&◌, ◌||◌, ◌==◌, List, [], ◌∷◌, ◌++◌, refl, sym, ap, ◌∙◌, eqb-true, ◌+◌, ◌<◌, length, map, take, get_or}
+use Rattle.std.proofs.Common.{◌≡◌, ℕ, Bool, true, false, cond, not, ◌&&◌, ◌||◌, ◌==◌, List, [], ◌∷◌, ◌++◌, refl, sym, ap, ◌∙◌, eqb-true, ◌+◌, ◌<◌, length, map, take, get_or, arith}
 use Rattle.std.specs.Prelude.{Option, Some, None, IfSome, is_some}
 use Rattle.std.specs.Ordering.{nat_cmp}
 use Rattle.std.specs.FinMap as finite
-use Rattle.std.proofs.lemmas.Bool.{false≢true, and_parts, not-false}
+use Rattle.std.proofs.lemmas.Bool.{and_parts, not-false}
 use Rattle.std.proofs.lemmas.List.{take_more}
 use Rattle.std.specs.Cmp.{nat_eq_equiv}
 use Rattle.quorum_sets.specs.Ids.{Ids, has, is_empty}
@@ -17,45 +17,12 @@ use Rattle.conf_change.specs.Changer.{IsSound, tracker_of}
 use Rattle.conf_change.specs.declared.change.Change.{Change}
 use Rattle.conf_change.specs.declared.floor.Floor.{Floor}
 use Rattle.conf_change.specs.declared.change.Kind.{Kind}
-use Rattle.conf_change.specs.declared.change.Kind.TheVariants.{Voter, Learner, Remove, Update}
 use Rattle.conf_change.specs.declared.progress.Progress.{Progress}
 use Rattle.conf_change.specs.declared.roles.Membership.{Membership}
 use Rattle.conf_change.proofs.ListsOfChanges.ResultOfEach.{has-incoming_after, has-learners_after, result_of-push, last_effective-one, removes-push, result_of-none}
 use Rattle.conf_change.proofs.Configurations.Validity.{ValidByMember-from_is_valid, has-none_in_empty}
 
 -- ---- one id, by what is true of it
--- an entry brought in line again is as if it had not been before
-entry_again : (next_index : ℕ) (m' l' m l : Bool) (had : Option Progress) → (is_some had ≡ true → m ≡ true) → entry_of next_index m' l' (entry_of next_index m l had) ≡ entry_of next_index m' l' had
-entry_again next_index false l' m l had h = refl
-entry_again next_index true l' true l None h = refl
-entry_again next_index true l' true l (Some p) h = refl
-entry_again next_index true l' false l None h = refl
-entry_again next_index true l' false l (Some p) h = absurd (false≢true (h refl))
-
-left_same : (removed out : Bool) (had : Option Progress) → progress_left_after removed out had ≡ progress_left_after (removed || false) out had
-left_same true out had = refl
-left_same false out had = refl
-
-left_nothing : (removed out : Bool) (had : Option Progress) → had ≡ None → progress_left_after removed out had ≡ None
-left_nothing true true had e = e
-left_nothing true false had e = refl
-left_nothing false out had e = e
-
-left_out : (removed : Bool) (had : Option Progress) → progress_left_after removed true had ≡ had
-left_out true had = refl
-left_out false had = refl
-
-left_removed : (removed : Bool) (had : Option Progress) → progress_left_after (removed || true) false had ≡ None
-left_removed true had = refl
-left_removed false had = refl
-
-none_is_some : (o : Option Progress) → o ≡ None → is_some o ≡ true → ⊥
-none_is_some o none e = false≢true (sym (ap is_some none) ∙ e)
-
-or_not : (b : Bool) → (b || not b) ≡ true
-or_not true = refl
-or_not false = refl
-
 -- the last effective change of one change
 abbrev token_of : Kind → Bool → Bool → Option Kind
 token_of kind named zero = cond (named && not zero && not (is_update kind)) (Some kind) None
@@ -75,44 +42,7 @@ record StepAt (next_index : ℕ) (kind : Kind) (named zero incoming out learner 
 step_at : (next_index : ℕ) (kind : Kind) (named zero incoming out learner removed : Bool) (had : Option Progress)
     → (zero ≡ true → had ≡ None) → (is_some (progress_left_after removed out had) ≡ true → (incoming || out || learner) ≡ true)
     → StepAt next_index kind named zero incoming out learner removed had
-step_at next_index kind false zero incoming out learner removed had none here = record {
-  entry_is = ap (entry_of next_index (incoming || out || learner) learner) (left_same removed out had);
-  member_is = λ e. here (ap is_some (left_same removed out had) ∙ e);
-}
-step_at next_index kind true true incoming out learner removed had none here = record {
-  entry_is =
-      entry_again next_index (incoming || out || learner) learner (incoming || out || learner) learner (progress_left_after removed out had) here
-      ∙ ap (entry_of next_index (incoming || out || learner) learner)
-      (left_nothing removed out had (none refl) ∙ sym (left_nothing (removed || is_removal kind) out had (none refl)));
-  member_is = λ e. absurd (none_is_some _ (left_nothing (removed || is_removal kind) out had (none refl)) e);
-}
-step_at next_index Voter true false incoming out learner removed had none here = record {
-  entry_is =
-      entry_again next_index true false (incoming || out || learner) learner (progress_left_after removed out had) here ∙ ap (entry_of next_index true false) (left_same removed out had);
-  member_is = λ e. refl;
-}
-step_at next_index Learner true false incoming out learner removed had none here = record {
-  entry_is =
-      entry_again next_index (out || not out) (not out) (incoming || out || learner) learner (progress_left_after removed out had) here
-      ∙ ap (entry_of next_index (out || not out) (not out)) (left_same removed out had);
-  member_is = λ e. or_not out;
-}
-step_at next_index Remove true false incoming true learner removed had none here = record {
-  entry_is =
-      entry_again next_index true false (incoming || true || learner) learner (progress_left_after removed true had) here
-      ∙ ap (entry_of next_index true false) (left_out removed had ∙ sym (left_out (removed || true) had));
-  member_is = λ e. refl;
-}
-step_at next_index Remove true false incoming false learner removed had none here = record {
-  entry_is = refl;
-  member_is = λ e. absurd (none_is_some _ (left_removed removed had) e);
-}
-step_at next_index Update true false incoming out learner removed had none here = record {
-  entry_is =
-      entry_again next_index (incoming || out || learner) learner (incoming || out || learner) learner (progress_left_after removed out had) here
-      ∙ ap (entry_of next_index (incoming || out || learner) learner) (left_same removed out had);
-  member_is = λ e. here (ap is_some (left_same removed out had) ∙ e);
-}
+step_at next_index kind named zero incoming out learner removed had none here = record { entry_is = grind arith; member_is = grind arith }
 
 -- ---- a tracker
 -- the tracker after the changes so far
@@ -123,12 +53,8 @@ pub record AppliedSoFar (next_index : ℕ) (changes : List Change) (before after
 applied_none : (next_index : ℕ) (t : TrackerState) → HasEntries next_index t.config t.progress → AppliedSoFar next_index [] t t
 applied_none next_index t expected = record {
   applied = record { configuration = result_of-none t.config; floor = refl; entries = expected.each };
-  members = λ q e. sym (is_some-entry (is_member t.config q) _) ∙ sym (ap is_some (expected.each q)) ∙ e;
+  members = λ q e. grind (arith, expected.each q);
 }
-  where
-    is_some-entry : (b : Bool) (p : Progress) → is_some (cond b (Some p) None) ≡ b
-    is_some-entry true p = refl
-    is_some-entry false p = refl
 
 -- the id has what it is to have in a configuration, and no other entry is altered
 abbrev Follows : ℕ → ℕ → Configuration → ProgressMap → ProgressMap → Type 0
@@ -189,10 +115,7 @@ applied_more next_index xs x before now after none so_far made floor follows = r
 -- ---- from a tracker that is sound
 -- who is a member has progress with its mark, and no other id has any
 entry_in-expected : (next_index : ℕ) (had : Option Progress) (member learner : Bool) → is_some had ≡ member → IfSome had (λ p. p.learner ≡ learner) → had ≡ entry_of next_index member learner had
-entry_in-expected next_index None true learner e marked = absurd (false≢true e)
-entry_in-expected next_index None false learner e marked = refl
-entry_in-expected next_index (Some p) true learner e marked = λ i. Some (record { matched = p.matched; next = p.next; learner = marked i })
-entry_in-expected next_index (Some p) false learner e marked = absurd (false≢true (sym e))
+entry_in-expected next_index had member learner e marked = grind arith
 
 -- with other outgoing voters the members are the same
 abbrev pub HasSameMembers : TrackerState → Ids → Bool → Type 0
@@ -202,22 +125,12 @@ HasSameMembers t outgoing auto_leave = (q : ℕ) → is_member (beginning t outg
 pub HasSameMembers-entering : (t : TrackerState) (outgoing : Ids) (auto_leave : Bool) → outgoing ≡ t.config.incoming → is_joint t.config ≡ false → HasSameMembers t outgoing auto_leave
 HasSameMembers-entering t outgoing auto_leave same single q =
     let none : has t.config.outgoing q ≡ false = has-none_in_empty t.config.outgoing (not-false (is_empty t.config.outgoing) single) q in
-    (λ i. has t.config.incoming q || has (same i) q || has t.config.learners q) ∙ twice (has t.config.incoming q) (has t.config.learners q)
-    ∙ sym (λ i. has t.config.incoming q || none i || has t.config.learners q)
-  where
-    twice : (a b : Bool) → (a || a || b) ≡ (a || false || b)
-    twice true b = refl
-    twice false b = refl
+    rw same (grind (arith, none))
 
 no_progress_of_zero : (t : TrackerState) → IsSound t → finite.get t.progress 0 ≡ None
 no_progress_of_zero t sound =
     let valid = ValidByMember-from_is_valid t.config (and_parts _ _ sound.restorable).0 in
-    let none : is_member t.config 0 ≡ false = (λ i. valid.zero_incoming i || valid.zero_outgoing i || valid.zero_learners i) in
-    nothing (finite.get t.progress 0) (sound.of_members 0 ∙ none)
-  where
-    nothing : (o : Option Progress) → is_some o ≡ false → o ≡ None
-    nothing None e = refl
-    nothing (Some p) e = absurd (false≢true (sym e))
+    grind (arith, sound.of_members 0, valid.zero_incoming, valid.zero_outgoing, valid.zero_learners)
 
 pub HasEntries-beginning : (next_index : ℕ) (t : TrackerState) (outgoing : Ids) (auto_leave : Bool) → IsSound t → HasSameMembers t outgoing auto_leave
     → HasEntries next_index (beginning t outgoing auto_leave).config t.progress

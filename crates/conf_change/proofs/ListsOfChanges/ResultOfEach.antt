@@ -1,9 +1,9 @@
 -- What a list of changes makes of each id.
-use Rattle.std.proofs.Common.{◌≡◌, ℕ, Bool, true, false, cond, not, ◌&&◌, ◌||◌, ◌==◌, List, [], ◌∷◌, ◌++◌, map, reverse, refl, sym, ap, subst, ◌∙◌, T, ◌≢◌, eqb→eq, ◌+◌, ◌<◌, length, take, get_or}
+use Rattle.std.proofs.Common.{◌≡◌, ℕ, Bool, true, false, cond, not, ◌&&◌, ◌||◌, ◌==◌, List, [], ◌∷◌, ◌++◌, map, reverse, refl, sym, ap, subst, ◌∙◌, T, ◌≢◌, eqb→eq, ◌+◌, ◌<◌, length, take, get_or, arith}
 use Rattle.std.specs.Prelude.{Option, Some, None, find, option_map, is_some}
-use Rattle.std.specs.Cmp.{nat_eq_equiv}
 use Rattle.std.proofs.Math.Bool.{or-false}
-use Rattle.std.proofs.lemmas.Bool.{false≢true}
+use Rattle.std.proofs.lemmas.Bool.{or_right}
+use Rattle.std.proofs.lemmas.Bool.Decides.{nat_tests}
 use Rattle.std.proofs.lemmas.List.{reverse-append, take_more}
 use Rattle.std.proofs.lemmas.List.Folds.{list_any-append}
 use Rattle.std.specs.List.{list_any}
@@ -13,12 +13,11 @@ use Rattle.conf_change.specs.Configuration.{Configuration}
 use Rattle.conf_change.specs.Change.{names, last_effective, named_or_in, is_update, is_removal, is_incoming_after, is_learner_after, is_next_after, removes, result_of}
 use Rattle.conf_change.specs.declared.change.Change.{Change}
 use Rattle.conf_change.specs.declared.change.Kind.{Kind}
-use Rattle.conf_change.specs.declared.change.Kind.TheVariants.{Voter, Learner, Remove, Update}
+use Rattle.conf_change.specs.declared.change.Kind.TheVariants.{Update}
 
 -- ---- the last effective change
 of_cond : (b : Bool) (x : Change) (o : Option Change) → option_map (λ change. change.kind) (cond b (Some x) o) ≡ cond b (Some x.kind) (option_map (λ change. change.kind) o)
-of_cond true x o = refl
-of_cond false x o = refl
+of_cond b x o = grind arith
 
 reverse-push : (xs : List Change) (x : Change) → reverse (xs ++ x ∷ []) ≡ x ∷ reverse xs
 reverse-push xs x = reverse-append xs (x ∷ [])
@@ -36,71 +35,34 @@ pub last_effective-one : (x : Change) (q : ℕ) → last_effective (x ∷ []) q 
 last_effective-one x q = of_cond (names q x) x None
 
 -- ---- an id with a last effective change is named
-some_cond : (b : Bool) (x : Change) (o : Option Change) → is_some (cond b (Some x) o) ≡ (b || is_some o)
-some_cond true x o = refl
-some_cond false x o = refl
-
 is_some-find : (p : Change → Bool) (xs : List Change) → is_some (find p xs) ≡ list_any p xs
 is_some-find p [] = refl
-is_some-find p (x ∷ xs) = some_cond (p x) x (find p xs) ∙ ap (λ b. p x || b) (is_some-find p xs)
-
-or_last : (a b : Bool) → (a || (b || false)) ≡ (b || a)
-or_last true true = refl
-or_last true false = refl
-or_last false true = refl
-or_last false false = refl
+is_some-find p (x ∷ xs) = grind (arith, is_some-find p xs)
 
 any_reverse : (p : Change → Bool) (xs : List Change) → list_any p (reverse xs) ≡ list_any p xs
 any_reverse p [] = refl
-any_reverse p (x ∷ xs) =
-    ap (list_any p) (reverse-append (x ∷ []) xs) ∙ list_any-append p (reverse xs) (x ∷ [])
-    ∙ or_last (list_any p (reverse xs)) (p x) ∙ ap (λ b. p x || b) (any_reverse p xs)
-
-first_and : (a b c : Bool) → (a && b && c) ≡ true → a ≡ true
-first_and true b c e = refl
-first_and false b c e = e
-
-or_true : (a b : Bool) → b ≡ true → (a || b) ≡ true
-or_true true b e = refl
-or_true false b e = e
-
-or_mono : (a b c d : Bool) → (a ≡ true → c ≡ true) → (b ≡ true → d ≡ true) → (a || b) ≡ true → (c || d) ≡ true
-or_mono true b c d f h e = rw (f refl) refl
-or_mono false b c d f h e = or_true c d (h e)
-
-flip : (id m : ℕ) → (m == id) ≡ true → (id == m) ≡ true
-flip id m e = nat_eq_equiv.symm id m ∙ e
+any_reverse p (x ∷ xs) = ap (list_any p) (reverse-append (x ∷ []) xs) ∙ list_any-append p (reverse xs) (x ∷ []) ∙ grind (arith, any_reverse p xs)
 
 -- where a change has a say on the id, the id is among the named ones
 named_among : (id : ℕ) (xs : List Change) → list_any (names id) xs ≡ true → list_any (λ m. id == m) (map (λ change. change.id) xs) ≡ true
 named_among id [] e = e
-named_among id (x ∷ xs) e =
-    or_mono (names id x) (list_any (names id) xs) _ _ (λ is_listed. flip id x.id (first_and _ _ _ is_listed)) (named_among id xs) e
+named_among id (x ∷ xs) e = grind (arith, nat_tests, named_among id xs)
 
 -- ---- what is decided by the last effective change alone
 some_of_map : (o : Option Change) (k : Kind) → option_map (λ change. change.kind) o ≡ Some k → is_some o ≡ true
-some_of_map None k e = ap is_some e
-some_of_map (Some x) k e = refl
+some_of_map o k e = grind arith
 
 pub last_effective-is_named : (xs : List Change) (id : ℕ) (k : Kind) → last_effective xs id ≡ Some k → list_any (λ m. id == m) (map (λ change. change.id) xs) ≡ true
 last_effective-is_named xs id k e =
     named_among id xs (sym (any_reverse (names id) xs) ∙ sym (is_some-find (names id) (reverse xs)) ∙ some_of_map _ k e)
 
-and_in : (a b : Bool) → (a ≡ true → b ≡ true) → (b && a) ≡ a
-and_in true b f = rw (f refl) refl
-and_in false true f = refl
-and_in false false f = refl
-
-and_swap : (a b : Bool) → (a && b) ≡ (b && a)
-and_swap true true = refl
-and_swap true false = refl
-and_swap false true = refl
-and_swap false false = refl
+pub all_in : (t a : Bool) → (t ≡ true → a ≡ true) → (t && a) ≡ t
+all_in t a f = grind arith
 
 among : (decide : Option Kind → Bool → Bool) → ((was : Bool) → decide None was ≡ was) → (s : Ids) (xs : List Change) (q : ℕ) (o : Option Kind)
     → last_effective xs q ≡ o → decide o (has s q) ≡ true → list_any (λ m. q == m) (named_or_in xs s) ≡ true
 among decide same s xs q None e d =
-    list_any-append _ (map (λ change. change.id) xs) (ascending s) ∙ or_true _ _ (sym (has-ascending s q) ∙ sym (same (has s q)) ∙ d)
+    list_any-append _ (map (λ change. change.id) xs) (ascending s) ∙ or_right _ _ (sym (has-ascending s q) ∙ sym (same (has s q)) ∙ d)
 among decide same s xs q (Some k) e d =
     list_any-append _ (map (λ change. change.id) xs) (ascending s) ∙ ap (λ b. b || list_any (λ m. q == m) (ascending s)) (last_effective-is_named xs q k e)
 
@@ -108,8 +70,7 @@ has-decided : (decide : ℕ → Option Kind → Bool → Bool) → ((id : ℕ) (
     → has (ids_where (λ id. decide id (last_effective xs id) (has s id)) (named_or_in xs s)) q ≡ decide q (last_effective xs q) (has s q)
 has-decided decide same s xs q =
     has-ids_where (λ id. decide id (last_effective xs id) (has s id)) (named_or_in xs s) q
-    ∙ and_swap (decide q (last_effective xs q) (has s q)) (list_any (λ m. q == m) (named_or_in xs s))
-    ∙ and_in (decide q (last_effective xs q) (has s q)) (list_any (λ m. q == m) (named_or_in xs s)) (λ d. among (decide q) (same q) s xs q (last_effective xs q) refl d)
+    ∙ all_in (decide q (last_effective xs q) (has s q)) (list_any (λ m. q == m) (named_or_in xs s)) (λ d. among (decide q) (same q) s xs q (last_effective xs q) refl d)
 
 -- each id by itself
 pub has-incoming_after : (c : Configuration) (xs : List Change) (q : ℕ) → has (result_of c xs).incoming q ≡ is_incoming_after (last_effective xs q) (has c.incoming q)
@@ -138,54 +99,28 @@ configuration-by_members c d incoming outgoing learners next auto_leave i = reco
 abbrev pub only : Kind → ℕ → List Change
 only kind id = record { kind = kind; id = id } ∷ []
 
-zero_apart : (q id : ℕ) → id ≢ 0 → (q == id) ≡ true → not (q == 0) ≡ true
-zero_apart q id apart e =
-    let same : q ≡ id = eqb→eq q id (subst T (sym e) tt) in
-    not_zero q (λ z. apart (sym same ∙ z))
-  where
-    from_false : (b : Bool) → (T b → ⊥) → not b ≡ true
-    from_false true f = absurd (f tt)
-    from_false false f = refl
-
-    not_zero : (n : ℕ) → (n ≡ 0 → ⊥) → not (n == 0) ≡ true
-    not_zero n f = from_false (n == 0) (λ t. f (eqb→eq n 0 t))
-
-both_true : (a b c : Bool) → (a ≡ true → b ≡ true) → c ≡ false → (a && b && not c) ≡ a
-both_true true b c f e = rw (f refl, e) refl
-both_true false b c f e = refl
-
 -- a change has its say on its id alone
 last_effective-only : (kind : Kind) (q id : ℕ) → id ≢ 0 → is_update kind ≡ false → last_effective (only kind id) q ≡ cond (q == id) (Some kind) None
 last_effective-only kind q id apart e =
     let x : Change = record { kind = kind; id = id } in
-    last_effective-one x q
-    ∙ ap (λ b. cond b (Some kind) None)
-    (both_true (id == q) (not (q == 0)) (is_update kind) (λ is_listed. zero_apart q id apart (flip q id is_listed)) e ∙ nat_eq_equiv.symm id q)
+    let named : names q x ≡ (q == id) = grind (arith, nat_tests) in
+    last_effective-one x q ∙ ap (λ b. cond b (Some kind) None) named
 
 -- the set with the id or without it
 abbrev pub put_to : Bool → Ids → ℕ → Ids
 put_to true s id = with_id s id
 put_to false s id = without_id s id
 
-or_cond : (a b : Bool) → (a || b) ≡ cond a true b
-or_cond true b = refl
-or_cond false b = refl
-
-and_cond : (a b : Bool) → (not a && b) ≡ cond a false b
-and_cond true b = refl
-and_cond false b = refl
-
 has-put_to : (b : Bool) (s : Ids) (id q : ℕ) → has (put_to b s id) q ≡ cond (q == id) b (has s q)
-has-put_to true s id q = has-with_id s id q ∙ or_cond (q == id) (has s q)
-has-put_to false s id q = has-without_id s id q ∙ and_cond (q == id) (has s q)
+has-put_to true s id q = grind (arith, has-with_id s id q)
+has-put_to false s id q = grind (arith, has-without_id s id q)
 
 at_same : (f : ℕ → Bool) (q id : ℕ) (w b : Bool) → (q == id) ≡ b → cond b (f id) w ≡ cond b (f q) w
 at_same f q id w true e = ap f (sym (eqb→eq q id (subst T (sym e) tt)))
 at_same f q id w false e = refl
 
 of_decided : (f : Option Kind → Bool) (kind : Kind) (w b : Bool) → f None ≡ w → cond b (f (Some kind)) w ≡ f (cond b (Some kind) None)
-of_decided f kind w true e = refl
-of_decided f kind w false e = sym e
+of_decided f kind w b e = grind arith
 
 set_made : (decide : ℕ → Option Kind → Bool → Bool) → ((id : ℕ) (was : Bool) → decide id None was ≡ was) → (kind : Kind) (s t : Ids) (id : ℕ)
     → id ≢ 0 → is_update kind ≡ false → t ≡ put_to (decide id (Some kind) (has s id)) s id
@@ -236,46 +171,24 @@ result_of-none c = no_effect c [] (λ q. refl)
 no_names : (x : Change) (q : ℕ) → names q x ≡ false → last_effective (x ∷ []) q ≡ None
 no_names x q e = last_effective-one x q ∙ ap (λ b. cond b (Some x.kind) None) e
 
-no_effective_change : (a b c : Bool) → c ≡ true → (a && not b && not c) ≡ false
-no_effective_change true true c e = refl
-no_effective_change true false c e = rw e refl
-no_effective_change false b c e = refl
-
 pub result_of-update : (c : Configuration) (x : Change) → x.kind ≡ Update → c ≡ result_of c (x ∷ [])
-result_of-update c x e = no_effect c (x ∷ []) (λ q. no_names x q (no_effective_change (x.id == q) (q == 0) (is_update x.kind) (ap is_update e)))
-
-no_zero : (a b c : Bool) → a ≡ b → (a && not b && c) ≡ false
-no_zero true true c e = refl
-no_zero true false c e = absurd (false≢true (sym e))
-no_zero false b c e = refl
+result_of-update c x e = no_effect c (x ∷ []) (λ q. no_names x q (grind (arith, ap is_update e)))
 
 pub result_of-zero : (c : Configuration) (x : Change) → x.id ≡ 0 → c ≡ result_of c (x ∷ [])
-result_of-zero c x zero = no_effect c (x ∷ []) (λ q. no_names x q (no_zero (x.id == q) (q == 0) (not (is_update x.kind)) (ap (λ n. n == q) zero ∙ nat_eq_equiv.symm 0 q)))
+result_of-zero c x zero = no_effect c (x ∷ []) (λ q. no_names x q (grind (arith, nat_tests, zero)))
 
 -- ---- one change after others
 incoming_absorbs : (k : Kind) (m w : Bool) (o : Option Kind)
     → is_incoming_after (cond (m && not (is_update k)) (Some k) None) (is_incoming_after o w) ≡ is_incoming_after (cond (m && not (is_update k)) (Some k) o) w
-incoming_absorbs Voter true w o = refl
-incoming_absorbs Learner true w o = refl
-incoming_absorbs Remove true w o = refl
-incoming_absorbs Update true w o = refl
-incoming_absorbs k false w o = refl
+incoming_absorbs k m w o = grind arith
 
 learners_absorb : (k : Kind) (m out w : Bool) (o : Option Kind)
     → is_learner_after (cond (m && not (is_update k)) (Some k) None) out (is_learner_after o out w) ≡ is_learner_after (cond (m && not (is_update k)) (Some k) o) out w
-learners_absorb Voter true out w o = refl
-learners_absorb Learner true out w o = refl
-learners_absorb Remove true out w o = refl
-learners_absorb Update true out w o = refl
-learners_absorb k false out w o = refl
+learners_absorb k m out w o = grind arith
 
 next_absorbs : (k : Kind) (m out w : Bool) (o : Option Kind)
     → is_next_after (cond (m && not (is_update k)) (Some k) None) out (is_next_after o out w) ≡ is_next_after (cond (m && not (is_update k)) (Some k) o) out w
-next_absorbs Voter true out w o = refl
-next_absorbs Learner true out w o = refl
-next_absorbs Remove true out w o = refl
-next_absorbs Update true out w o = refl
-next_absorbs k false out w o = refl
+next_absorbs k m out w o = grind arith
 
 -- the changes one after another are the whole list
 pub result_of-push : (c : Configuration) (xs : List Change) (x : Change) → result_of (result_of c xs) (x ∷ []) ≡ result_of c (xs ++ x ∷ [])

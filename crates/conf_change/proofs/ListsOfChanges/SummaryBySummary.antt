@@ -1,17 +1,15 @@
 -- What the walk over the last effective changes makes.
-use Rattle.std.proofs.Common.{◌≡◌, ℕ, inl, inr, Bool, true, false, cond, ◌&&◌, ◌||◌, ◌==◌, List, [], ◌∷◌, ◌++◌, map, refl, sym, ap, subst, ◌∙◌, eqb-true}
+use Rattle.std.proofs.Common.{◌≡◌, ℕ, ◌+◌, ◌<◌, length, take, get_or, inl, inr, Bool, true, false, cond, ◌&&◌, ◌||◌, ◌==◌, List, [], ◌∷◌, ◌++◌, map, refl, sym, ap, subst, ◌∙◌, eqb-true, arith}
 use Rattle.std.specs.Prelude.{Option, Some, None, is_some}
 use Rattle.std.specs.Ordering.{nat_cmp}
-use Rattle.std.specs.BTreeMap.{BTreeMap, keys, IsOrdered}
-use Rattle.std.specs.Map.{keys_of}
 use Rattle.std.specs.FinMap as finite
 use Rattle.std.specs.List.{list_any}
 use Rattle.std.proofs.lemmas.Bool.{or_cases, or_left, or_right, and_parts}
-use Rattle.std.proofs.lemmas.List.{append_assoc, append-nil, flat_map_more, map-append}
+use Rattle.std.proofs.lemmas.List.{flat_map_more, map_more}
 use Rattle.std.proofs.lemmas.List.Folds.{list_any-append}
 use Rattle.quorum_sets.specs.Ids.{Ids, no_ids, has, with_id, ids_where}
 use Rattle.quorum_sets.specs.AscendingLists.{IsAscending}
-use Rattle.quorum_sets.proofs.Offered.{has-no_ids, has-with_id, has-ids_where, has-same_ids, lookup-from_entries}
+use Rattle.quorum_sets.proofs.Offered.{has-no_ids, has-with_id, has-ids_where, has-same_ids}
 use Rattle.conf_change.specs.Configuration.{is_member}
 use Rattle.conf_change.specs.Change.{last_effective, is_incoming_after, is_learner_after, is_next_after, result_of}
 use Rattle.conf_change.specs.ChangeSummary.{summary_in, AreSummaries}
@@ -25,9 +23,9 @@ use Rattle.conf_change.specs.declared.floor.Floor.{Floor}
 use Rattle.conf_change.specs.declared.change_summary.ChangeSummary.{ChangeSummary}
 use Rattle.conf_change.specs.declared.progress.Progress.{Progress}
 use Rattle.conf_change.specs.declared.roles.Roles.{Roles}
-use Rattle.conf_change.proofs.ListsOfChanges.Summaries.{summary_in-next}
-use Rattle.conf_change.proofs.MemberProgress.Picked.{picked, get-picked, keys-get, ascends-picked_ids}
-use Rattle.conf_change.proofs.ListsOfChanges.ResultOfEach.{has-incoming_after, has-learners_after, has-next_after, configuration-by_members, last_effective-is_named}
+use Rattle.conf_change.proofs.MemberProgress.Entries.{keys}
+use Rattle.conf_change.proofs.MemberProgress.Picked.{picked, get-picked, keys-find, keys-get, ascends-picked_ids}
+use Rattle.conf_change.proofs.ListsOfChanges.ResultOfEach.{all_in, has-incoming_after, has-learners_after, has-next_after, configuration-by_members, last_effective-is_named}
 use Rattle.conf_change.proofs.Configurations.Validity.{ValidByMember-from_is_valid}
 
 -- ---- what each id is then
@@ -54,12 +52,8 @@ pub record WalkedSoFar (next_index : ℕ) (t : TrackerState) (xs : List Change) 
   pub next_are : next ≡ ids_where (next_then t xs) passed
   pub members_are : members ≡ picked (λ q. q) (entry_then next_index t xs) passed
 
-and_none : (b : Bool) → (b && false) ≡ false
-and_none true = refl
-and_none false = refl
-
 none_where : (p : ℕ → Bool) → no_ids ≡ ids_where p []
-none_where p = has-same_ids _ _ (λ q. has-no_ids q ∙ sym (has-ids_where p [] q ∙ and_none (p q)))
+none_where p = has-same_ids _ _ (λ q. grind (arith, has-no_ids q, has-ids_where p [] q))
 
 pub walked-none : (next_index : ℕ) (t : TrackerState) (xs : List Change) (incoming learners next : Ids) (members : List (ℕ × Progress))
     → incoming ≡ no_ids → learners ≡ no_ids → next ≡ no_ids → members ≡ [] → WalkedSoFar next_index t xs [] incoming learners next members
@@ -71,22 +65,10 @@ walked-none next_index t xs incoming learners next members i l n m = record {
 }
 
 one_more : (b e a t : Bool) → (e ≡ true → t ≡ b) → cond b (e || (t && a)) (t && a) ≡ (t && (a || (e || false)))
-one_more true true a t same = rw (same refl) (or_true a)
-  where
-    or_true : (c : Bool) → true ≡ (c || true)
-    or_true true = refl
-    or_true false = refl
-one_more true false a t same = ap (λ c. t && c) (or_false a)
-  where
-    or_false : (c : Bool) → c ≡ (c || false)
-    or_false true = refl
-    or_false false = refl
+one_more true true a t same = rw (same refl) (grind arith)
+one_more true false a t same = grind arith
 one_more false true a t same = rw (same refl) refl
-one_more false false a t same = ap (λ c. t && c) (or_false a)
-  where
-    or_false : (c : Bool) → c ≡ (c || false)
-    or_false true = refl
-    or_false false = refl
+one_more false false a t same = grind arith
 
 has-cond : (b : Bool) (s : Ids) (x q : ℕ) → has (cond b (with_id s x) s) q ≡ cond b ((q == x) || has s q) (has s q)
 has-cond true s x q = has-with_id s x q
@@ -100,90 +82,51 @@ where_more p passed x s after was is =
     ∙ one_more (p x) (q == x) (list_any (λ y. q == y) passed) (p q) (λ e. ap p (eqb-true q x e))
     ∙ sym (has-ids_where p (passed ++ x ∷ []) q ∙ ap (λ b. p q && b) (list_any-append (λ y. q == y) passed (x ∷ []))))
 
-pub walked-one_more : (next_index : ℕ) (t : TrackerState) (xs : List Change) (passed : List ℕ) (id : ℕ) (summary : ChangeSummary)
+pub walked-one_more : (next_index : ℕ) (t : TrackerState) (xs : List Change) (summaries : List (ℕ × ChangeSummary)) (k : ℕ) (d : ℕ × ChangeSummary)
     (incoming learners next incoming' learners' next' : Ids) (members members' : List (ℕ × Progress)) (sat roles : Roles) (entry : Option Progress)
-    → summary ≡ summary_in xs id → WalkedSoFar next_index t xs passed incoming learners next members
+    → k < length summaries → (let id = (get_or summaries k d).0 in let summary = (get_or summaries k d).1 in
+    summary ≡ summary_in xs id → WalkedSoFar next_index t xs (keys (take k summaries)) incoming learners next members
     → sat ≡ roles_in t.config id → roles ≡ roles_after sat summary.last
     → incoming' ≡ cond roles.incoming (with_id incoming id) incoming
     → learners' ≡ cond roles.learner (with_id learners id) learners
     → next' ≡ cond roles.next (with_id next id) next
     → entry ≡ entry_of next_index (has_member_role roles) roles.learner (progress_left_after summary.removes roles.outgoing (finite.get t.progress id))
     → members' ≡ members ++ entries_of id entry
-    → WalkedSoFar next_index t xs (passed ++ id ∷ []) incoming' learners' next' members'
-walked-one_more next_index t xs passed id summary incoming learners next incoming' learners' next' members members' sat roles entry is so_far sat_is roles_are i l n entry_is m =
+    → WalkedSoFar next_index t xs (keys (take (k + 1) summaries)) incoming' learners' next' members')
+walked-one_more next_index t xs summaries k d incoming learners next incoming' learners' next' members members' sat roles entry within is so_far sat_is roles_are i l n entry_is m =
+    let passed = keys (take k summaries) in
+    let id = (get_or summaries k d).0 in
     let s : roles ≡ roles_after (roles_in t.config id) (last_effective xs id) = roles_are ∙ (λ j. roles_after (sat_is j) (is j).last) in
     let e : entry ≡ entry_then next_index t xs id =
     entry_is ∙ (λ j. entry_of next_index (has_member_role (s j)) (s j).learner (progress_left_after (is j).removes (s j).outgoing (finite.get t.progress id))) in
-    record {
+    rw (map_more (λ e. e.0) summaries k d within) (record {
       incoming_is = where_more (incoming_then t xs) passed id incoming incoming' so_far.incoming_is (i ∙ ap (λ v. cond v.incoming (with_id incoming id) incoming) s);
       learners_are = where_more (learner_then t xs) passed id learners learners' so_far.learners_are (l ∙ ap (λ v. cond v.learner (with_id learners id) learners) s);
       next_are = where_more (next_then t xs) passed id next next' so_far.next_are (n ∙ ap (λ v. cond v.next (with_id next id) next) s);
       members_are = m ∙ (λ j. so_far.members_are j ++ entries_of id (e j)) ∙ flat_map_more (λ q. entries_of q (entry_then next_index t xs q)) [] passed id;
-    }
-
--- ---- the walk over the entries of a map
--- what is made of the entries before the rest
-pub record WalkedOver (next_index : ℕ) (t : TrackerState) (xs : List Change) (all rest : List (ℕ × ChangeSummary)) (incoming learners next : Ids) (members : List (ℕ × Progress)) : Type 0 where
-  pub done : List (ℕ × ChangeSummary)
-  pub left : done ++ rest ≡ all
-  pub walked : WalkedSoFar next_index t xs (keys_of done) incoming learners next members
-
-pub walked_over-one_more : (next_index : ℕ) (t : TrackerState) (xs : List Change) (summaries : BTreeMap ℕ ChangeSummary) (ids : List ℕ) (all rest rest' : List (ℕ × ChangeSummary)) (id : ℕ) (summary : ChangeSummary)
-    (incoming learners next incoming' learners' next' : Ids) (members members' : List (ℕ × Progress)) (sat roles : Roles) (entry : Option Progress)
-    → AreSummaries ids xs summaries → IsOrdered nat_cmp summaries → all ≡ summaries.entries → rest ≡ (id, summary) ∷ rest'
-    → WalkedOver next_index t xs all rest incoming learners next members
-    → sat ≡ roles_in t.config id → roles ≡ roles_after sat summary.last
-    → incoming' ≡ cond roles.incoming (with_id incoming id) incoming
-    → learners' ≡ cond roles.learner (with_id learners id) learners
-    → next' ≡ cond roles.next (with_id next id) next
-    → entry ≡ entry_of next_index (has_member_role roles) roles.learner (progress_left_after summary.removes roles.outgoing (finite.get t.progress id))
-    → members' ≡ members ++ entries_of id entry
-    → WalkedOver next_index t xs all rest' incoming' learners' next' members'
-walked_over-one_more next_index t xs summaries ids all rest rest' id summary incoming learners next incoming' learners' next' members members' sat roles entry are ordered whole first so_far sat_is roles_are i l n entry_is m =
-    let done = so_far.done in
-    let left : done ++ (id, summary) ∷ rest' ≡ all = ap (λ es. done ++ es) (sym first) ∙ so_far.left in
-    let more : keys_of (done ++ (id, summary) ∷ []) ≡ keys_of done ++ id ∷ [] = map-append (λ (e : ℕ × ChangeSummary). e.0) done ((id, summary) ∷ []) in
-    record {
-      done = done ++ (id, summary) ∷ [];
-      left = append_assoc done ((id, summary) ∷ []) rest' ∙ left;
-      walked = subst (λ passed. WalkedSoFar next_index t xs passed incoming' learners' next' members') (sym more)
-          (walked-one_more next_index t xs (keys_of done) id summary incoming learners next incoming' learners' next' members members' sat roles entry
-          (summary_in-next ids xs summaries done rest' id summary are ordered (left ∙ whole)) so_far.walked sat_is roles_are i l n entry_is m);
-    }
-
-pub walked_over-all : (next_index : ℕ) (t : TrackerState) (xs : List Change) (summaries : BTreeMap ℕ ChangeSummary) (all rest : List (ℕ × ChangeSummary)) (incoming learners next : Ids) (members : List (ℕ × Progress))
-    → all ≡ summaries.entries → rest ≡ [] → WalkedOver next_index t xs all rest incoming learners next members → WalkedSoFar next_index t xs (keys summaries) incoming learners next members
-walked_over-all next_index t xs summaries all rest incoming learners next members whole none so_far =
-    subst (λ es. WalkedSoFar next_index t xs (keys_of es) incoming learners next members)
-    (sym (append-nil so_far.done) ∙ ap (λ es. so_far.done ++ es) (sym none) ∙ so_far.left ∙ whole) so_far.walked
+    })
 
 -- ---- at the end
 any-named : (xs : List Change) (q : ℕ) → list_any (λ m. q == m) (map (λ change. change.id) xs) ≡ list_any (λ change. q == change.id) xs
 any-named [] q = refl
 any-named (x ∷ xs) q = ap (λ b. (q == x.id) || b) (any-named xs q)
 
-all_in : (t a : Bool) → (t ≡ true → a ≡ true) → (t && a) ≡ t
-all_in true a f = f refl
-all_in false a f = refl
-
 has-where : (p : ℕ → Bool) (passed : List ℕ) (q : ℕ) → (p q ≡ true → list_any (λ y. q == y) passed ≡ true) → has (ids_where p passed) q ≡ p q
 has-where p passed q covered = has-ids_where p passed q ∙ all_in (p q) (list_any (λ y. q == y) passed) covered
 
 second_test_suffices : (a m : Bool) (p : Progress) → (m ≡ true → a ≡ true) → cond a (cond m (Some p) None) None ≡ cond m (Some p) None
-second_test_suffices true m p f = refl
-second_test_suffices false true p f = ap (λ b. cond b (Some p) None) (f refl)
-second_test_suffices false false p f = refl
+second_test_suffices a m p f = grind arith
 
 -- an id that has a last effective change, or was a member, is passed
 record Covers (before : TrackerState) (xs : List Change) (passed : List ℕ) : Type 0 where
   named : (q : ℕ) (kind : Kind) → last_effective xs q ≡ Some kind → list_any (λ x. q == x) passed ≡ true
   known : (q : ℕ) → is_member before.config q ≡ true → list_any (λ x. q == x) passed ≡ true
 
-covers : (before : TrackerState) (es : List (ℕ × Progress)) (xs : List Change) (summaries : BTreeMap ℕ ChangeSummary) → IsSound before → finite.from_entries {R = nat_cmp} es ≡ before.progress
+covers : (before : TrackerState) (es : List (ℕ × Progress)) (xs : List Change) (summaries : List (ℕ × ChangeSummary)) → IsSound before → finite.from_entries {R = nat_cmp} es ≡ before.progress
     → AreSummaries (map (λ m. m.0) es) xs summaries → Covers before xs (keys summaries)
 covers before es xs summaries sound same are =
     let passed : (q : ℕ) → list_any (λ x. q == x) (keys summaries) ≡ (list_any (λ id. q == id) (map (λ (m : ℕ × Progress). m.0) es) || list_any (λ change. q == change.id) xs) =
-    λ q. sym (ap is_some (lookup-from_entries q summaries.entries) ∙ keys-get summaries.entries q) ∙ are.entries q in
+    λ q. sym (keys-find summaries q) ∙ are.entries q in
     record {
       named = λ q kind e. passed q ∙ or_right (list_any (λ id. q == id) (map (λ (m : ℕ × Progress). m.0) es)) _ (sym (any-named xs q) ∙ last_effective-is_named xs q kind e);
       known = λ q e.
@@ -196,7 +139,7 @@ covered_by : (before : TrackerState) (xs : List Change) (passed : List ℕ) → 
 covered_by before xs passed c q f was None e d = c.known q (was d)
 covered_by before xs passed c q f was (Some kind) e d = c.named q kind e
 
-pub walked-applies : (next_index : ℕ) (before : TrackerState) (floor : Floor) (outgoing : Ids) (auto_leave : Bool) (es : List (ℕ × Progress)) (xs : List Change) (summaries : BTreeMap ℕ ChangeSummary)
+pub walked-applies : (next_index : ℕ) (before : TrackerState) (floor : Floor) (outgoing : Ids) (auto_leave : Bool) (es : List (ℕ × Progress)) (xs : List Change) (summaries : List (ℕ × ChangeSummary))
     (incoming learners next : Ids) (members : List (ℕ × Progress))
     → IsSound before → floor ≡ before.floor → ((q : ℕ) → has outgoing q ≡ true → is_member before.config q ≡ true) → finite.from_entries {R = nat_cmp} es ≡ before.progress
     → AreSummaries (map (λ m. m.0) es) xs summaries → WalkedSoFar next_index (beginning before outgoing auto_leave) xs (keys summaries) incoming learners next members

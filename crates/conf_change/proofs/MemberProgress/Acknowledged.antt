@@ -1,7 +1,7 @@
 -- What an acknowledgement owes.
-use Rattle.std.proofs.Common.{◌≡◌, ◌+◌, ℕ, Bool, true, false, cond, ◌==◌, T, List, [], ◌∷◌, map, refl, sym, ap, subst, ◌∙◌, eqb→eq, arith}
-use Rattle.std.specs.Prelude.{Option, Some, None, Ok, Err, IfSome, is_some, max, nat_lt, option_map}
-use Rattle.std.specs.Ordering.{nat_cmp, eq_by_cmp}
+use Rattle.std.proofs.Common.{◌≡◌, ℕ, Bool, true, false, cond, ◌==◌, T, List, [], ◌∷◌, map, refl, sym, ap, subst, ◌∙◌, eqb→eq, arith}
+use Rattle.std.specs.Prelude.{Option, Some, None, Ok, Err, IfSome, is_some, option_map}
+use Rattle.std.specs.Ordering.{nat_cmp}
 use Rattle.std.specs.Cmp.{nat_cmp_total, unsigned_tied}
 use Rattle.std.specs.FinMap as finite
 use Rattle.std.specs.FinMap.{find, nat_cmp-IsAntisymmetric}
@@ -20,11 +20,7 @@ use Rattle.conf_change.specs.declared.progress.Progress.{Progress}
 find-matched : (q : ℕ) (es : List (ℕ × Progress))
     → find nat_cmp q (map (λ e. (e.0, e.1.matched)) es) ≡ option_map (λ p. p.matched) (find nat_cmp q es)
 find-matched q [] = refl
-find-matched q (e ∷ es) =
-    elim (eq_by_cmp nat_cmp q e.0) as (λ b. cond b (Some e.1.matched) (find nat_cmp q (map (λ e. (e.0, e.1.matched)) es)) ≡ option_map (λ p. p.matched) (cond b (Some e.1) (find nat_cmp q es))) [
-      | true ↦ refl
-      | false ↦ find-matched q es
-    ]
+find-matched q (e ∷ es) = grind (arith, find-matched q es)
 
 pub get-matches : (t : TrackerState) (q : ℕ) → finite.get (matches t) q ≡ option_map (λ p. p.matched) (finite.get t.progress q)
 get-matches t q =
@@ -52,16 +48,11 @@ found : (P : Progress → Type 0) (o : Option Progress) (was : Progress) → o �
 found P o was e h = let Q : Option Progress → Type 0 = λ x. IfSome x P in subst Q e h
 
 marked-acknowledged : (index : ℕ) (was : Progress) → (acknowledged index was).learner ≡ was.learner
-marked-acknowledged index was = elim (nat_lt was.matched index) as (λ b. (cond b (record { matched = index; next = max was.next (index + 1); learner = was.learner }) was).learner ≡ was.learner) [ true ↦ refl | false ↦ refl ]
+marked-acknowledged index was = grind arith
 
 ahead-acknowledged : (floor : Floor) (index : ℕ) (was : Progress) → IsAhead floor was → IsAhead floor (acknowledged index was)
-ahead-acknowledged floor index was ahead =
-    let after : Bool → Progress = λ b. cond b (record { matched = index; next = max was.next (index + 1); learner = was.learner }) was in
-    elim (nat_lt was.matched index) as (λ b. IsAhead floor (after b)) [ true ↦ raised floor | false ↦ ahead ]
-  where
-    raised : (floor : Floor) → IsAhead floor (record { matched = index; next = max was.next (index + 1); learner = was.learner })
-    raised Zero = omega arith
-    raised One = omega arith
+ahead-acknowledged Zero index was ahead = grind arith
+ahead-acknowledged One index was ahead = grind arith
 
 -- an acknowledgement leaves a tracker sound
 pub ack-is_sound : (t : TrackerState) (id index : ℕ) (was p : Progress) → IsSound t → finite.get t.progress id ≡ Some was → p ≡ acknowledged index was
@@ -85,14 +76,11 @@ pub ack_answer-is_sound : (before : ChangerState) (id index : ℕ) (p : Progress
     → IsSound (changer_with_progress before id p).tracker
 ack_answer-is_sound before id index p sound = by (finite.get before.tracker.progress id) refl where
   is_acknowledged : (was : Progress) (large : Bool) → cond large (Err IndexTooLarge) (Ok (acknowledged index was)) ≡ Ok p → p ≡ acknowledged index was
-  is_acknowledged was true e = cc
-  is_acknowledged was false e = cc
+  is_acknowledged was large e = grind arith
 
   by : (o : Option Progress) → finite.get before.tracker.progress id ≡ o → acknowledged_progress o index ≡ Ok p → IsSound (changer_with_progress before id p).tracker
   by None had e = cc
   by (Some was) had e = ack-is_sound before.tracker id index was p sound had (is_acknowledged was (index == greatest_index) e)
-
--- ---- who is a member
 
 -- ---- a write to one entry
 pub progress-set : (t : TrackerState) (floor : Floor) (d : Configuration) (id : ℕ) (p : Progress) (fs : List (ℕ × Progress))

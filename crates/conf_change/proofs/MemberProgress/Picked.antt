@@ -1,11 +1,12 @@
 -- Members that are picked from a list, in its order, each with its progress.
-use Rattle.std.proofs.Common.{◌≡◌, ℕ, Bool, true, false, cond, ◌||◌, ◌==◌, List, [], ◌∷◌, ◌++◌, map, refl, sym, ap, subst, ◌∙◌, eqb-true}
+use Rattle.std.proofs.Common.{◌≡◌, ℕ, Bool, true, false, cond, ◌||◌, ◌==◌, List, [], ◌∷◌, ◌++◌, map, refl, sym, ap, subst, ◌∙◌, eqb-true, arith}
 use Rattle.std.specs.Prelude.{Option, Some, None, is_some}
 use Rattle.std.specs.Ordering.{nat_cmp}
 use Rattle.std.specs.Cmp.{nat_cmp_total, unsigned_tied}
 use Rattle.std.specs.declared.cmp.Ordering.TheVariants.{Less}
 use Rattle.std.specs.FinMap as finite
 use Rattle.std.specs.FinMap.{find}
+use Rattle.std.specs.FinMap.Entries.{is_some-find}
 use Rattle.std.specs.List.{list_any, flat_map, AllByRecursion}
 use Rattle.std.specs.List.Sorted.{IsStrictlySortedBy}
 use Rattle.std.proofs.lemmas.List.{map-id}
@@ -54,14 +55,11 @@ find_one : (q id : ℕ) (o : Option Progress) (rest : List (ℕ × Progress)) �
 find_one q id None rest = same (q == id)
   where
     same : (b : Bool) → find nat_cmp q rest ≡ cond b (find nat_cmp q rest) (find nat_cmp q rest)
-    same true = refl
-    same false = refl
+    same b = grind arith
 find_one q id (Some p) rest = ap (λ b. cond b (Some p) (find nat_cmp q rest)) (unsigned_tied q id)
 
 own_rest : (o : Option Progress) (any : Bool) → or_rest o (cond any o None) ≡ o
-own_rest None true = refl
-own_rest None false = refl
-own_rest (Some p) any = refl
+own_rest o any = grind arith
 
 one_of : (entry : ℕ → Option Progress) (q x : ℕ) (b any : Bool) → (q == x) ≡ b → cond b (or_rest (entry x) (cond any (entry q) None)) (cond any (entry q) None) ≡ cond (b || any) (entry q) None
 one_of entry q x true any e = ap (λ n. or_rest (entry n) (cond any (entry q) None)) (sym (eqb-true q x e)) ∙ own_rest (entry q) any
@@ -79,12 +77,10 @@ get-picked entry xs q = finite.get-from_entries nat_cmp_total (picked (λ x. x) 
 
 -- ---- an id has an entry where it is a key
 pub is_some-cond : {X : Type 0} (b : Bool) (x : X) (o : Option X) → is_some (cond b (Some x) o) ≡ (b || is_some o)
-is_some-cond true x o = refl
-is_some-cond false x o = refl
+is_some-cond b x o = grind arith
 
-keys-find : {X : Type 0} (es : List (ℕ × X)) (q : ℕ) → is_some (find nat_cmp q es) ≡ list_any (λ x. q == x) (map (λ m. m.0) es)
-keys-find [] q = refl
-keys-find (e ∷ es) q = ap (λ b. is_some (cond b (Some e.1) (find nat_cmp q es))) (unsigned_tied q e.0) ∙ is_some-cond (q == e.0) e.1 (find nat_cmp q es) ∙ ap (λ b. (q == e.0) || b) (keys-find es q)
+pub keys-find : {X : Type 0} (es : List (ℕ × X)) (q : ℕ) → is_some (find nat_cmp q es) ≡ list_any (λ x. q == x) (map (λ m. m.0) es)
+keys-find es q = is_some-find nat_cmp q es ∙ (λ i. list_any (λ x. unsigned_tied q x i) (map (λ m. m.0) es))
 
 pub keys-get : {X : Type 0} (es : List (ℕ × X)) (q : ℕ) → is_some (finite.get (finite.from_entries {R = nat_cmp} es) q) ≡ list_any (λ x. q == x) (map (λ m. m.0) es)
 keys-get es q = ap is_some (finite.get-from_entries nat_cmp_total es q) ∙ keys-find es q
@@ -94,8 +90,7 @@ abbrev pub kept_entry : (ℕ → Bool) → (ℕ → Bool) → ℕ × Progress �
 kept_entry member learner m = progress_kept (member m.0) (learner m.0) (Some m.1)
 
 stays_or_goes : (m l : Bool) (p : Progress) (had : Option Progress) → or_rest (progress_kept m l (Some p)) (progress_kept m l had) ≡ progress_kept m l (Some p)
-stays_or_goes true l p had = refl
-stays_or_goes false l p had = refl
+stays_or_goes m l p had = grind arith
 
 kept_at : (member learner : ℕ → Bool) (q x : ℕ) (p : Progress) (had : Option Progress) (b : Bool) → (q == x) ≡ b
     → cond b (or_rest (progress_kept (member x) (learner x) (Some p)) (progress_kept (member q) (learner q) had)) (progress_kept (member q) (learner q) had) ≡ progress_kept (member q) (learner q) (cond b (Some p) had)
@@ -104,8 +99,7 @@ kept_at member learner q x p had true e =
 kept_at member learner q x p had false e = refl
 
 kept_none : (m l : Bool) → None ≡ progress_kept m l None
-kept_none true l = refl
-kept_none false l = refl
+kept_none m l = grind arith
 
 find-kept : (member learner : ℕ → Bool) (es : List (ℕ × Progress)) (q : ℕ) → find nat_cmp q (picked (λ m. m.0) (kept_entry member learner) es) ≡ progress_kept (member q) (learner q) (find nat_cmp q es)
 find-kept member learner [] q = kept_none (member q) (learner q)

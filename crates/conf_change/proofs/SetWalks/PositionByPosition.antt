@@ -1,5 +1,5 @@
 -- Walks of a set by its positions.
-use Rattle.std.proofs.Common.{◌≡◌, ℕ, ◌+◌, Bool, true, false, ◌||◌, ◌==◌, [], ◌∷◌, take, get_or, slice_get, refl, sym, ap, ◌∙◌, ◌≤◌}
+use Rattle.std.proofs.Common.{◌≡◌, ℕ, ◌+◌, Bool, false, ◌||◌, ◌==◌, [], ◌∷◌, take, get_or, slice_get, sym, ap, ◌∙◌, ◌≤◌, arith}
 use Rattle.std.specs.Prelude.{Some}
 use Rattle.std.specs.List.{list_any}
 use Rattle.std.proofs.lemmas.Option.{slice_get_within, get_or_from_slice_get}
@@ -13,9 +13,7 @@ abbrev pub is_passed : Ids → ℕ → ℕ → Bool
 is_passed ids position q = list_any (λ id. q == id) (take position (ascending ids))
 
 or_last : (a b : Bool) → (a || (b || false)) ≡ (a || b)
-or_last true b = refl
-or_last false true = refl
-or_last false false = refl
+or_last a b = grind arith
 
 pub is_passed-more : (ids : Ids) (position id q : ℕ) → slice_get (ascending ids) position ≡ Some id → is_passed ids (position + 1) q ≡ (is_passed ids position q || (q == id))
 is_passed-more ids position id q here =

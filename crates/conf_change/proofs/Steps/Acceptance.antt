@@ -1,29 +1,16 @@
 -- What a step gives: what an accepted one has passed, and which steps are accepted.
-use Rattle.std.proofs.Common.{◌≡◌, ◌≤◌, Bool, true, false, cond, not, List, refl, ap, ◌∙◌}
-use Rattle.std.specs.Prelude.{Ok, Err, nat_lt}
+use Rattle.std.proofs.Common.{◌≡◌, ◌≤◌, Bool, true, false, List, refl, ap, ◌∙◌, arith}
+use Rattle.std.specs.Prelude.{Ok, nat_lt}
 use Rattle.std.proofs.lemmas.Bool.{not-false, le-ltb}
 use Rattle.quorum_sets.specs.Ids.{no_ids, difference_count}
 use Rattle.conf_change.specs.Configuration.{Configuration, is_joint, has_voter}
 use Rattle.conf_change.specs.Change.{result_of}
-use Rattle.conf_change.specs.Outcome.{Outcome, outcome, simple_outcome, enter_outcome, leave_outcome, with_outgoing, after_leave}
+use Rattle.conf_change.specs.Outcome.{outcome, simple_outcome, enter_outcome, leave_outcome, with_outgoing, after_leave}
 use Rattle.conf_change.specs.declared.change.Change.{Change}
-use Rattle.conf_change.specs.declared.refused.Refused.{Refused}
-use Rattle.conf_change.specs.declared.refused.Refused.TheVariants.{NotJoint}
 use Rattle.conf_change.specs.declared.step.Step.TheVariants.{Simple, EnterJoint, LeaveJoint}
 use Rattle.conf_change.proofs.Configurations.Validity.{no_ids-from_is_empty}
 
 -- ---- what an accepted step has passed
-past_refusal : (refused : Bool) (why : Refused) (rest : Outcome) (after : Configuration)
-    → cond refused (Err why) rest ≡ Ok after → (refused ≡ false) × (rest ≡ Ok after)
-past_refusal true why rest after e = cc
-past_refusal false why rest after e = (refl, e)
-
-abbrev taken : Configuration → Outcome
-taken c = Ok c
-
-reached : (c after : Configuration) → taken c ≡ taken after → c ≡ after
-reached c after e = cc
-
 pub record SimpleTaken (c after : Configuration) (changes : List Change) : Type 0 where
   pub single : is_joint c ≡ false
   pub voter : has_voter (result_of c changes) ≡ true
@@ -31,11 +18,7 @@ pub record SimpleTaken (c after : Configuration) (changes : List Change) : Type 
   pub made : result_of c changes ≡ after
 
 pub SimpleTaken-from_outcome : (c after : Configuration) (changes : List Change) → simple_outcome c changes ≡ Ok after → SimpleTaken c after changes
-SimpleTaken-from_outcome c after changes e =
-    let joint = past_refusal (is_joint c) _ _ after e in
-    let voter = past_refusal (not (has_voter (result_of c changes))) _ _ after joint.1 in
-    let one = past_refusal (nat_lt 1 (difference_count c.incoming (result_of c changes).incoming)) _ _ after voter.1 in
-    record { single = joint.0; voter = not-false _ voter.0; one_at_most = one.0; made = reached _ after one.1 }
+SimpleTaken-from_outcome c after changes e = record { single = grind arith; voter = grind arith; one_at_most = grind arith; made = grind arith }
 
 pub record EnterTaken (c after : Configuration) (auto_leave : Bool) (changes : List Change) : Type 0 where
   pub single : is_joint c ≡ false
@@ -45,22 +28,14 @@ pub record EnterTaken (c after : Configuration) (auto_leave : Bool) (changes : L
 
 pub EnterTaken-from_outcome : (c after : Configuration) (auto_leave : Bool) (changes : List Change)
     → enter_outcome c auto_leave changes ≡ Ok after → EnterTaken c after auto_leave changes
-EnterTaken-from_outcome c after auto_leave changes e =
-    let joint = past_refusal (is_joint c) _ _ after e in
-    let before = past_refusal (not (has_voter c)) _ _ after joint.1 in
-    let voter = past_refusal (not (has_voter (result_of (with_outgoing c auto_leave) changes))) _ _ after before.1 in
-    record { single = joint.0; voter_before = not-false _ before.0; voter = not-false _ voter.0; made = reached _ after voter.1 }
+EnterTaken-from_outcome c after auto_leave changes e = record { single = grind arith; voter_before = grind arith; voter = grind arith; made = grind arith }
 
 pub record LeaveTaken (c after : Configuration) : Type 0 where
   pub joint : is_joint c ≡ true
   pub made : after_leave c ≡ after
 
 pub LeaveTaken-from_outcome : (c after : Configuration) → leave_outcome c ≡ Ok after → LeaveTaken c after
-LeaveTaken-from_outcome c after e = of_joint (is_joint c) refl e
-  where
-    of_joint : (joint : Bool) → is_joint c ≡ joint → cond joint (Ok (after_leave c)) (Err NotJoint) ≡ Ok after → LeaveTaken c after
-    of_joint true is e = record { joint = is; made = reached _ after e }
-    of_joint false is e = cc
+LeaveTaken-from_outcome c after e = record { joint = grind arith; made = grind arith }
 
 pub outgoing-none : (c : Configuration) → is_joint c ≡ false → c.outgoing ≡ no_ids
 outgoing-none c single = no_ids-from_is_empty c.outgoing (not-false _ single)

@@ -1,5 +1,5 @@
 -- That the changer after a step is the one that the function gives.
-use Rattle.std.proofs.Common.{◌≡◌, refl, sym, ap, ◌∙◌}
+use Rattle.std.proofs.Common.{◌≡◌, refl, sym, ap, ◌∙◌, arith}
 use Rattle.std.specs.Prelude.{Ok, Err}
 use Rattle.conf_change.specs.Outcome.{Outcome, outcome}
 use Rattle.conf_change.specs.Changer.{ChangerState, Accepts, moved_to, moved_by, changer_after}
@@ -26,5 +26,4 @@ pub outcome-from_refusal : (before : ChangerState) (step : Step) (why : Refused)
 outcome-from_refusal before step why = by (outcome before.tracker.config step)
   where
     by : (o : Outcome) → moved_by before step o ≡ Err why → o ≡ Err why
-    by (Ok c) e = cc
-    by (Err reason) e = cc
+    by o e = grind arith

@@ -1,7 +1,8 @@
 -- One change changes one voter at most, and what it leaves of the voters.
-use Rattle.std.proofs.Common.{◌≡◌, ◌≢◌, ◌⊎◌, inl, inr, ℕ, ◌-◌, ◌≤◌, ◌<◌, Bool, true, false, cond, not, ◌==◌, [], ◌∷◌, refl, sym, ap, subst, ◌∙◌, arith, eqb-true, eq-eqb}
+use Rattle.std.proofs.Common.{◌≡◌, ◌≢◌, ◌⊎◌, inl, inr, ℕ, ◌-◌, ◌≤◌, Bool, true, false, cond, not, ◌==◌, [], ◌∷◌, refl, sym, ap, subst, ◌∙◌, arith, eqb-true, eq-eqb}
 use Rattle.std.specs.Prelude.{nat_lt, nat_eq}
-use Rattle.std.proofs.lemmas.Bool.{false≢true, or_left, ltb-true, ltb-false}
+use Rattle.std.proofs.lemmas.Bool.{false≢true, or_left}
+use Rattle.std.proofs.lemmas.Bool.Decides.{nat_tests}
 use Rattle.quorum_sets.specs.Ids.{Ids, has, with_id, without_id, size, is_empty, difference_count}
 use Rattle.quorum_sets.proofs.Offered.{difference_count-with_id, difference_count-without_id, has-with_id, size-without_id}
 use Rattle.conf_change.specs.Configuration.{Configuration, has_voter}
@@ -15,15 +16,7 @@ use Rattle.conf_change.proofs.ListsOfChanges.ResultOfEach.{only, incoming_of-cha
 
 -- ---- other ids than one
 more_than : (k n : ℕ) → nat_lt k n ≡ not (nat_eq (n - k) 0)
-more_than k n = by_test (nat_lt k n) refl
-  where
-    not_zero : (m : ℕ) (b : Bool) → nat_eq m 0 ≡ b → 0 < m → b ≡ false
-    not_zero m true e some = let none = eqb-true m 0 e in absurd (omega arith)
-    not_zero m false e some = refl
-
-    by_test : (b : Bool) → nat_lt k n ≡ b → b ≡ not (nat_eq (n - k) 0)
-    by_test true e = let more = ltb-true k n e in sym (ap not (not_zero (n - k) (nat_eq (n - k) 0) refl (omega arith)))
-    by_test false e = let few = ltb-false k n e in sym (ap not (eq-eqb (n - k) 0 (omega arith)))
+more_than k n = grind (arith, nat_tests)
 
 pub others-of_member : (ids : Ids) (id : ℕ) → has ids id ≡ true → nat_lt 1 (size ids) ≡ not (is_empty (without_id ids id))
 others-of_member ids id here =

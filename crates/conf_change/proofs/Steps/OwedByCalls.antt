@@ -1,11 +1,11 @@
 -- What a call owes that makes a step.
-use Rattle.std.proofs.Common.{◌≡◌, ℕ, Bool, true, false, cond, not, ◌&&◌, ◌||◌, List, refl, sym, ap, subst, ◌∙◌, ◌≤◌}
+use Rattle.std.proofs.Common.{◌≡◌, ℕ, Bool, true, false, cond, not, ◌&&◌, List, sym, ap, subst, ◌∙◌, ◌≤◌, arith}
 use Rattle.std.specs.Prelude.{Option, Some, None, is_some, unwrap_or, Ok, if◌then◌else◌}
 use Rattle.std.specs.Cmp.{nat_cmp_total}
 use Rattle.std.specs.FinMap as finite
 use Rattle.std.specs.FinMap.{nat_cmp-IsAntisymmetric}
-use Rattle.std.proofs.lemmas.Bool.{and_parts, or_left, or_right, true≢false, false_from_ne_true}
-use Rattle.quorum_sets.specs.Ids.{no_ids, has, difference_count}
+use Rattle.std.proofs.lemmas.Bool.{and_parts}
+use Rattle.quorum_sets.specs.Ids.{has, difference_count}
 use Rattle.quorum_sets.proofs.Offered.{has-no_ids}
 use Rattle.conf_change.specs.Configuration.{Configuration, is_member, is_joint, has_voter}
 use Rattle.conf_change.specs.Change.{result_of, removes}
@@ -27,12 +27,7 @@ use Rattle.conf_change.proofs.Steps.Soundness.{has-after_leave, moved_to-is_soun
 entry_kept : (next : ℕ) (was is replaced learner : Bool) (had : Option Progress) → is_some had ≡ was
     → cond is (Some (with_mark learner (unwrap_or (cond replaced None had) (fresh_progress next learner)))) None
     ≡ cond is (Some (cond (was && is && not replaced) (with_mark learner (unwrap_or had (fresh_progress next learner))) (fresh_progress next learner))) None
-entry_kept next was false replaced learner had e = refl
-entry_kept next true true true learner had e = refl
-entry_kept next false true true learner had e = refl
-entry_kept next true true false learner had e = refl
-entry_kept next false true false learner None e = refl
-entry_kept next false true false learner (Some p) e = absurd (true≢false e)
+entry_kept next was is replaced learner had e = grind arith
 
 -- each entry is left as the step states
 abbrev pub HasEntriesAfter : ChangerState → Step → TrackerState → Type 0
@@ -102,32 +97,13 @@ GivesNext-enter before auto_leave changes next_index start after sound same_next
     ∙ (λ i. entry_in (same_next i) after.config (cond (removes changes q && not (has (outgoing i) q)) None (finite.get (same i).progress q)) q))
 
 -- ---- leaving it
--- who is no outgoing voter is what it was
-record Stays (c : Configuration) (q : ℕ) : Type 0 where
-  learner : has c.learners q ≡ has (after_leave c).learners q
-  member : is_member c q ≡ is_member (after_leave c) q
-
-stays : (c : Configuration) (q : ℕ) → ValidByMember c → has c.outgoing q ≡ false → Stays c q
-stays c q valid out =
-    let waits : has c.learners_next q ≡ false = false_from_ne_true (has c.learners_next q) (λ e. true≢false (sym (valid.next_outgoing q e) ∙ out)) in
-    let learner : has c.learners q ≡ has (after_leave c).learners q = or_nothing (has c.learners q) ∙ sym (has-after_leave c q ∙ ap (λ b. has c.learners q || b) waits) in
-    let removed : has c.outgoing q ≡ has no_ids q = out ∙ sym (has-no_ids q) in
-    record { learner = learner; member = λ i. has c.incoming q || removed i || learner i }
-  where
-    or_nothing : (b : Bool) → b ≡ (b || false)
-    or_nothing true = refl
-    or_nothing false = refl
-
 -- who is a member then was one before
-was_member : (c : Configuration) (q : ℕ) → ValidByMember c → (out : Bool) → has c.outgoing q ≡ out → is_member (after_leave c) q ≡ true → is_member c q ≡ true
-was_member c q valid true out m = or_left (has c.incoming q || has c.outgoing q) (has c.learners q) (or_right (has c.incoming q) (has c.outgoing q) out)
-was_member c q valid false out m = (stays c q valid out).member ∙ m
+was_member : (c : Configuration) (q : ℕ) → ValidByMember c → is_member (after_leave c) q ≡ true → is_member c q ≡ true
+was_member c q valid m = grind (arith, has-after_leave c q, has-no_ids q, valid.next_outgoing q)
 
 -- who has progress and keeps it needs none afresh
 kept_entry : (next : ℕ) (member learner : Bool) (had : Option Progress) → (member ≡ true → is_some had ≡ true) → progress_kept member learner had ≡ entry_of next member learner had
-kept_entry next false learner had some = refl
-kept_entry next true learner None some = absurd (true≢false (sym (some refl)))
-kept_entry next true learner (Some p) some = refl
+kept_entry next member learner had some = grind arith
 
 pub GivesNext-leave : (before : ChangerState) (after : TrackerState) → IsSound before.tracker → is_joint before.tracker.config ≡ true → Keeps (after_leave before.tracker.config) before.tracker after
     → GivesNext before LeaveJoint (Ok (record { tracker = after; last_index = before.last_index }))
@@ -137,5 +113,5 @@ GivesNext-leave before after sound joint keeps =
     let valid = ValidByMember-from_is_valid c (and_parts _ _ sound.restorable).0 in
     GivesNext-from_entries before LeaveJoint after sound (outcome-leave_accepted c joint ∙ ap Ok (sym keeps.configuration)) keeps.floor
     (λ q. keeps.entries q
-    ∙ kept_entry (fresh_next_of before) (is_member d q) (has d.learners q) (finite.get before.tracker.progress q) (λ m. sound.of_members q ∙ was_member c q valid (has c.outgoing q) refl m)
+    ∙ kept_entry (fresh_next_of before) (is_member d q) (has d.learners q) (finite.get before.tracker.progress q) (λ m. sound.of_members q ∙ was_member c q valid m)
     ∙ ap (λ e. entry_in (fresh_next_of before) e (finite.get before.tracker.progress q) q) (sym keeps.configuration))

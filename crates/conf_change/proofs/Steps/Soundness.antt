@@ -1,5 +1,5 @@
 -- What an accepted step keeps: the voters stay neighbours, a voter stays, and the tracker stays sound.
-use Rattle.std.proofs.Common.{◌≡◌, ℕ, ◌≤◌, Bool, true, false, cond, not, ◌&&◌, ◌||◌, ◌==◌, List, [], ◌∷◌, ◌++◌, refl, sym, ap, subst, ◌∙◌, inl, inr, arith, ltb-false, is_some}
+use Rattle.std.proofs.Common.{◌≡◌, ℕ, ◌≤◌, Bool, true, false, cond, not, ◌&&◌, ◌||◌, ◌==◌, List, [], ◌∷◌, refl, sym, ap, subst, ◌∙◌, inl, inr, arith, ltb-false, is_some}
 use Rattle.std.specs.Prelude.{Option, Some, None, IfSome, unwrap_or, Ok, find, reverse, option_map, if◌then◌else◌}
 use Rattle.std.specs.FinMap as finite
 use Rattle.std.proofs.lemmas.Bool.{or_cases, and_parts, and_from, or_left, not-true, not-false, true≢false}
@@ -15,7 +15,6 @@ use Rattle.conf_change.specs.Floor.{fresh_next, IsAhead}
 use Rattle.conf_change.specs.Changer.{ChangerState, IsSound, begun_with, moved_to}
 use Rattle.conf_change.specs.declared.change.Change.{Change}
 use Rattle.conf_change.specs.declared.change.Kind.{Kind}
-use Rattle.conf_change.specs.declared.change.Kind.TheVariants.{Voter, Learner, Remove, Update}
 use Rattle.conf_change.specs.declared.floor.Floor.{Floor}
 use Rattle.conf_change.specs.declared.floor.Floor.TheVariants.{Zero, One}
 use Rattle.conf_change.specs.declared.progress.Progress.{Progress}
@@ -62,10 +61,7 @@ has_voter-joint c ok joint =
     ]
   where
     outgoing_empty : (is_empty c.incoming && is_empty c.outgoing && is_empty c.learners && is_empty c.learners_next) ≡ true → is_empty c.outgoing ≡ true
-    outgoing_empty empty =
-        let three = and_parts (is_empty c.incoming && is_empty c.outgoing && is_empty c.learners) (is_empty c.learners_next) empty in
-        let two = and_parts (is_empty c.incoming && is_empty c.outgoing) (is_empty c.learners) three.0 in
-        (and_parts (is_empty c.incoming) (is_empty c.outgoing) two.0).1
+    outgoing_empty empty = grind arith
 
 pub outcome-has_voter : (c after : Configuration) (step : Step) → is_restorable c ≡ true → outcome c step ≡ Ok after → has_voter after ≡ true
 outcome-has_voter c after (Simple changes) ok e = let t = SimpleTaken-from_outcome c after changes e in sym (ap has_voter t.made) ∙ t.voter
@@ -74,8 +70,7 @@ outcome-has_voter c after LeaveJoint ok e = let t = LeaveTaken-from_outcome c af
 
 -- ---- validity stays
 ignores_zero : (a b : Bool) → (a && false && b) ≡ false
-ignores_zero true b = refl
-ignores_zero false b = refl
+ignores_zero a b = grind arith
 
 find-zero : (xs : List Change) → find (names 0) xs ≡ None
 find-zero [] = refl
@@ -86,32 +81,16 @@ last_effective-zero : (xs : List Change) → last_effective xs 0 ≡ None
 last_effective-zero xs = ap (option_map (λ change. change.kind)) (find-zero (reverse xs))
 
 next_after-outgoing : (o : Option Kind) (out was : Bool) → (was ≡ true → out ≡ true) → is_next_after o out was ≡ true → out ≡ true
-next_after-outgoing None out was f e = f e
-next_after-outgoing (Some Voter) out was f e = cc
-next_after-outgoing (Some Learner) out was f e = e
-next_after-outgoing (Some Remove) out was f e = cc
-next_after-outgoing (Some Update) out was f e = f e
+next_after-outgoing o out was f e = grind arith
 
 next_after-incoming : (o : Option Kind) (out was inside : Bool) → (was ≡ true → inside ≡ false) → is_next_after o out was ≡ true → is_incoming_after o inside ≡ false
-next_after-incoming None out was inside f e = f e
-next_after-incoming (Some Voter) out was inside f e = cc
-next_after-incoming (Some Learner) out was inside f e = refl
-next_after-incoming (Some Remove) out was inside f e = cc
-next_after-incoming (Some Update) out was inside f e = f e
+next_after-incoming o out was inside f e = grind arith
 
 learner_after-incoming : (o : Option Kind) (out was inside : Bool) → (was ≡ true → inside ≡ false) → is_learner_after o out was ≡ true → is_incoming_after o inside ≡ false
-learner_after-incoming None out was inside f e = f e
-learner_after-incoming (Some Voter) out was inside f e = cc
-learner_after-incoming (Some Learner) out was inside f e = refl
-learner_after-incoming (Some Remove) out was inside f e = cc
-learner_after-incoming (Some Update) out was inside f e = f e
+learner_after-incoming o out was inside f e = grind arith
 
 learner_after-outgoing : (o : Option Kind) (out was : Bool) → (was ≡ true → out ≡ false) → is_learner_after o out was ≡ true → out ≡ false
-learner_after-outgoing None out was f e = f e
-learner_after-outgoing (Some Voter) out was f e = cc
-learner_after-outgoing (Some Learner) out was f e = not-true out e
-learner_after-outgoing (Some Remove) out was f e = cc
-learner_after-outgoing (Some Update) out was f e = f e
+learner_after-outgoing o out was f e = grind arith
 
 -- a list of changes keeps validity
 result_of-is_valid : (c : Configuration) (xs : List Change) → ValidByMember c → ValidByMember (result_of c xs)
@@ -158,11 +137,7 @@ after_leave-is_valid c m = record {
   zero_next = has-no_ids 0;
   next_outgoing = λ q here. absurd (true≢false (sym here ∙ has-no_ids q));
   next_incoming = λ q here. absurd (true≢false (sym here ∙ has-no_ids q));
-  learner_incoming = λ q here.
-      elim (or_cases (has c.learners q) (has c.learners_next q) (sym (has-after_leave c q) ∙ here)) [
-        | inl learns ↦ m.learner_incoming q learns
-        | inr waits ↦ m.next_incoming q waits
-      ];
+  learner_incoming = λ q here. grind (arith, has-after_leave c q, m.learner_incoming q, m.next_incoming q);
   learner_outgoing = λ q here. has-no_ids q;
   auto_leave = λ _. refl;
 }
@@ -182,24 +157,19 @@ outcome-is_restorable c after step ok e =
 
 -- ---- the tracker stays sound
 is_some-cond : (b : Bool) (p : Progress) → is_some (cond b (Some p) None) ≡ b
-is_some-cond true p = refl
-is_some-cond false p = refl
+is_some-cond b p = grind arith
 
 of_member : (b : Bool) (p : Progress) (P : Progress → Type 0) → P p → IfSome (cond b (Some p) None) P
-of_member true p P h = h
-of_member false p P h = tt
+of_member b p P h = grind arith
 
 of_kept : (b : Bool) (p q : Progress) (P : Progress → Type 0) → P p → P q → P (cond b p q)
-of_kept true p q P h k = h
-of_kept false p q P h k = k
+of_kept b p q P h k = grind arith
 
 of_default : (o : Option Progress) (p : Progress) (P : Progress → Type 0) → IfSome o P → P p → P (unwrap_or o p)
-of_default None p P h k = k
-of_default (Some q) p P h k = h
+of_default o p P h k = grind arith
 
 fresh-is_ahead : (floor : Floor) (last_index : ℕ) (learner : Bool) → IsAhead floor (fresh_progress (fresh_next floor last_index) learner)
-fresh-is_ahead Zero last_index learner = omega arith
-fresh-is_ahead One last_index learner = omega arith
+fresh-is_ahead floor last_index learner = grind arith
 
 -- the mark has no part in it
 marked-is_ahead : (floor : Floor) (learner : Bool) (p : Progress) → IsAhead floor p → IsAhead floor (with_mark learner p)

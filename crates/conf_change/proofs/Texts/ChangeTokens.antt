@@ -15,20 +15,13 @@ onto done (Ok more) = Ok (done ++ more)
 onto done (Err bad) = Err bad
 
 pub kind_in-letter_of : (kind : Kind) → kind_in (letter_of kind) ≡ Some kind
-kind_in-letter_of Voter = refl
-kind_in-letter_of Learner = refl
-kind_in-letter_of Remove = refl
-kind_in-letter_of Update = refl
+kind_in-letter_of kind = grind arith
 
 letter_from_kind : (byte : ℕ) (kind : Kind) → kind_in byte ≡ Some kind → byte ≡ letter_of kind
 letter_from_kind byte kind e = grind (arith, nat_tests)
 
 kind_in-none : (byte : ℕ) → ((kind : Kind) → byte ≢ letter_of kind) → kind_in byte ≡ None
-kind_in-none byte none =
-    elim (kind_in byte) as (λ o. kind_in byte ≡ o → o ≡ None) [
-      | None ↦ λ _. refl
-      | Some kind ↦ λ e. absurd (none kind (letter_from_kind byte kind e))
-    ] refl
+kind_in-none byte none = grind (arith, nat_tests, none Voter, none Learner, none Remove, none Update)
 
 change_in-some : (letter digit id : ℕ) (rest : List ℕ) (kind : Kind) → kind_in letter ≡ Some kind → number_in (digit ∷ rest) ≡ Some id → change_in (letter ∷ digit ∷ rest) ≡ Ok (record { kind = kind; id = id })
 change_in-some letter digit id rest kind is_kind is_number = rw (is_kind, is_number) refl

@@ -155,8 +155,7 @@ Field-from_some prefix text numbers rest e =
 
 -- ---- the flag
 auto_leave_in-text : (flag : Bool) → auto_leave_in (codes "] AutoLeave:" ++ truth_text flag) ≡ Some flag
-auto_leave_in-text true = refl
-auto_leave_in-text false = refl
+auto_leave_in-text flag = grind arith
 
 text-flag_in : (text : List ℕ) (flag : Bool) → auto_leave_in text ≡ Some flag → text ≡ codes "] AutoLeave:" ++ truth_text flag
 text-flag_in text flag e = go (bytes_eq text (codes "] AutoLeave:true")) (bytes_eq text (codes "] AutoLeave:false")) refl refl where

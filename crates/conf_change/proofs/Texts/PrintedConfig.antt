@@ -1,5 +1,5 @@
 -- The function that reads a printed configuration, against the relation.
-use Rattle.std.proofs.Common.{◌≡◌, ℕ, Bool, true, false, List, [], ◌∷◌, ◌++◌, Option, Some, None, refl, sym, ap, ◌∙◌, subst, append_assoc}
+use Rattle.std.proofs.Common.{◌≡◌, ℕ, Bool, true, false, List, [], ◌∷◌, ◌++◌, Option, Some, None, refl, sym, ap, ◌∙◌, subst, append_assoc, arith}
 use Rattle.std.specs.Prelude.{codes, option_and_then, bytes_eq, if◌then◌else◌}
 use Rattle.std.specs.List.{AllZip}
 use Rattle.std.proofs.lemmas.Slice.Eq.{bytes_eq-Decides}
@@ -48,42 +48,27 @@ abbrev outgoing_tokens : List (List ℕ) → List (List ℕ) → List (List ℕ)
 outgoing_tokens outgoing learners next auto_leave = part_tokens (codes "&&" ∷ []) outgoing ++ learner_tokens learners next auto_leave
 
 auto_leave-ok : (auto_leave : Bool) → auto_leave_at_end (last_tokens auto_leave) ≡ Some auto_leave
-auto_leave-ok true = refl
-auto_leave-ok false = refl
+auto_leave-ok auto_leave = grind arith
 
-part-ok : (ids : List (List ℕ)) (id : List ℕ) (numbers : List ℕ) (rest tokens : List (List ℕ)) → AllZip ParsesToNumber (id ∷ ids) numbers → part_in (Some (bracketed (id ∷ ids) ++ rest)) tokens ≡ Some (numbers, rest)
-part-ok ids id [] rest tokens parsed = absurd parsed
-part-ok ids id (number ∷ numbers) rest tokens parsed = ap (option_and_then with_numbers) (set_in-ok (id ∷ ids) (number ∷ numbers) rest parsed)
+-- a part that is there or left out, before others
+part-ok : (before : List (List ℕ)) (begins : List (List ℕ) → Option (List (List ℕ))) (ids : List (List ℕ)) (numbers : List ℕ) (rest : List (List ℕ)) → AllZip ParsesToNumber ids numbers
+    → begins rest ≡ None → ((more : List (List ℕ)) → begins (before ++ more) ≡ Some more)
+    → part_in (begins (part_tokens before ids ++ rest)) (part_tokens before ids ++ rest) ≡ Some (numbers, rest)
+part-ok before begins [] [] rest parsed none some = ap (λ begun. part_in begun rest) none
+part-ok before begins [] (number ∷ numbers) rest parsed none some = absurd parsed
+part-ok before begins (id ∷ ids) [] rest parsed none some = absurd parsed
+part-ok before begins (id ∷ ids) (number ∷ numbers) rest parsed none some =
+    ap (λ begun. part_in begun (part_tokens before (id ∷ ids) ++ rest)) (ap begins (append_assoc before (bracketed (id ∷ ids)) rest) ∙ some (bracketed (id ∷ ids) ++ rest))
+    ∙ ap (option_and_then with_numbers) (set_in-ok (id ∷ ids) (number ∷ numbers) rest parsed)
 
-next-ok : (ids : List (List ℕ)) (numbers : List ℕ) (auto_leave : Bool) → AllZip ParsesToNumber ids numbers →
-    part_in (after_name (codes "learners_next") (next_tokens ids auto_leave)) (next_tokens ids auto_leave) ≡ Some (numbers, last_tokens auto_leave)
-next-ok [] [] true parsed = refl
-next-ok [] [] false parsed = refl
-next-ok [] (number ∷ numbers) auto_leave parsed = absurd parsed
-next-ok (id ∷ ids) numbers auto_leave parsed = part-ok ids id numbers (last_tokens auto_leave) (next_tokens (id ∷ ids) auto_leave) parsed
+next-none : (auto_leave : Bool) → after_name (codes "learners_next") (last_tokens auto_leave) ≡ None
+next-none auto_leave = grind arith
 
 learners-none : (next : List (List ℕ)) (auto_leave : Bool) → after_name (codes "learners") (next_tokens next auto_leave) ≡ None
-learners-none [] true = refl
-learners-none [] false = refl
-learners-none (id ∷ ids) auto_leave = refl
-
-learners-ok : (ids : List (List ℕ)) (numbers : List ℕ) (next : List (List ℕ)) (auto_leave : Bool) → AllZip ParsesToNumber ids numbers →
-    part_in (after_name (codes "learners") (learner_tokens ids next auto_leave)) (learner_tokens ids next auto_leave) ≡ Some (numbers, next_tokens next auto_leave)
-learners-ok [] [] next auto_leave parsed = ap (λ begun. part_in begun (next_tokens next auto_leave)) (learners-none next auto_leave)
-learners-ok [] (number ∷ numbers) next auto_leave parsed = absurd parsed
-learners-ok (id ∷ ids) numbers next auto_leave parsed = part-ok ids id numbers (next_tokens next auto_leave) (learner_tokens (id ∷ ids) next auto_leave) parsed
+learners-none next auto_leave = grind arith
 
 outgoing-none : (learners next : List (List ℕ)) (auto_leave : Bool) → after_token (codes "&&") (learner_tokens learners next auto_leave) ≡ None
-outgoing-none [] [] true = refl
-outgoing-none [] [] false = refl
-outgoing-none [] (id ∷ ids) auto_leave = refl
-outgoing-none (id ∷ ids) next auto_leave = refl
-
-outgoing-ok : (ids : List (List ℕ)) (numbers : List ℕ) (learners next : List (List ℕ)) (auto_leave : Bool) → AllZip ParsesToNumber ids numbers →
-    part_in (after_token (codes "&&") (outgoing_tokens ids learners next auto_leave)) (outgoing_tokens ids learners next auto_leave) ≡ Some (numbers, learner_tokens learners next auto_leave)
-outgoing-ok [] [] learners next auto_leave parsed = ap (λ begun. part_in begun (learner_tokens learners next auto_leave)) (outgoing-none learners next auto_leave)
-outgoing-ok [] (number ∷ numbers) learners next auto_leave parsed = absurd parsed
-outgoing-ok (id ∷ ids) numbers learners next auto_leave parsed = part-ok ids id numbers (learner_tokens learners next auto_leave) (outgoing_tokens (id ∷ ids) learners next auto_leave) parsed
+outgoing-none learners next auto_leave = grind arith
 
 -- the parts, grouped from the last
 pub config_tokens-grouped : (voters outgoing learners next : List (List ℕ)) (auto_leave : Bool) →
@@ -94,9 +79,12 @@ pub config_in-ok : (text : List ℕ) (saved : ConfStateLists) → DenotesConfig 
 config_in-ok text saved h =
     rw (h.printed ∙ config_tokens-grouped h.voters h.voters_outgoing h.learners h.learners_next saved.auto_leave)
     (rw (set_in-ok h.voters saved.voters (outgoing_tokens h.voters_outgoing h.learners h.learners_next saved.auto_leave) h.parsed_voters)
-    (rw (outgoing-ok h.voters_outgoing saved.voters_outgoing h.learners h.learners_next saved.auto_leave h.parsed_voters_outgoing)
-    (rw (learners-ok h.learners saved.learners h.learners_next saved.auto_leave h.parsed_learners)
-    (rw (next-ok h.learners_next saved.learners_next saved.auto_leave h.parsed_learners_next)
+    (rw (part-ok (codes "&&" ∷ []) (after_token (codes "&&")) h.voters_outgoing saved.voters_outgoing (learner_tokens h.learners h.learners_next saved.auto_leave) h.parsed_voters_outgoing
+    (outgoing-none h.learners h.learners_next saved.auto_leave) (λ more. refl))
+    (rw (part-ok (codes "learners" ∷ codes "=" ∷ []) (after_name (codes "learners")) h.learners saved.learners (next_tokens h.learners_next saved.auto_leave) h.parsed_learners
+    (learners-none h.learners_next saved.auto_leave) (λ more. refl))
+    (rw (part-ok (codes "learners_next" ∷ codes "=" ∷ []) (after_name (codes "learners_next")) h.learners_next saved.learners_next (last_tokens saved.auto_leave) h.parsed_learners_next
+    (next-none saved.auto_leave) (λ more. refl))
     (rw (auto_leave-ok saved.auto_leave) refl)))))
 
 -- ---- a set that is denoted is read

@@ -1,5 +1,5 @@
 -- What is printed of a configuration denotes the configuration.
-use Rattle.std.proofs.Common.{◌≡◌, ℕ, ◌<◌, ◌≤◌, ◌^◌, Bool, true, false, not, List, [], ◌∷◌, ◌++◌, length, map, refl, sym, ap, ap₂, ◌∙◌, append_assoc, arith}
+use Rattle.std.proofs.Common.{◌≡◌, ℕ, ◌<◌, ◌≤◌, ◌^◌, Bool, false, not, List, [], ◌∷◌, ◌++◌, length, map, refl, sym, ap, ap₂, ◌∙◌, append_assoc, arith}
 use Rattle.std.specs.Prelude.{codes, decimal, flat_map, nat_eq, All, if◌then◌else◌}
 use Rattle.std.proofs.lemmas.Bool.{ne_eqb, lt-ltb}
 use Rattle.std.proofs.lemmas.Bool.Decides.{nat_tests}
@@ -91,8 +91,7 @@ tokens-part before tokens is (id ∷ ids) small more =
     ∙ sym (append_assoc tokens (bracketed (map decimal (id ∷ ids))) (config_tokens_in more)))
 
 tokens-flag : (auto_leave : Bool) → config_tokens_in (text_if auto_leave (codes " autoleave")) ≡ (if auto_leave then codes "autoleave" ∷ [] else [])
-tokens-flag true = refl
-tokens-flag false = refl
+tokens-flag auto_leave = grind arith
 
 -- ---- the whole text
 -- the parts, grouped from the last

@@ -1,26 +1,10 @@
-use Rattle.std.proofs.Common.{◌≡◌, Bool, true, false, cond, not, sym, ap, ◌∙◌, refl}
-use Rattle.std.specs.Prelude.{Option, Some, None}
+use Rattle.std.proofs.Common.{sym, ap, ◌∙◌, arith}
 use Rattle.std.proofs.lemmas.Bool.{ltb-false}
-use Rattle.conf_change.specs.declared.refused.Refused.{Refused}
-use Rattle.conf_change.specs.declared.refused.Refused.TheVariants.{RemovedAllVoters, MoreThanOneVoter}
 use Rattle.conf_change.specs.Progress.{fresh_next_of}
 use Rattle.conf_change.specs.TrackerEdits.{beginning}
 use Rattle.conf_change.specs.Changer.{changer_of}
 use Rattle.conf_change.proofs.Steps.OwedByCalls.{GivesNext-seen_as, GivesNext-simple}
 use Rattle.conf_change.proofs.changer.make_simple.Goals as goal
-
-abbrev no_refusal : Option Refused
-no_refusal = None
-
--- what is not refused has passed both tests
-has_passed : (voter many : Bool) → no_refusal ≡ cond (not voter) (Some RemovedAllVoters) (cond many (Some MoreThanOneVoter) None) → voter ≡ true
-has_passed false many e = cc
-has_passed true many e = refl
-
-is_few : (voter many : Bool) → no_refusal ≡ cond (not voter) (Some RemovedAllVoters) (cond many (Some MoreThanOneVoter) None) → many ≡ false
-is_few false many e = cc
-is_few true true e = cc
-is_few true false e = refl
 
 pub returns-in-None : goal.returns-in-None
 returns-in-None g c =
@@ -30,4 +14,4 @@ returns-in-None g c =
     (GivesNext-simple (changer_of t c.before-2.inside.last_index) c.args.changes.now c.fresh_next-next_index.result
     (beginning t (g.S.MemberSet.ids c.config.inside.outgoing) c.config.inside.auto_leave) c.become_changed.new.self
     c.before-2.invariant (c.fresh_next-next_index.ensures ∙ ap fresh_next_of (sym c.before-2.view_is)) (λ i. beginning t (same i).outgoing (same i).auto_leave)
-    (sym c.if-is_joint.ensures) c.in_ok-become_changed.ensures (has_passed _ _ c.in-None.ensures) (ltb-false 1 _ (is_few _ _ c.in-None.ensures)))
+    (sym c.if-is_joint.ensures) c.in_ok-become_changed.ensures (grind (arith, c.in-None.ensures)) (ltb-false 1 _ (grind (arith, c.in-None.ensures))))

@@ -1,8 +1,8 @@
 use Rattle.std.proofs.Common.{sym, ◌∙◌}
 use Rattle.quorum_sets.proofs.Offered.{slice_get-not_past}
 use Rattle.conf_change.proofs.SetWalks.FirstThat.{find-here, find-later}
-use Rattle.conf_change.proofs.violation.first_that.Goals as goal
-use Rattle.conf_change.proofs.violation.first_that.Goals.{in-Some+else-test, in_default}
+use Rattle.conf_change.proofs.first_that.first_that.Goals as goal
+use Rattle.conf_change.proofs.first_that.first_that.Goals.{in-Some+else-test, in_default}
 
 pub returns-then-test : goal.returns-then-test
 returns-then-test g c = λ passes answers.

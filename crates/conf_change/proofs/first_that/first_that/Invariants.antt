@@ -2,7 +2,7 @@ use Rattle.std.proofs.Common.{◌≡◌, ℕ, Bool, drop}
 use Rattle.std.specs.Prelude.{find}
 use Rattle.quorum_sets.specs.Counting.{Computes}
 use Rattle.quorum_sets.specs.Ids.{ascending}
-use Rattle.conf_change.proofs.violation.first_that.Given as goal
+use Rattle.conf_change.proofs.first_that.first_that.Given as goal
 
 -- no id before the position passes the test
 abbrev pub invariant-loop-position : goal.invariant-loop-position
