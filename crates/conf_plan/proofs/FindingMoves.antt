@@ -1,7 +1,5 @@
--- The moves from one configuration to another, and the walk that finds them.
+-- The moves from one configuration to another.
 
 pub mod OfEachId
 pub mod ResultingConfiguration
-pub mod FourSetWalk
 pub mod AscendingIds
-pub mod PickedIds

@@ -1,9 +1,8 @@
 -- What is kept on the way of a path: quorums, failures that are tolerated, and voters that are no newcomers.
 
+pub mod AlongPath
 pub mod Quorums
-pub mod Tolerance
 pub mod Newcomers
-pub mod Preserving
 pub mod ReadyVoters
 pub mod LearnersFirst
 pub mod OneChange

@@ -1,6 +1,5 @@
 -- The text of a plan, read and printed.
 
-pub mod LineByLine
 pub mod StepFromTokens
 pub mod PlanFromLines
 pub mod ReadSoFar

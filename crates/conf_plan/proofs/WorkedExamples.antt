@@ -1,12 +1,12 @@
 -- Small cases, worked out by hand.
-use Rattle.std.proofs.Common.{◌≡◌, ◌≤◌, ℕ, Bool, true, false, not, List, [], ◌∷◌, ◌++◌, refl, ap, subst, ◌∙◌, arith}
-use Rattle.std.specs.Prelude.{Ok, filter}
+use Rattle.std.proofs.Common.{◌≡◌, ◌≤◌, ℕ, Bool, true, false, not, List, [], ◌∷◌, ◌++◌, refl, ap, subst, ◌∙◌, map, arith}
+use Rattle.std.specs.Prelude.{Ok, filter, if◌then◌else◌}
 use Rattle.std.proofs.lemmas.Bool.{cond-true, cond-false, both_ways}
 use Rattle.quorum_sets.specs.Ids.{Ids, ascending, count_of, difference_count, has, ids_of, ids_where, is_empty, no_ids, size, union}
 use Rattle.quorum_sets.specs.Tolerance.{Tolerates, commits_without}
 use Rattle.quorum_sets.specs.Voters.{is_quorum}
 use Rattle.quorum_sets.proofs.Offered.{Tolerates-from_counts, written_out}
-use Rattle.conf_change.specs.Configuration.{Configuration, has_voter, is_joint, members, is_same_set, is_same, voters_of}
+use Rattle.conf_change.specs.Configuration.{Configuration, has_voter, is_joint, is_valid, members, is_same_set, is_same, voters_of}
 use Rattle.conf_change.specs.declared.change.Change.{Change}
 use Rattle.conf_change.specs.declared.change.Kind.{Kind}
 use Rattle.conf_change.specs.declared.change.Kind.TheVariants.{Voter, Learner, Remove, Update}
@@ -22,13 +22,28 @@ use Rattle.conf_plan.specs.Best.{times_named, is_any_learner, outlasts_leave}
 use Rattle.conf_plan.specs.Planned.{is_shared, shared_members, single_with, single_steps, entering_step, planned_from_single, planned}
 use Rattle.conf_plan.specs.Run.{IsRun, IsRunWith, IsValidWithVoter}
 use Rattle.conf_plan.proofs.FindingMoves.ResultingConfiguration.{IsSingle}
-use Rattle.conf_plan.proofs.PlannedSteps.Cases.{joint_steps-inserted}
+use Rattle.conf_plan.proofs.PlannedSteps.Shapes.{joint_steps-inserted}
 
 abbrev change : Kind → ℕ → Change
 change kind id = record { kind = kind; id = id }
 
 abbrev config : List ℕ → List ℕ → List ℕ → List ℕ → Configuration
 config incoming outgoing learners next = record { incoming = ids_of incoming; outgoing = ids_of outgoing; learners = ids_of learners; learners_next = ids_of next; auto_leave = false }
+
+-- the items whose tests answer true
+abbrev answered : List ℕ → List Bool → List ℕ
+answered [] answers = []
+answered (x ∷ xs) [] = []
+answered (x ∷ xs) (answer ∷ answers) = if answer then x ∷ answered xs answers else answered xs answers
+
+filter-answered : (test : ℕ → Bool) (xs : List ℕ) (answers : List Bool) → map test xs ≡ answers → filter test xs ≡ answered xs answers
+filter-answered test [] answers are = refl
+filter-answered test (x ∷ xs) answers are =
+    ap (λ rest. if test x then x ∷ rest else rest) (filter-answered test xs (map test xs) refl) ∙ ap (answered (x ∷ xs)) are
+
+-- a configuration that is not joint
+single : (c : Configuration) → is_valid c ≡ true → has_voter c ≡ true → is_joint c ≡ false → IsSingle c
+single c valid voter apart = record { valid_with_voter = record { valid = valid; voter = voter }; single = apart }
 
 -- ---- one step, or none
 -- nothing is to be done
@@ -64,28 +79,13 @@ three_and_one = config (3 ∷ []) (1 ∷ []) (2 ∷ []) (1 ∷ [])
 
 -- 2 and 3 are members of both and do not go out
 shared_row : shared_members three three_and_one ≡ ids_of (3 ∷ 2 ∷ [])
-shared_row = ap (ids_where (is_shared three_and_one)) all ∙ ap ids_of (filtered (is_shared three_and_one) of_3 of_1 of_2)
-  where
-    all : members three ≡ 3 ∷ 1 ∷ 2 ∷ []
-    all = simp written_out refl
-
-    of_3 : is_shared three_and_one 3 ≡ true
-    of_3 = simp written_out refl
-
-    of_1 : is_shared three_and_one 1 ≡ false
-    of_1 = simp written_out refl
-
-    of_2 : is_shared three_and_one 2 ≡ true
-    of_2 = simp written_out refl
-
-    filtered : (test : ℕ → Bool) → test 3 ≡ true → test 1 ≡ false → test 2 ≡ true → filter test (3 ∷ 1 ∷ 2 ∷ []) ≡ 3 ∷ 2 ∷ []
-    filtered test of_3 of_1 of_2 = rw (of_3, of_1, of_2) refl
+shared_row =
+    let all : members three ≡ 3 ∷ 1 ∷ 2 ∷ [] = simp written_out refl in
+    ap (ids_where (is_shared three_and_one)) all
+    ∙ ap ids_of (filter-answered (is_shared three_and_one) (3 ∷ 1 ∷ 2 ∷ []) (true ∷ false ∷ true ∷ []) (simp written_out refl))
 
 three-is_single : IsSingle three
-three-is_single = record {
-  valid_with_voter = record { valid = simp written_out refl; voter = simp written_out refl };
-  single = simp written_out refl;
-}
+three-is_single = single three (simp written_out refl) (simp written_out refl) (simp written_out refl)
 
 three_and_one-is_valid : IsValidWithVoter three_and_one
 three_and_one-is_valid = record { valid = simp written_out refl; voter = simp written_out refl }
@@ -135,25 +135,13 @@ abbrev one_and_two : Configuration
 one_and_two = config (1 ∷ []) (1 ∷ 2 ∷ []) [] (2 ∷ [])
 
 none_shared : shared_members one one_and_two ≡ ids_of []
-none_shared = ap (ids_where (is_shared one_and_two)) all ∙ ap ids_of (filtered (is_shared one_and_two) of_1 of_2)
-  where
-    all : members one ≡ 1 ∷ 2 ∷ []
-    all = simp written_out refl
-
-    of_1 : is_shared one_and_two 1 ≡ false
-    of_1 = simp written_out refl
-
-    of_2 : is_shared one_and_two 2 ≡ false
-    of_2 = simp written_out refl
-
-    filtered : (test : ℕ → Bool) → test 1 ≡ false → test 2 ≡ false → filter test (1 ∷ 2 ∷ []) ≡ []
-    filtered test of_1 of_2 = rw (of_1, of_2) refl
+none_shared =
+    let all : members one ≡ 1 ∷ 2 ∷ [] = simp written_out refl in
+    ap (ids_where (is_shared one_and_two)) all
+    ∙ ap ids_of (filter-answered (is_shared one_and_two) (1 ∷ 2 ∷ []) (false ∷ false ∷ []) (simp written_out refl))
 
 one-is_single : IsSingle one
-one-is_single = record {
-  valid_with_voter = record { valid = simp written_out refl; voter = simp written_out refl };
-  single = simp written_out refl;
-}
+one-is_single = single one (simp written_out refl) (simp written_out refl) (simp written_out refl)
 
 one_and_two-is_valid : IsValidWithVoter one_and_two
 one_and_two-is_valid = record { valid = simp written_out refl; voter = simp written_out refl }
@@ -216,37 +204,29 @@ votes_with_4 voters id = is_incoming_after (last_effective (change Voter 4 ∷ [
 
 with_4 : (voters : List ℕ) → ascending (ids_of voters) ≡ voters → filter (votes_with_4 voters) voters ≡ voters
     → result_of (config voters [] [] []) (change Voter 4 ∷ []) ≡ config (4 ∷ voters) [] [] []
-with_4 voters listed vote = λ i. record {
-  incoming = (ap (λ ids. ids_of (4 ∷ filter (votes_with_4 voters) ids)) listed ∙ ap (λ ids. ids_of (4 ∷ ids)) vote) i;
-  outgoing = ids_of [];
-  learners = none i;
-  learners_next = none_next i;
-  auto_leave = false;
-}
-  where
-    none : (result_of (config voters [] [] []) (change Voter 4 ∷ [])).learners ≡ ids_of []
-    none = simp written_out refl
-
-    none_next : (result_of (config voters [] [] []) (change Voter 4 ∷ [])).learners_next ≡ ids_of []
-    none_next = simp written_out refl
+with_4 voters listed vote =
+    let after = result_of (config voters [] [] []) (change Voter 4 ∷ []) in
+    let none : after.learners ≡ ids_of [] = simp written_out refl in
+    let none_next : after.learners_next ≡ ids_of [] = simp written_out refl in
+    λ i. record {
+      incoming = (ap (λ ids. ids_of (4 ∷ filter (votes_with_4 voters) ids)) listed ∙ ap (λ ids. ids_of (4 ∷ ids)) vote) i;
+      outgoing = ids_of [];
+      learners = none i;
+      learners_next = none_next i;
+      auto_leave = false;
+    }
 
 joined : outcome voters_123 (one_change Voter 4) ≡ Ok voters_1234
-joined = outcome-simple_accepted voters_123 voters_1234 (change Voter 4 ∷ []) (simp written_out refl) (with_4 (1 ∷ 2 ∷ 3 ∷ []) (simp written_out refl) vote) (simp written_out refl) (simp written_out (omega arith))
-  where
-    all : (test : ℕ → Bool) → test 1 ≡ true → test 2 ≡ true → test 3 ≡ true → filter test (1 ∷ 2 ∷ 3 ∷ []) ≡ 1 ∷ 2 ∷ 3 ∷ []
-    all test of_1 of_2 of_3 = rw (of_1, of_2, of_3) refl
-
-    vote : filter (votes_with_4 (1 ∷ 2 ∷ 3 ∷ [])) (1 ∷ 2 ∷ 3 ∷ []) ≡ 1 ∷ 2 ∷ 3 ∷ []
-    vote = all (votes_with_4 (1 ∷ 2 ∷ 3 ∷ [])) (simp written_out refl) (simp written_out refl) (simp written_out refl)
+joined =
+    let vote = filter-answered (votes_with_4 (1 ∷ 2 ∷ 3 ∷ [])) (1 ∷ 2 ∷ 3 ∷ []) (true ∷ true ∷ true ∷ []) (simp written_out refl) in
+    outcome-simple_accepted voters_123 voters_1234 (change Voter 4 ∷ []) (simp written_out refl) (with_4 (1 ∷ 2 ∷ 3 ∷ []) (simp written_out refl) vote)
+    (simp written_out refl) (simp written_out (omega arith))
 
 joined_later : outcome voters_12 (one_change Voter 4) ≡ Ok (config (4 ∷ 1 ∷ 2 ∷ []) [] [] [])
-joined_later = outcome-simple_accepted voters_12 (config (4 ∷ 1 ∷ 2 ∷ []) [] [] []) (change Voter 4 ∷ []) (simp written_out refl) (with_4 (1 ∷ 2 ∷ []) (simp written_out refl) vote) (simp written_out refl) (simp written_out (omega arith))
-  where
-    all : (test : ℕ → Bool) → test 1 ≡ true → test 2 ≡ true → filter test (1 ∷ 2 ∷ []) ≡ 1 ∷ 2 ∷ []
-    all test of_1 of_2 = rw (of_1, of_2) refl
-
-    vote : filter (votes_with_4 (1 ∷ 2 ∷ [])) (1 ∷ 2 ∷ []) ≡ 1 ∷ 2 ∷ []
-    vote = all (votes_with_4 (1 ∷ 2 ∷ [])) (simp written_out refl) (simp written_out refl)
+joined_later =
+    let vote = filter-answered (votes_with_4 (1 ∷ 2 ∷ [])) (1 ∷ 2 ∷ []) (true ∷ true ∷ []) (simp written_out refl) in
+    outcome-simple_accepted voters_12 (config (4 ∷ 1 ∷ 2 ∷ []) [] [] []) (change Voter 4 ∷ []) (simp written_out refl) (with_4 (1 ∷ 2 ∷ []) (simp written_out refl) vote)
+    (simp written_out refl) (simp written_out (omega arith))
 
 -- 3 retires
 without_3 : (before after : Configuration) → is_joint before ≡ false → is_same (result_of before (change Remove 3 ∷ [])) after ≡ true → has_voter after ≡ true → difference_count before.incoming after.incoming ≤ 1

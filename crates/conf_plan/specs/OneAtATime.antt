@@ -1,7 +1,7 @@
 -- The path from a configuration that is not joint, on which one member changes at a time, as etcd's server changes its
 -- members (section 4.1 of Ongaro's dissertation). A server adds no member while a voter cannot be reached, so voters
 -- that are down leave first (own).
-use Rattle.std.specs.Prelude.{ℕ, not, ◌&&◌, ◌||◌, List, [], ◌∷◌, ◌++◌, flat_map, option_map, if◌then◌else◌}
+use Rattle.std.specs.Prelude.{ℕ, Bool, not, ◌&&◌, ◌||◌, List, [], ◌∷◌, ◌++◌, flat_map, option_map, if◌then◌else◌}
 use Rattle.std.specs.List.{cons_option}
 use Rattle.quorum_sets.specs.Ids.{Ids, no_ids, has, ascending, union, ids_where}
 use Rattle.quorum_sets.specs.Tolerance.{commits_without}
@@ -25,25 +25,18 @@ steps_of c target id =
     ++ cons_option (option_map (λ kind. one_change kind id) (kind_of_move c target.incoming target.learners id)) []
 
 -- ---- the order of the ids
--- the ids that have to become incoming voters
-abbrev pub joining : Configuration → Configuration → Ids
-joining c target = ids_where (λ id. not (has c.incoming id)) (ascending target.incoming)
+-- the ids that have to become incoming voters, of those that pass a test, ascending
+abbrev pub joining : (ℕ → Bool) → Configuration → Configuration → List ℕ
+joining passes c target = ascending (ids_where (λ id. not (has c.incoming id) && passes id) (ascending target.incoming))
 
--- the ids that have to stop being incoming voters
-abbrev pub retiring : Configuration → Configuration → Ids
-retiring c target = ids_where (λ id. not (has target.incoming id)) (ascending c.incoming)
+-- the ids that have to stop being incoming voters, of those that pass a test, ascending
+abbrev pub retiring : (ℕ → Bool) → Configuration → Configuration → List ℕ
+retiring passes c target = ascending (ids_where (λ id. not (has target.incoming id) && passes id) (ascending c.incoming))
 
 -- the learners that are incoming voters neither before nor after
 abbrev pub other_learners : Configuration → Configuration → Ids
 other_learners c target =
     ids_where (λ id. not (has c.incoming id || has target.incoming id)) (ascending (union c.learners target.learners))
-
--- those of some ids that are down, and those that are up, ascending
-abbrev pub those_down : Ids → Ids → List ℕ
-those_down down ids = ascending (ids_where (has down) (ascending ids))
-
-abbrev pub those_up : Ids → Ids → List ℕ
-those_up down ids = ascending (ids_where (λ id. not (has down id)) (ascending ids))
 
 -- the ids of two lists in turn; when one list ends, the rest of the other follows
 abbrev pub in_turn : List ℕ → List ℕ → List ℕ
@@ -55,9 +48,9 @@ in_turn (id ∷ joins) (other ∷ retires) = id ∷ other ∷ in_turn joins reti
 -- learners follow
 abbrev pub order : Ids → Configuration → Configuration → List ℕ
 order down c target =
-    those_down down (retiring c target)
-    ++ (in_turn (those_up down (joining c target)) (those_up down (retiring c target))
-    ++ (those_down down (joining c target) ++ ascending (other_learners c target)))
+    let up : ℕ → Bool = λ id. not (has down id) in
+    retiring (has down) c target
+    ++ (in_turn (joining up c target) (retiring up c target) ++ (joining (has down) c target ++ ascending (other_learners c target)))
 
 -- the ids that are down, if both configurations commit without them; none otherwise, since then no order helps
 abbrev pub down_in_order : Ids → Configuration → Configuration → Ids

@@ -1,5 +1,6 @@
 -- The parsers of paths and of plans, as functions.
-use Rattle.std.specs.Prelude.{ℕ, ◌+◌, Bool, true, false, ◌&&◌, List, [], ◌∷◌, length, nat_le, codes, Option, Some, None, option_map, Result, Ok, Err, bytes_eq, if◌then◌else◌}
+use Rattle.std.specs.Prelude.{ℕ, ◌+◌, Bool, true, false, List, [], ◌∷◌, length, nat_le, codes, Option, Some, None, option_map, option_and_then, Result, Ok, Err, bytes_eq, if◌then◌else◌}
+use Rattle.std.specs.Cmp.Lexicographic.{pointwise}
 use Rattle.std.specs.Result.{result_ok}
 use Rattle.ascii_text.specs.Tokens.{tokens_in}
 use Rattle.conf_change.specs.ChangeList.{changes_in_tokens}
@@ -18,15 +19,10 @@ list_in tokens = result_ok (changes_in_tokens tokens)
 abbrev pub flag_of_token : List ℕ → Option Bool
 flag_of_token token = if bytes_eq token (flag_token true) then Some true else (if bytes_eq token (flag_token false) then Some false else None)
 
--- the step that enters a joint configuration with this flag, if there is a flag, and the changes of the tokens
-abbrev pub enter_with : Option Bool → List (List ℕ) → Option Step
-enter_with None tokens = None
-enter_with (Some auto_leave) tokens = option_map (EnterJoint auto_leave) (list_in tokens)
-
 -- the step of the tokens after enter-joint: a flag, then changes
 abbrev pub enter_in : List (List ℕ) → Option Step
 enter_in [] = None
-enter_in (flag ∷ tokens) = enter_with (flag_of_token flag) tokens
+enter_in (flag ∷ tokens) = option_and_then (λ auto_leave. option_map (EnterJoint auto_leave) (list_in tokens)) (flag_of_token flag)
 
 -- the step of the tokens after leave-joint, which takes no arguments
 abbrev pub leave_in : List (List ℕ) → Option Step
@@ -56,17 +52,16 @@ steps_in (line ∷ lines) = and_steps (step_in (tokens_in line)) (steps_in lines
 
 -- the tokens are those of `nothing to do`
 abbrev pub is_nothing : List (List ℕ) → Bool
-is_nothing (a ∷ b ∷ c ∷ []) = bytes_eq a (codes "nothing") && bytes_eq b (codes "to") && bytes_eq c (codes "do")
-is_nothing _ = false
+is_nothing tokens = pointwise bytes_eq tokens (codes "nothing" ∷ codes "to" ∷ codes "do" ∷ [])
 
--- the steps that the lines of a path are parsed as
-abbrev pub path_in_lines : List (List ℕ) → Result (List Step) PlanTextFault
-path_in_lines (line ∷ []) = if is_nothing (tokens_in line) then Ok [] else steps_in (line ∷ [])
-path_in_lines lines = steps_in lines
+-- the lines are the one line `nothing to do`
+abbrev pub is_nothing_to_do : List (List ℕ) → Bool
+is_nothing_to_do (line ∷ []) = is_nothing (tokens_in line)
+is_nothing_to_do _ = false
 
 -- the path that a text is parsed as, or why it is not parsed
 abbrev pub path_in : List ℕ → Result (List Step) PlanTextFault
-path_in text = path_in_lines (plan_lines text)
+path_in text = if is_nothing_to_do (plan_lines text) then Ok [] else steps_in (plan_lines text)
 
 -- the plan of a path that was read, if its lines are at most four; a fifth line is one too many, whatever it is
 abbrev pub at_most_four : Result (List Step) PlanTextFault → Result (List Step) PlanTextFault

@@ -1,6 +1,7 @@
 -- The text of a path: how it is printed, and which texts are parsed as which paths, and as which plans.
-use Rattle.std.specs.Prelude.{◌≡◌, ℕ, ◌+◌, ◌<◌, ◌≤◌, Bool, ◌==◌, ◌⊎◌, List, [], ◌∷◌, ◌++◌, length, take, map, flat_map, filter, codes, decimal, if◌then◌else◌}
-use Rattle.std.specs.List.{AllZip, join_with_byte, slice_split}
+use Rattle.std.specs.Prelude.{◌≡◌, ℕ, ◌+◌, ◌<◌, ◌≤◌, Bool, ◌⊎◌, List, [], ◌∷◌, ◌++◌, length, take, map, flat_map, codes, decimal, if◌then◌else◌}
+use Rattle.std.specs.List.{AllZip, join_with_byte}
+use Rattle.ascii_text.specs.Lines.{full_lines}
 use Rattle.ascii_text.specs.Tokens.{has_bytes, tokens_in}
 use Rattle.conf_change.specs.ChangeList.{letter_of, ParsesTo}
 use Rattle.conf_change.specs.ConfStateLine.{truth_text}
@@ -44,20 +45,9 @@ plan_text [] = codes "nothing to do\n"
 plan_text (step ∷ steps) = flat_map line_and_newline (step ∷ steps)
 
 -- ---- parsing
--- the byte is a newline
-abbrev pub is_newline : ℕ → Bool
-is_newline byte = byte == 10
-
--- the texts, without the last one if it is empty
-abbrev pub without_empty_end : List (List ℕ) → List (List ℕ)
-without_empty_end [] = []
-without_empty_end (part ∷ []) = filter has_bytes (part ∷ [])
-without_empty_end (part ∷ next ∷ parts) = part ∷ without_empty_end (next ∷ parts)
-
--- The lines of a text: it is split at each newline, and what follows the last newline is a line if it is not empty. The
--- empty text is one blank line.
+-- The lines of a text, each with its newline if it has one. The empty text is one blank line.
 abbrev pub plan_lines : List ℕ → List (List ℕ)
-plan_lines text = if has_bytes text then without_empty_end (slice_split is_newline text) else [] ∷ []
+plan_lines text = if has_bytes text then full_lines text else [] ∷ []
 
 -- the tokens of the line are the step's command and then its changes, with any white space around them
 pub record IsLineOf (line : List ℕ) (step : Step) : Type 0 where

@@ -6,18 +6,19 @@
 //! ```
 ghost use Rattle.std.specs.Prelude.{◌≡◌, ◌<◌, ◌^◌, IfOk};
 ghost use Rattle.std.specs.List.{All};
+ghost use Rattle.quorum_sets.specs.Ids.{union};
 ghost use Rattle.conf_plan.specs.Planned.{kind_by, moves, single_with};
-ghost use Rattle.conf_plan.specs.Walking.{IsEarliest, IsAdvanced, IsAt};
 
 use conf_change::{Change, Kind};
-use quorum_sets::{MemberSet, NoMemory};
+use quorum_sets::{MemberSet, NoMemory, add_ids};
+use smallvec::SmallVec;
 use std::alloc::Global;
 
 // The initial capacity of a list of changes.
 const INITIAL_CAPACITY: usize = 16;
 
-// The changes from the current voters and learners to those of the target, by ascending id. The four sets are walked
-// side by side, so that each id is met once with its roles in all of them.
+// The changes from the current voters and learners to those of the target, by ascending id. Each id of the four sets is
+// looked up in all of them.
 pub(crate) fn moves_to<S: MemberSet>(
     alloc: Global,
     incoming: &S,
@@ -28,71 +29,32 @@ pub(crate) fn moves_to<S: MemberSet>(
     ensures moves { IfOk result (λ changes. changes.items ≡ moves (single_with (S.ids incoming.now) (S.ids learners.now)) (S.ids to_voters.now) (S.ids to_learners.now)) }
     ensures u64_ids { IfOk result (λ changes. All (λ change. change.id < 2 ^ 64) changes.items) }
 {
+    let ids = union_of_all(alloc, to_voters, to_learners, incoming, learners)?;
     let mut changes = Vec::with_capacity(alloc, INITIAL_CAPACITY)?;
-    let mut voter_walk = Walk::begin(incoming);
-    let mut learner_walk = Walk::begin(learners);
-    let mut to_voter_walk = Walk::begin(to_voters);
-    let mut to_learner_walk = Walk::begin(to_learners);
-    while let Some(id) = earlier(
-        earlier(to_voter_walk.next, to_learner_walk.next),
-        earlier(voter_walk.next, learner_walk.next),
-    ) {
-        let target_voter = to_voter_walk.pass(to_voters, id);
-        let target_learner = to_learner_walk.pass(to_learners, id);
-        let voter = voter_walk.pass(incoming, id);
-        let learner = learner_walk.pass(learners, id);
-        if let Some(kind) = kind_of_move(target_voter, target_learner, voter, learner) {
-            changes.push(Change { kind, id })?;
+    for position in 0..ids.len() {
+        if let Some(id) = ids.at(position) {
+            let target_voter = to_voters.contains(id);
+            let target_learner = to_learners.contains(id);
+            let voter = incoming.contains(id);
+            let learner = learners.contains(id);
+            if let Some(kind) = kind_of_move(target_voter, target_learner, voter, learner) {
+                changes.push(Change { kind, id })?;
+            }
         }
     }
     Ok(changes)
 }
 
-// A position in a walk over the ids of a set: an index, and the id there, `None` at the end.
-#[derive(Drop)]
-struct Walk {
-    index: usize,
-    next: Option<u64>,
-}
-
-impl Walk {
-    // A walk at the first id.
-    fn begin<S: MemberSet>(ids: &S) -> Walk
-        ensures begun { result.index ≡ 0 }
-        ensures standing { IsAt (S.ids ids.now) result.index result.next }
-    {
-        // The length fits a usize, so the indexes do.
-        let _len = ids.len();
-        Walk {
-            index: 0,
-            next: ids.at(0),
-        }
-    }
-
-    // Moves past the id if it comes next, and returns whether it does.
-    fn pass<S: MemberSet>(&mut self, ids: &S, id: u64) -> bool
-        requires { IsAt (S.ids ids.now) self.old.index self.old.next }
-        ensures passed { IsAdvanced (S.ids ids.now) self.old.index id result self.new.index }
-        ensures standing { IsAt (S.ids ids.now) self.new.index self.new.next }
-    {
-        let here = self.next == Some(id);
-        if here {
-            self.index += 1;
-            self.next = ids.at(self.index);
-        }
-        here
-    }
-}
-
-// The smaller of two ids, or the only one; a walk at its end has none.
-fn earlier(a: Option<u64>, b: Option<u64>) -> Option<u64>
-    ensures { IsEarliest a b result }
+// The union of four sets: one list of their ids is sorted once.
+fn union_of_all<S: MemberSet>(alloc: Global, a: &S, b: &S, c: &S, d: &S) -> Result<S, NoMemory>
+    ensures { IfOk result (λ all. S.ids all ≡ union (union (S.ids a.now) (S.ids b.now)) (union (S.ids c.now) (S.ids d.now))) }
 {
-    match (a, b) {
-        (Some(x), Some(y)) => { if x <= y { a } else { b } }
-        (Some(_), None) => a,
-        (None, _) => b,
-    }
+    let mut ids = SmallVec::new(alloc);
+    add_ids(&mut ids, a)?;
+    add_ids(&mut ids, b)?;
+    add_ids(&mut ids, c)?;
+    add_ids(&mut ids, d)?;
+    S::of_list(alloc, ids.as_slice())
 }
 
 // The kind of change that an id needs, if any, by its roles in the target and now. A voter that is a learner in the

@@ -69,12 +69,26 @@ fn add_in_order<S: MemberSet>(
 ) -> Result<(), NoMemory>
     ensures { OnOk result (IsAdded steps.old.items (flat_map (steps_of (single_with (S.ids start.now.incoming.now) (S.ids start.now.learners.now)) target.now) (order (S.ids down.now) (single_with (S.ids start.now.incoming.now) (S.ids start.now.learners.now)) target.now)) steps.new.items) }
 {
-    let joining = picked(alloc, &target.incoming, |id| !start.incoming.contains(id))?;
-    let retiring = picked(alloc, start.incoming, |id| !target.incoming.contains(id))?;
-    let joining_up = picked(alloc, &joining, |id| !down.contains(id))?;
-    let joining_down = picked(alloc, &joining, |id| down.contains(id))?;
-    let retiring_up = picked(alloc, &retiring, |id| !down.contains(id))?;
-    let retiring_down = picked(alloc, &retiring, |id| down.contains(id))?;
+    let joining_up = picked(
+        alloc,
+        &target.incoming,
+        |id| !start.incoming.contains(id) && !down.contains(id),
+    )?;
+    let joining_down = picked(
+        alloc,
+        &target.incoming,
+        |id| !start.incoming.contains(id) && down.contains(id),
+    )?;
+    let retiring_up = picked(
+        alloc,
+        start.incoming,
+        |id| !target.incoming.contains(id) && !down.contains(id),
+    )?;
+    let retiring_down = picked(
+        alloc,
+        start.incoming,
+        |id| !target.incoming.contains(id) && down.contains(id),
+    )?;
     let learners = union(start.learners, &target.learners)?;
     let other_learners = picked(
         alloc,

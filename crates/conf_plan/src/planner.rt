@@ -11,7 +11,7 @@
 //!
 //! So the longest plan has four steps: leave-joint, enter-joint, leave-joint, enter-joint.
 ghost use Rattle.std.specs.Prelude.{◌≡◌, ◌↔◌, true, false, [], ◌∷◌, Err, IfOk, OnOk};
-ghost use Rattle.conf_change.specs.Configuration.{is_joint, is_valid, has_voter};
+ghost use Rattle.conf_change.specs.Configuration.{is_joint, is_same, is_same_set, is_valid, has_voter};
 ghost use Rattle.conf_plan.specs.PathBy.{from_single_by, path_by};
 ghost use Rattle.conf_plan.specs.Planned.{single_with, single_steps, entering_step, joint_steps, planned_from_single, planned};
 ghost use Rattle.conf_plan.specs.Best.{IsBest};
@@ -81,8 +81,8 @@ pub fn plan<S: MemberSet>(
     }
 }
 
-// Appends the path from one configuration to another by a strategy, while these ids are down. Every path out of a joint configuration begins with
-// leaving it.
+// Appends the path from one configuration to another by a strategy, while these ids are down. Every path out of a joint
+// configuration begins with leaving it.
 pub(crate) fn add_path<S: MemberSet>(
     alloc: Global,
     strategy: Strategy,
@@ -98,18 +98,18 @@ pub(crate) fn add_path<S: MemberSet>(
     if now.same(target) {
         return Ok(());
     }
-    if now.outgoing.len() == 0 {
+    if is_joint(now) {
+        steps.push(Step::LeaveJoint)?;
+        let learners = union(&now.learners, &now.learners_next)?;
         let start = Single {
             incoming: &now.incoming,
-            learners: &now.learners,
+            learners: &learners,
         };
         return add_from_single_by(alloc, strategy, steps, &start, target, down);
     }
-    steps.push(Step::LeaveJoint)?;
-    let learners = union(&now.learners, &now.learners_next)?;
     let start = Single {
         incoming: &now.incoming,
-        learners: &learners,
+        learners: &now.learners,
     };
     add_from_single_by(alloc, strategy, steps, &start, target, down)
 }
@@ -145,15 +145,39 @@ pub(crate) fn add_from_single<S: MemberSet>(
     requires target { IsValidWithVoter target.now }
     ensures { OnOk result (IsAdded steps.old.items (planned_from_single (single_with (S.ids start.now.incoming.now) (S.ids start.now.learners.now)) target.now) steps.new.items) }
 {
-    if target.outgoing.len() != 0 {
-        add_joint_steps(alloc, steps, start, target)
-    } else if symdiff(start.incoming, &target.incoming) == 0
-        && symdiff(start.learners, &target.learners) == 0
-    {
+    if is_same(alloc, start, target) {
         Ok(())
+    } else if is_joint(target) {
+        add_joint_steps(alloc, steps, start, target)
     } else {
         add_single_steps(alloc, steps, start, &target.incoming, &target.learners)
     }
+}
+
+// Whether the configuration has outgoing voters.
+fn is_joint<S: MemberSet>(config: &Config<S>) -> bool
+    ensures { result ≡ is_joint config.now }
+{
+    config.outgoing.len() != 0
+}
+
+// Whether a configuration that is not joint is the target.
+fn is_same<S: MemberSet>(alloc: Global, start: &Single<S>, target: &Config<S>) -> bool
+    ensures { result ≡ is_same (single_with (S.ids start.now.incoming.now) (S.ids start.now.learners.now)) target.now }
+{
+    let none = S::empty(alloc);
+    has_same_ids(start.incoming, &target.incoming)
+        && has_same_ids(&none, &target.outgoing)
+        && has_same_ids(start.learners, &target.learners)
+        && has_same_ids(&none, &target.learners_next)
+        && !target.auto_leave
+}
+
+// Whether two sets have the same ids.
+fn has_same_ids<S: MemberSet>(a: &S, b: &S) -> bool
+    ensures { result ≡ is_same_set (S.ids a.now) (S.ids b.now) }
+{
+    symdiff(a, b) == 0
 }
 
 // Appends the plan from a configuration that is not joint to a joint one. Entering a joint configuration makes the
@@ -169,7 +193,7 @@ fn add_joint_steps<S: MemberSet>(
     requires joint { is_joint target.now ≡ true }
     ensures { OnOk result (IsAdded steps.old.items (joint_steps (single_with (S.ids start.now.incoming.now) (S.ids start.now.learners.now)) target.now) steps.new.items) }
 {
-    if symdiff(start.incoming, &target.outgoing) == 0 {
+    if has_same_ids(start.incoming, &target.outgoing) {
         return add_entering_step(alloc, steps, start, target);
     }
     // The inserted steps make the target's outgoing voters the incoming ones, with the shared members as learners.

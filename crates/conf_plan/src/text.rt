@@ -8,11 +8,12 @@
 //! ```
 ghost use Rattle.std.specs.Prelude.{◌≡◌, ◌⊎◌, ◌<◌, ◌≤◌, [], ◌∷◌, ◌++◌, List, Ok, Err, length, map, flat_map, IfOk, IfErr, OnOk, OnErr};
 ghost use Rattle.std.specs.List.{join_with_byte};
+ghost use Rattle.ascii_text.specs.Lines.{full_lines};
 ghost use Rattle.ascii_text.specs.Tokens.{tokens_in};
 ghost use Rattle.conf_change.specs.ChangeList.{letter_of};
 ghost use Rattle.conf_change.specs.Text.{Extends};
 ghost use Rattle.conf_change.specs.declared.step.Step.{Step};
-ghost use Rattle.conf_plan.specs.PlanText.{ParsesToPath, ParsesToPlan, HasPathFault, HasPlanFault, command_tokens, change_text, spaced_change, line_and_newline, plan_text, plan_lines};
+ghost use Rattle.conf_plan.specs.PlanText.{ParsesToPath, ParsesToPlan, HasPathFault, HasPlanFault, command_tokens, change_text, spaced_change, line_and_newline, plan_text};
 ghost use Rattle.conf_plan.specs.PlanCode as code;
 ghost use Rattle.conf_plan.specs.PlanCode.{path_in, plan_in, step_in, enter_in, list_in};
 ghost use Rattle.conf_plan.specs.declared.text.PlanTextFault.{PlanTextFault};
@@ -20,7 +21,7 @@ ghost use Rattle.conf_plan.specs.declared.text.PlanTextFault.{PlanTextFault};
 use crate::path::Path;
 use crate::step_list::Plan;
 use ascii_text::append::append_number;
-use ascii_text::position::far_position_of;
+use ascii_text::lines::next_full_line;
 use ascii_text::tokens::next_token;
 use conf_change::{Change, Changes, Kind, Step, TokenFault, read_changes};
 use quorum_sets::NoMemory;
@@ -239,34 +240,29 @@ pub fn read_path(alloc: Global, text: &[u8]) -> Result<Path, PlanTextFault>
 fn read_lines(alloc: Global, text: &[u8]) -> Result<Path, PlanTextFault>
     ensures { (result ≡ path_in text.now) ⊎ (result ≡ Err PlanTextFault.NoMemory) }
 {
-    let (line, after) = first_line(text);
-    if after.is_empty() && is_nothing(line) {
-        return Ok(Path::of_steps(Vec::new(alloc)));
+    if text.is_empty() {
+        return Err(PlanTextFault::BadLine(1));
     }
     let mut steps = Vec::new(alloc);
+    if is_nothing_to_do(text) {
+        return Ok(Path::of_steps(steps));
+    }
     let mut rest = text;
-    loop {
-        let (line, after) = first_line(rest);
+    while let Some((line, after)) = next_full_line(rest) {
         let step = read_step(alloc, line)?.ok_or(PlanTextFault::BadLine(steps.len() + 1))?;
         steps.push(step)?;
-        if after.is_empty() {
-            return Ok(Path::of_steps(steps));
-        }
         rest = after;
     }
+    Ok(Path::of_steps(steps))
 }
 
-// The first line, without its newline, and the text that follows that newline.
-fn first_line(text: &[u8]) -> (&[u8], &[u8])
-    ensures last { length result.1.now ≡ 0 → plan_lines text.now ≡ result.0.now ∷ [] }
-    ensures more { 0 < length result.1.now → plan_lines text.now ≡ result.0.now ∷ plan_lines result.1.now }
-    ensures within { length result.1.now ≤ length text.now }
-    ensures shorter { 0 < length result.1.now → length result.1.now < length text.now }
+// Whether the text is the one line `nothing to do`.
+fn is_nothing_to_do(text: &[u8]) -> bool
+    ensures { result ≡ code.is_nothing_to_do (full_lines text.now) }
 {
-    let (line, after) = text.split_at(far_position_of(text, b'\n'));
-    match after {
-        [_, after @ ..] => (line, after),
-        [] => (line, after),
+    match next_full_line(text) {
+        Some((line, after)) => is_nothing(line) && next_full_line(after).is_none(),
+        None => false,
     }
 }
 

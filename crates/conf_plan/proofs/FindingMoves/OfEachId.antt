@@ -1,14 +1,14 @@
 -- What the list of moves states of each id.
-use Rattle.std.proofs.Common.{◌≡◌, ℕ, Bool, true, false, cond, not, ◌&&◌, ◌||◌, ◌==◌, List, [], ◌∷◌, reverse, refl, sym, ap, ◌∙◌, eqb-true, arith}
+use Rattle.std.proofs.Common.{◌≡◌, ℕ, Bool, false, cond, not, ◌&&◌, ◌||◌, ◌==◌, List, [], ◌∷◌, reverse, refl, sym, ap, ◌∙◌, eqb-true, arith}
 use Rattle.std.specs.Prelude.{Option, Some, None, IfSome, option_map, filter_map, find}
 use Rattle.std.specs.Option.{option_or}
-use Rattle.std.specs.Cmp.{nat_eq_equiv}
 use Rattle.std.specs.List.{list_any, cons_option}
 use Rattle.std.proofs.lemmas.Bool.{not-false}
 use Rattle.std.proofs.lemmas.List.{reverse-append}
-use Rattle.std.proofs.lemmas.List.Folds.{find-append, list_any-append}
-use Rattle.quorum_sets.specs.Ids.{Ids, has, ascending, union}
-use Rattle.quorum_sets.proofs.Offered.{has-ascending, has-ids_of}
+use Rattle.std.proofs.lemmas.List.Folds.{find-append}
+use Rattle.quorum_sets.specs.Ids.{Ids, has, union}
+use Rattle.quorum_sets.proofs.Offered.{has-ascending}
+pub use Rattle.quorum_sets.proofs.Offered.{has-union}
 use Rattle.conf_change.specs.Configuration.{Configuration}
 use Rattle.conf_change.specs.Change.{names, last_effective, is_update}
 use Rattle.conf_change.specs.declared.change.Change.{Change}
@@ -45,10 +45,6 @@ last_effective-each kind_for plain [] q = refl
 last_effective-each kind_for plain (x ∷ xs) q = with_first kind_for x q _ _ (kind_for x) refl (plain x) (last_effective-each kind_for plain xs q)
 
 -- ---- the moves
-pub has-union : (a b : Ids) (q : ℕ) → has (union a b) q ≡ (has a q || has b q)
-has-union a b q =
-    has-ids_of _ q ∙ list_any-append (λ x. q == x) (ascending a) (ascending b) ∙ sym (λ i. has-ascending a q i || has-ascending b q i)
-
 pub kind_by-no_update : (v m i l : Bool) → IfSome (kind_by v m i l) (λ kind. is_update kind ≡ false)
 kind_by-no_update v m i l = grind arith
 

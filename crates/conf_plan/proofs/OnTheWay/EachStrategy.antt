@@ -10,8 +10,7 @@ use Rattle.conf_plan.specs.declared.strategy.Strategy.{Strategy}
 use Rattle.conf_plan.specs.declared.strategy.Strategy.TheVariants.{Shortest, LearnersFirst, OneAtATime}
 use Rattle.conf_plan.proofs.OnTheWay.LearnersFirst.{learners_first-keeps_promises}
 use Rattle.conf_plan.proofs.OnTheWay.OneAtATimePath.{one_at_a_time-keeps_promises}
-use Rattle.conf_plan.proofs.OnTheWay.Quorums.{planned-keeps_quorums}
-use Rattle.conf_plan.proofs.OnTheWay.Tolerance.{KeepsTolerance-from_quorums}
+use Rattle.conf_plan.proofs.OnTheWay.Quorums.{KeepsTolerance-from_quorums, planned-keeps_quorums}
 use Rattle.conf_plan.proofs.BestPlan.Theorem.{planned-is_best}
 use Rattle.conf_plan.proofs.PlannedSteps.RunToTarget.{planned-at_most_four}
 

@@ -1,9 +1,9 @@
 -- What a step of one change makes of a configuration that is not joint.
-use Rattle.std.proofs.Common.{◌≡◌, ℕ, ◌≤◌, Bool, true, false, cond, not, ◌&&◌, ◌==◌, [], ◌∷◌, refl, sym, ap, subst, ◌∙◌, eqb-true, arith}
+use Rattle.std.proofs.Common.{◌≡◌, ℕ, ◌≤◌, Bool, true, false, cond, not, ◌==◌, [], ◌∷◌, refl, ap, subst, eqb-true, arith}
 use Rattle.std.specs.Prelude.{Some, None}
-use Rattle.quorum_sets.specs.Ids.{Ids, no_ids, has, is_empty, difference_count}
+use Rattle.quorum_sets.specs.Ids.{Ids, has, is_empty, difference_count}
 use Rattle.quorum_sets.proofs.Offered.{has-no_ids}
-use Rattle.conf_change.specs.Change.{last_effective, is_update, is_incoming_after, is_learner_after, is_next_after, result_of}
+use Rattle.conf_change.specs.Change.{last_effective, result_of}
 use Rattle.conf_change.specs.Configuration.{Configuration}
 use Rattle.conf_change.specs.declared.change.Kind.{Kind}
 use Rattle.conf_change.specs.declared.change.Kind.TheVariants.{Voter, Learner, Remove}
@@ -18,23 +18,8 @@ abbrev pub kind_for : Bool → Bool → Kind
 kind_for votes learns = cond votes Voter (cond learns Learner Remove)
 
 -- the list of one change is about its id alone
-one_effect : (kind : Kind) (id q : ℕ) → is_update kind ≡ false → (id == 0) ≡ false → last_effective (change_of id kind ∷ []) q ≡ cond (q == id) (Some kind) None
-one_effect kind id q plain other = last_effective-one (change_of id kind) q ∙ alone plain other
-  where
-    alone : is_update kind ≡ false → (id == 0) ≡ false → cond ((id == q) && not (q == 0) && not (is_update kind)) (Some kind) None ≡ cond (q == id) (Some kind) None
-    alone plain other = grind (arith, eqb-true id q)
-
-plain : (votes learns : Bool) → is_update (kind_for votes learns) ≡ false
-plain votes learns = grind arith
-
-incoming_by : (votes learns here was : Bool) → is_incoming_after (cond here (Some (kind_for votes learns)) None) was ≡ cond here votes was
-incoming_by votes learns here was = grind arith
-
-learners_by : (votes learns here out was : Bool) → (votes ≡ true → learns ≡ false) → out ≡ false → is_learner_after (cond here (Some (kind_for votes learns)) None) out was ≡ cond here learns was
-learners_by votes learns here out was apart single = grind arith
-
-next_by : (votes learns here out was : Bool) → out ≡ false → was ≡ false → is_next_after (cond here (Some (kind_for votes learns)) None) out was ≡ was
-next_by votes learns here out was single none = grind arith
+one_effect : (votes learns : Bool) (id q : ℕ) → (id == 0) ≡ false → last_effective (change_of id (kind_for votes learns) ∷ []) q ≡ cond (q == id) (Some (kind_for votes learns)) None
+one_effect votes learns id q other = grind (arith, last_effective-one (change_of id (kind_for votes learns)) q, other, eqb-true id q)
 
 -- the id gets these roles, and the others keep theirs
 pub one_change-leads : (voters learners voters_after learners_after : Ids) (votes learns : Bool) (id : ℕ) → (id == 0) ≡ false → (votes ≡ true → learns ≡ false) → is_empty voters_after ≡ false
@@ -44,15 +29,11 @@ one_change-leads voters learners voters_after learners_after votes learns id oth
     let c = single_with voters learners in
     let after = single_with voters_after learners_after in
     let change = change_of id (kind_for votes learns) in
-    let effect = λ (q : ℕ). one_effect (kind_for votes learns) id q (plain votes learns) other in
+    let effect = λ (q : ℕ). one_effect votes learns id q other in
     let made : result_of c (change ∷ []) ≡ after =
     configuration-by_members (result_of c (change ∷ [])) after
-    (λ q. has-incoming_after c (change ∷ []) q ∙ ap (λ o. is_incoming_after o (has voters q)) (effect q) ∙ incoming_by votes learns (q == id) (has voters q) ∙ sym (votes_at q))
-    refl
-    (λ q. has-learners_after c (change ∷ []) q ∙ ap (λ o. is_learner_after o (has no_ids q) (has learners q)) (effect q)
-    ∙ learners_by votes learns (q == id) (has no_ids q) (has learners q) apart (has-no_ids q) ∙ sym (learns_at q))
-    (λ q. has-next_after c (change ∷ []) q ∙ ap (λ o. is_next_after o (has no_ids q) (has no_ids q)) (effect q)
-    ∙ next_by votes learns (q == id) (has no_ids q) (has no_ids q) (has-no_ids q) (has-no_ids q))
-    refl in
+    (λ q. grind (arith, has-incoming_after c (change ∷ []) q, effect q, votes_at q)) refl
+    (λ q. grind (arith, has-learners_after c (change ∷ []) q, effect q, learns_at q, has-no_ids q, apart))
+    (λ q. grind (arith, has-next_after c (change ∷ []) q, effect q, has-no_ids q)) refl in
     let FewDiffer : Configuration → Type 0 = λ d. difference_count voters d.incoming ≤ 1 in
     outcome-simple_accepted c after (change ∷ []) (ap not is_empty-no_ids) made (ap not some) (subst FewDiffer made (one_change-one_voter c change))

@@ -1,18 +1,17 @@
 -- The functions that read the lines of a path and of a plan, against the relations.
-use Rattle.std.proofs.Common.{◌≡◌, ℕ, zero, suc, ◌+◌, ◌<◌, ◌≤◌, Bool, true, false, ◌&&◌, ◌⊎◌, inl, inr, List, [], ◌∷◌, ◌++◌, length, take, Option, Some, None, Result, Ok, Err, cond, leb, refl, sym, ap, ◌∙◌, subst, arith}
-use Rattle.std.specs.Prelude.{codes, bytes_eq, IfOk, IfErr, MatchResult}
+use Rattle.std.proofs.Common.{◌≡◌, ℕ, zero, suc, ◌+◌, ◌<◌, ◌≤◌, Bool, true, false, ◌⊎◌, inl, inr, List, [], ◌∷◌, ◌++◌, length, take, Option, Some, None, Result, Ok, Err, cond, leb, refl, sym, ap, ◌∙◌, subst, arith}
+use Rattle.std.specs.Prelude.{IfOk, IfErr, MatchResult}
 use Rattle.std.specs.List.{AllZip}
-use Rattle.std.proofs.lemmas.Bool.{le-leb, lt-leb, leb-true, leb-false, cond-true, cond-false, true≢false, and_parts}
+use Rattle.std.proofs.lemmas.Bool.{le-leb, lt-leb, leb-true, leb-false, cond-true, cond-false, cond_both, true≢false, false_from_ne_true}
 use Rattle.std.proofs.lemmas.List.{length-append, take-append-le}
-use Rattle.std.proofs.lemmas.Slice.Eq.{bytes_eq-Decides}
+use Rattle.std.proofs.lemmas.Slice.Eq.{bytes_eq-Decides, slice_eq-Decides}
 use Rattle.std.proofs.lemmas.Slice.Zip.{AllZip-long}
 use Rattle.ascii_text.specs.Tokens.{tokens_in}
 use Rattle.conf_change.specs.declared.step.Step.{Step}
 use Rattle.conf_plan.specs.PlanText.{plan_lines, IsLineOf, IsNothingToDo, IsFirstBadLine, IsTooLong, ParsesToPath, ParsesToPlan, HasPathFault, HasPlanFault}
-use Rattle.conf_plan.specs.PlanCode.{step_in, and_steps, steps_in, is_nothing, path_in_lines, path_in, at_most_four, plan_in}
+use Rattle.conf_plan.specs.PlanCode.{step_in, and_steps, steps_in, is_nothing, is_nothing_to_do, path_in, at_most_four, plan_in}
 use Rattle.conf_plan.specs.declared.text.PlanTextFault.{PlanTextFault}
 use Rattle.conf_plan.specs.declared.text.PlanTextFault.TheVariants.{BadLine, TooManySteps, NoMemory}
-use Rattle.conf_plan.proofs.PlanText.LineByLine.{lines_of-some}
 use Rattle.conf_plan.proofs.PlanText.StepFromTokens.{step_in-some, IsLineOf-from_some, IsLineOf-none, step_in-none}
 
 -- ---- from the relations to the function
@@ -62,66 +61,27 @@ IsAnswerOfLines-steps_in (line ∷ lines) = go (step_in (tokens_in line)) refl (
   go (Some step) is later = with_step line lines step (steps_in lines) (IsLineOf-from_some line step is) later
 
 -- ---- the line that states that there is nothing to do
-nothing_tokens-from_true : (tokens : List (List ℕ)) → is_nothing tokens ≡ true → tokens ≡ codes "nothing" ∷ codes "to" ∷ codes "do" ∷ []
-nothing_tokens-from_true [] e = absurd (true≢false (sym e))
-nothing_tokens-from_true (a ∷ []) e = absurd (true≢false (sym e))
-nothing_tokens-from_true (a ∷ b ∷ []) e = absurd (true≢false (sym e))
-nothing_tokens-from_true (a ∷ b ∷ c ∷ []) e =
-    let all = and_parts (bytes_eq a (codes "nothing") && bytes_eq b (codes "to")) (bytes_eq c (codes "do")) e in
-    let prefix = and_parts (bytes_eq a (codes "nothing")) (bytes_eq b (codes "to")) all.0 in
-    rw ((bytes_eq-Decides a (codes "nothing")).0 prefix.0, (bytes_eq-Decides b (codes "to")).0 prefix.1, (bytes_eq-Decides c (codes "do")).0 all.1) refl
-nothing_tokens-from_true (a ∷ b ∷ c ∷ d ∷ tokens) e = absurd (true≢false (sym e))
+IsNothingToDo-from_true : (text : List ℕ) → is_nothing_to_do (plan_lines text) ≡ true → IsNothingToDo text
+IsNothingToDo-from_true text e = go (plan_lines text) refl e where
+  go : (lines : List (List ℕ)) → plan_lines text ≡ lines → is_nothing_to_do lines ≡ true → IsNothingToDo text
+  go [] are e = absurd (true≢false (sym e))
+  go (line ∷ []) are e = record { line = line; alone = are; line_tokens = (slice_eq-Decides bytes_eq-Decides (tokens_in line) _ (is_nothing (tokens_in line)) refl).0 e }
+  go (line ∷ next ∷ lines) are e = absurd (true≢false (sym e))
+
+is_nothing_to_do-true : (text : List ℕ) → IsNothingToDo text → is_nothing_to_do (plan_lines text) ≡ true
+is_nothing_to_do-true text h = ap is_nothing_to_do h.alone ∙ ap is_nothing h.line_tokens
 
 path_in-nothing_to_do : (text : List ℕ) → IsNothingToDo text → path_in text ≡ Ok []
-path_in-nothing_to_do text h = ap path_in_lines h.alone ∙ rw h.line_tokens refl
-
-alone_same : (a b : List ℕ) → a ∷ [] ≡ b ∷ [] → a ≡ b
-alone_same a b e = cc
-
--- a line that is all of such a text has its tokens
-is_nothing_alone : (text line : List ℕ) → plan_lines text ≡ line ∷ [] → IsNothingToDo text → is_nothing (tokens_in line) ≡ true
-is_nothing_alone text line are h = ap is_nothing (ap tokens_in (alone_same line h.line (sym are ∙ h.alone)) ∙ h.line_tokens)
-
-pub something-other_tokens : (text line : List ℕ) → plan_lines text ≡ line ∷ [] → is_nothing (tokens_in line) ≡ false → ¬ (IsNothingToDo text)
-something-other_tokens text line are is_alone h = true≢false (sym (is_nothing_alone text line are h) ∙ is_alone)
-
-pub something-more_lines : (text line rest : List ℕ) → plan_lines text ≡ line ∷ plan_lines rest → ¬ (IsNothingToDo text)
-something-more_lines text line rest are h = let none = sym (are ∙ ap (λ lines. line ∷ lines) (lines_of-some rest).are) ∙ h.alone in absurd cc
-
--- whether it is said, by the lines of the text
-decided : (text : List ℕ) → IsNothingToDo text ⊎ (¬ (IsNothingToDo text) × (path_in text ≡ steps_in (plan_lines text)))
-decided text = go (plan_lines text) refl where
-  single : (line : List ℕ) (is_alone : Bool) → plan_lines text ≡ line ∷ [] → is_nothing (tokens_in line) ≡ is_alone → IsNothingToDo text ⊎ (¬ (IsNothingToDo text) × (path_in text ≡ steps_in (plan_lines text)))
-  single line true are is_alone = inl (record { line = line; alone = are; line_tokens = nothing_tokens-from_true (tokens_in line) is_alone })
-  single line false are is_alone = inr (
-    something-other_tokens text line are is_alone,
-    ap path_in_lines are ∙ rw is_alone (sym (ap steps_in are)),
-  )
-
-  go : (lines : List (List ℕ)) → plan_lines text ≡ lines → IsNothingToDo text ⊎ (¬ (IsNothingToDo text) × (path_in text ≡ steps_in (plan_lines text)))
-  go [] are = inr ((λ h. let none = sym are ∙ h.alone in absurd cc), ap path_in_lines are ∙ sym (ap steps_in are))
-  go (line ∷ []) are = single line (is_nothing (tokens_in line)) are refl
-  go (line ∷ next ∷ lines) are = inr ((λ h. let none = sym are ∙ h.alone in absurd cc), ap path_in_lines are ∙ sym (ap steps_in are))
+path_in-nothing_to_do text h = cond-true (is_nothing_to_do (plan_lines text)) _ _ (is_nothing_to_do-true text h)
 
 path_in-steps : (text : List ℕ) → ¬ (IsNothingToDo text) → path_in text ≡ steps_in (plan_lines text)
-path_in-steps text none = elim (decided text) [
-  | inl is_alone ↦ absurd (none is_alone)
-  | inr other ↦ other.1
-]
+path_in-steps text none = cond-false (is_nothing_to_do (plan_lines text)) _ _ (false_from_ne_true _ (λ e. none (IsNothingToDo-from_true text e)))
 
 -- ---- answers of a function that is exact for two relations
 pub record IsExact (Means : List Step → Type 0) (Refuses : PlanTextFault → Type 0) (answer : Result (List Step) PlanTextFault) : Type 0 where
   pub ok : (steps : List Step) → Means steps → answer ≡ Ok steps
   pub err : (fault : PlanTextFault) → Refuses fault → answer ≡ Err fault
   pub is : MatchResult answer Means Refuses
-
-pub Means-from_ok : (Means : List Step → Type 0) (Refuses : PlanTextFault → Type 0) (answer : Result (List Step) PlanTextFault) → IsExact Means Refuses answer
-    → (steps : List Step) → answer ≡ Ok steps → Means steps
-Means-from_ok Means Refuses answer h steps e = subst (λ r. MatchResult r Means Refuses) e h.is
-
-pub Refuses-from_err : (Means : List Step → Type 0) (Refuses : PlanTextFault → Type 0) (answer : Result (List Step) PlanTextFault) → IsExact Means Refuses answer
-    → (fault : PlanTextFault) → answer ≡ Err fault → Refuses fault
-Refuses-from_err Means Refuses answer h fault e = subst (λ r. MatchResult r Means Refuses) e h.is
 
 pub means-or_refuses : (Means : List Step → Type 0) (Refuses : PlanTextFault → Type 0) (answer : Result (List Step) PlanTextFault) → MatchResult answer Means Refuses
     → ((steps : List Step) × Means steps) ⊎ ((fault : PlanTextFault) × Refuses fault)
@@ -185,10 +145,9 @@ of_lines text something (Err NoMemory) h = absurd h
 pub path_in-is_exact : (text : List ℕ) → IsExact (ParsesToPath text) (HasPathFault text) (path_in text)
 path_in-is_exact text = record { ok = path_in-ok text; err = path_in-fault text; is = is } where
   is : MatchResult (path_in text) (ParsesToPath text) (HasPathFault text)
-  is = elim (decided text) [
-    | inl is_alone ↦ subst (λ r. MatchResult r (ParsesToPath text) (HasPathFault text)) (sym (path_in-nothing_to_do text is_alone)) (inl (refl, is_alone))
-    | inr other ↦ subst (λ r. MatchResult r (ParsesToPath text) (HasPathFault text)) (sym other.1) (of_lines text other.0 (steps_in (plan_lines text)) (IsAnswerOfLines-steps_in (plan_lines text)))
-  ]
+  is = cond_both (is_nothing_to_do (plan_lines text)) _ _ (λ read. MatchResult read (ParsesToPath text) (HasPathFault text))
+      (λ e. inl (refl, IsNothingToDo-from_true text e))
+      (λ e. of_lines text (λ h. true≢false (sym (is_nothing_to_do-true text h) ∙ e)) (steps_in (plan_lines text)) (IsAnswerOfLines-steps_in (plan_lines text)))
 
 -- ---- at most four lines
 AllZip-take : (n : ℕ) (lines : List (List ℕ)) (steps : List Step) → AllZip IsLineOf lines steps → AllZip IsLineOf (take n lines) (take n steps)

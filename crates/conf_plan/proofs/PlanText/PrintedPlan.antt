@@ -1,169 +1,147 @@
 -- The printed lines of a path denote its steps.
-use Rattle.std.proofs.Common.{◌≡◌, ℕ, ◌<◌, ◌≤◌, ◌^◌, Bool, true, false, not, List, [], ◌∷◌, ◌++◌, length, get_or, map, Ok, refl, sym, ap, ◌∙◌, arith, inl, inr}
+use Rattle.std.proofs.Common.{◌≡◌, ℕ, ◌<◌, ◌≤◌, ◌^◌, ◌==◌, Bool, true, false, not, List, [], ◌∷◌, ◌++◌, length, get_or, map, Ok, refl, ap, ◌∙◌, arith, inl, inr}
 use Rattle.std.specs.Prelude.{codes, decimal, flat_map}
-use Rattle.std.specs.List.{All, AllZip, list_all, join_with_byte}
+use Rattle.std.specs.List.{All, AllByRecursion, AllZip, list_all, join_with_byte}
 use Rattle.std.specs.Str.Parse.{AllDigits}
-use Rattle.std.proofs.lemmas.Bool.{lt-ltb}
+use Rattle.std.proofs.lemmas.Bool.{lt-ltb, not-true, and_from}
 use Rattle.std.proofs.lemmas.Bool.Decides.{nat_tests}
 use Rattle.std.proofs.lemmas.Fmt.{decimal_is_IsNumeral}
 use Rattle.std.proofs.lemmas.List.{append_assoc, length-append, append-nil}
-use Rattle.std.proofs.lemmas.List.Elements.{All-nil, All-cons, All-append, All-head, All-tail, All-from_get_or, All-weaker}
-use Rattle.std.proofs.lemmas.List.Sums.{AllPass-from_list_all}
-use Rattle.std.proofs.lemmas.List.Splits.{slice_split_none, slice_split_at}
+use Rattle.std.proofs.lemmas.List.Elements.{All-from_get_or, All-weaker, recursion_from_All}
+use Rattle.std.proofs.lemmas.List.Folds.{list_all-append}
+use Rattle.std.proofs.lemmas.List.Sums.{AllPass-from_list_all, list_all-from_AllPass}
+use Rattle.std.proofs.lemmas.List.Splits.{slice_split_none}
 use Rattle.std.proofs.lemmas.Str.Parse.{digit_at}
+use Rattle.ascii_text.specs.Lines.{full_lines}
 use Rattle.ascii_text.specs.WhiteSpace.{is_space}
-use Rattle.ascii_text.specs.Tokens.{tokens_in}
+use Rattle.ascii_text.specs.Tokens.{has_bytes, tokens_in}
+use Rattle.ascii_text.proofs.Offered.{tokens_in-at_space}
 use Rattle.conf_change.specs.ChangeList.{letter_of, ParsesTo, Denotes}
 use Rattle.conf_change.specs.declared.change.Change.{Change}
 use Rattle.conf_change.specs.declared.change.Kind.{Kind}
-use Rattle.conf_change.specs.declared.change.Kind.TheVariants.{Voter, Learner, Remove, Update}
 use Rattle.conf_change.specs.declared.step.Step.{Step}
 use Rattle.conf_change.specs.declared.step.Step.TheVariants.{Simple, EnterJoint, LeaveJoint}
 use Rattle.conf_change.specs.Step.{changes_of}
 use Rattle.conf_plan.specs.PlanSteps.{HasU64Ids, IsPlan}
-use Rattle.conf_plan.specs.PlanText.{flag_token, command_tokens, change_text, line_text, line_and_newline, plan_text, is_newline, plan_lines, IsLineOf, ParsesToPath, ParsesToPlan}
+use Rattle.conf_plan.specs.PlanText.{command_tokens, change_text, line_text, line_and_newline, plan_text, IsLineOf, ParsesToPath, ParsesToPlan}
 use Rattle.conf_plan.specs.PlanCode.{path_in}
-use Rattle.conf_plan.proofs.PlanText.LineByLine.{lines_of-on, lines_of-alone}
 use Rattle.conf_plan.proofs.PlanText.PlanFromLines.{path_in-is_exact}
+use Rattle.conf_plan.proofs.PlanText.ReadSoFar.{plan_lines-full}
 
 -- ---- tokens
--- it is no white space
-abbrev IsBlack : ℕ → Type 0
-IsBlack byte = is_space byte ≡ false
+-- each byte passes the test
+abbrev IsAll : (ℕ → Bool) → List ℕ → Type 0
+IsAll test bytes = list_all test bytes ≡ true
+
+abbrev is_black : ℕ → Bool
+is_black byte = not (is_space byte)
 
 -- a token has a byte and no white space
-record IsToken (token : List ℕ) : Type 0 where
-  some : 0 < length token
-  black : All IsBlack token
+abbrev IsToken : List ℕ → Type 0
+IsToken token = (has_bytes token ≡ true) × IsAll is_black token
+
+tokens_in-one : (token : List ℕ) → IsToken token → tokens_in token ≡ token ∷ []
+tokens_in-one token is =
+    let black = All-weaker (λ byte. is_black byte ≡ true) (λ byte. is_space byte ≡ false) (λ byte. not-true (is_space byte)) token (AllPass-from_list_all is_black token is.1) in
+    rw (slice_split_none is_space token black, is.0) refl
 
 -- the tokens of tokens with one space between
-tokens_in-join : (token : List ℕ) (more : List (List ℕ)) → All IsToken (token ∷ more) → tokens_in (join_with_byte 32 (token ∷ more)) ≡ token ∷ more
-tokens_in-join token [] h =
-    let is = All-head IsToken token [] h in
-    rw (slice_split_none is_space token is.black, lt-ltb 0 (length token) is.some) refl
-tokens_in-join token (next ∷ more) h =
-    let is = All-head IsToken token (next ∷ more) h in
-    rw (slice_split_at is_space token 32 (join_with_byte 32 (next ∷ more)) is.black refl, lt-ltb 0 (length token) is.some)
-    (ap (λ others. token ∷ others) (tokens_in-join next more (All-tail IsToken token (next ∷ more) h)))
+tokens_in-join : (tokens : List (List ℕ)) → AllByRecursion IsToken tokens → tokens_in (join_with_byte 32 tokens) ≡ tokens
+tokens_in-join [] h = refl
+tokens_in-join (token ∷ []) h = tokens_in-one token h.0
+tokens_in-join (token ∷ next ∷ more) h =
+    tokens_in-at_space token 32 (join_with_byte 32 (next ∷ more)) refl ∙ (λ i. tokens_in-one token h.0 i ++ tokens_in-join (next ∷ more) h.1 i)
 
 -- there is no newline among them
-abbrev IsNoNewline : ℕ → Type 0
-IsNoNewline byte = is_newline byte ≡ false
+abbrev is_no_newline : ℕ → Bool
+is_no_newline byte = not (byte == 10)
 
-IsNoNewline-black : (byte : ℕ) → IsBlack byte → IsNoNewline byte
-IsNoNewline-black byte black = grind (arith, nat_tests)
+no_newline-black : (bytes : List ℕ) → IsAll is_black bytes → IsAll is_no_newline bytes
+no_newline-black [] h = refl
+no_newline-black (byte ∷ bytes) h = grind (arith, nat_tests, no_newline-black bytes)
 
-IsNoNewline-join : (all : List (List ℕ)) → All IsToken all → All IsNoNewline (join_with_byte 32 all)
-IsNoNewline-join [] h = All-nil IsNoNewline
-IsNoNewline-join (token ∷ []) h = All-weaker IsBlack IsNoNewline IsNoNewline-black token (All-head IsToken token [] h).black
-IsNoNewline-join (token ∷ next ∷ more) h =
-    All-append IsNoNewline token (32 ∷ join_with_byte 32 (next ∷ more)) (All-weaker IsBlack IsNoNewline IsNoNewline-black token (All-head IsToken token (next ∷ more) h).black)
-    (All-cons IsNoNewline 32 (join_with_byte 32 (next ∷ more)) refl (IsNoNewline-join (next ∷ more) (All-tail IsToken token (next ∷ more) h)))
+no_newline-join : (tokens : List (List ℕ)) → AllByRecursion IsToken tokens → IsAll is_no_newline (join_with_byte 32 tokens)
+no_newline-join [] h = refl
+no_newline-join (token ∷ []) h = no_newline-black token h.0.1
+no_newline-join (token ∷ next ∷ more) h =
+    list_all-append is_no_newline token (32 ∷ join_with_byte 32 (next ∷ more)) ∙ and_from _ _ (no_newline-black token h.0.1) (no_newline-join (next ∷ more) h.1)
 
 -- ---- the tokens of a step
-IsBlack-digit : (byte : ℕ) → 48 ≤ byte → byte ≤ 57 → IsBlack byte
-IsBlack-digit byte low high = grind (arith, nat_tests)
+abbrev IsU64 : Change → Type 0
+IsU64 change = change.id < 2 ^ 64
 
-IsBlack-letter : (kind : Kind) → IsBlack (letter_of kind)
-IsBlack-letter Voter = refl
-IsBlack-letter Learner = refl
-IsBlack-letter Remove = refl
-IsBlack-letter Update = refl
+is_black-digit : (byte : ℕ) → 48 ≤ byte → byte ≤ 57 → is_black byte ≡ true
+is_black-digit byte low high = grind (arith, nat_tests)
 
-IsToken-change : (change : Change) → change.id < 2 ^ 64 → IsToken (change_text change)
+is_black-letter : (kind : Kind) → is_black (letter_of kind) ≡ true
+is_black-letter kind = grind arith
+
+IsToken-change : (change : Change) → IsU64 change → IsToken (change_text change)
 IsToken-change change small =
     let digits = decimal change.id in
     let all : AllDigits 10 digits = (decimal_is_IsNumeral change.id small).0.1 in
-    record {
-      some = omega arith;
-      black = All-cons IsBlack (letter_of change.kind) digits (IsBlack-letter change.kind)
-          (All-from_get_or IsBlack digits 0 (λ i within. let range = digit_at digits i all within in IsBlack-digit (get_or digits i 0) range.0 range.1));
-    }
+    let black = All-from_get_or (λ byte. is_black byte ≡ true) digits 0 (λ i within. let range = digit_at digits i all within in is_black-digit (get_or digits i 0) range.0 range.1) in
+    (lt-ltb 0 (length (change_text change)) (omega arith), and_from _ _ (is_black-letter change.kind) (list_all-from_AllPass is_black digits black))
 
-black_from_not : (white : Bool) → not white ≡ true → white ≡ false
-black_from_not true e = sym e
-black_from_not false e = refl
+changes_are_tokens : (changes : List Change) → AllByRecursion IsU64 changes → AllByRecursion IsToken (map change_text changes)
+changes_are_tokens [] h = tt
+changes_are_tokens (change ∷ changes) h = (IsToken-change change h.0, changes_are_tokens changes h.1)
 
--- a token that is written out
-IsToken-written : (token : List ℕ) → 0 < length token → list_all (λ byte. not (is_space byte)) token ≡ true → IsToken token
-IsToken-written token some black = record {
-  some = some;
-  black = All-weaker (λ byte. not (is_space byte) ≡ true) IsBlack (λ byte e. black_from_not (is_space byte) e) token (AllPass-from_list_all (λ byte. not (is_space byte)) token black);
-}
-
-commands_are_tokens : (step : Step) → All IsToken (command_tokens step)
-commands_are_tokens (Simple changes) = All-cons IsToken (codes "simple") [] (IsToken-written (codes "simple") (omega arith) refl) (All-nil IsToken)
-commands_are_tokens (EnterJoint true changes) =
-    All-cons IsToken (codes "enter-joint") (flag_token true ∷ []) (IsToken-written (codes "enter-joint") (omega arith) refl)
-    (All-cons IsToken (flag_token true) [] (IsToken-written (flag_token true) (omega arith) refl) (All-nil IsToken))
-commands_are_tokens (EnterJoint false changes) =
-    All-cons IsToken (codes "enter-joint") (flag_token false ∷ []) (IsToken-written (codes "enter-joint") (omega arith) refl)
-    (All-cons IsToken (flag_token false) [] (IsToken-written (flag_token false) (omega arith) refl) (All-nil IsToken))
-commands_are_tokens LeaveJoint = All-cons IsToken (codes "leave-joint") [] (IsToken-written (codes "leave-joint") (omega arith) refl) (All-nil IsToken)
-
-ParsesTo-printed : (change : Change) → change.id < 2 ^ 64 → ParsesTo (change_text change) change
-ParsesTo-printed change small =
-    let printed = decimal_is_IsNumeral change.id small in
-    record { number = decimal change.id; letter_first = refl; id_after = record { numeral = printed.0; value = printed.1; in_range = small } }
-
-changes_are_tokens : (changes : List Change) → All (λ change. change.id < 2 ^ 64) changes → All IsToken (map change_text changes)
-changes_are_tokens [] h = All-nil IsToken
-changes_are_tokens (change ∷ changes) h =
-    All-cons IsToken (change_text change) (map change_text changes) (IsToken-change change (All-head (λ c. c.id < 2 ^ 64) change changes h))
-    (changes_are_tokens changes (All-tail (λ c. c.id < 2 ^ 64) change changes h))
-
-parsed-printed : (changes : List Change) → All (λ change. change.id < 2 ^ 64) changes → AllZip ParsesTo (map change_text changes) changes
+parsed-printed : (changes : List Change) → AllByRecursion IsU64 changes → AllZip ParsesTo (map change_text changes) changes
 parsed-printed [] h = tt
 parsed-printed (change ∷ changes) h =
-    (ParsesTo-printed change (All-head (λ c. c.id < 2 ^ 64) change changes h), parsed-printed changes (All-tail (λ c. c.id < 2 ^ 64) change changes h))
+    let printed = decimal_is_IsNumeral change.id h.0 in
+    (record { number = decimal change.id; letter_first = refl; id_after = record { numeral = printed.0; value = printed.1; in_range = h.0 } }, parsed-printed changes h.1)
 
 -- so are read the changes of a step
-pub Denotes-printed : (changes : List Change) → All (λ change. change.id < 2 ^ 64) changes → Denotes (join_with_byte 32 (map change_text changes)) changes
-Denotes-printed [] h = tt
-Denotes-printed (change ∷ changes) h =
-    rw (tokens_in-join (change_text change) (map change_text changes) (changes_are_tokens (change ∷ changes) h)) (parsed-printed (change ∷ changes) h)
+pub Denotes-printed : (changes : List Change) → All IsU64 changes → Denotes (join_with_byte 32 (map change_text changes)) changes
+Denotes-printed changes h =
+    let small = recursion_from_All IsU64 changes h in
+    rw (tokens_in-join (map change_text changes) (changes_are_tokens changes small)) (parsed-printed changes small)
 
 -- the tokens of a line are its command and its changes
 abbrev all_tokens : Step → List (List ℕ)
 all_tokens step = command_tokens step ++ map change_text (changes_of step)
 
-all_are_tokens : (step : Step) → HasU64Ids step → All IsToken (all_tokens step)
-all_are_tokens step h = All-append IsToken (command_tokens step) (map change_text (changes_of step)) (commands_are_tokens step) (changes_are_tokens (changes_of step) h)
+all_are_tokens : (step : Step) → AllByRecursion IsU64 (changes_of step) → AllByRecursion IsToken (all_tokens step)
+all_are_tokens (Simple changes) h = ((refl, refl), changes_are_tokens changes h)
+all_are_tokens (EnterJoint true changes) h = ((refl, refl), ((refl, refl), changes_are_tokens changes h))
+all_are_tokens (EnterJoint false changes) h = ((refl, refl), ((refl, refl), changes_are_tokens changes h))
+all_are_tokens LeaveJoint h = ((refl, refl), tt)
 
-tokens_in-line_text : (step : Step) → HasU64Ids step → tokens_in (line_text step) ≡ all_tokens step
-tokens_in-line_text (Simple changes) h = tokens_in-join (codes "simple") (map change_text changes) (all_are_tokens (Simple changes) h)
-tokens_in-line_text (EnterJoint auto_leave changes) h = tokens_in-join (codes "enter-joint") (flag_token auto_leave ∷ map change_text changes) (all_are_tokens (EnterJoint auto_leave changes) h)
-tokens_in-line_text LeaveJoint h = tokens_in-join (codes "leave-joint") [] (all_are_tokens LeaveJoint h)
+step_tokens : (step : Step) → HasU64Ids step → AllByRecursion IsToken (all_tokens step)
+step_tokens step h = all_are_tokens step (recursion_from_All IsU64 (changes_of step) h)
 
-IsLineOf-printed : (step : Step) → HasU64Ids step → IsLineOf (line_text step) step
-IsLineOf-printed step h = record { tokens = map change_text (changes_of step); line_tokens = tokens_in-line_text step h; parsed = parsed-printed (changes_of step) h }
+IsLineOf-printed : (step : Step) → HasU64Ids step → IsLineOf (line_and_newline step) step
+IsLineOf-printed step h = record {
+  tokens = map change_text (changes_of step);
+  line_tokens = tokens_in-at_space (line_text step) 10 [] refl ∙ append-nil (tokens_in (line_text step)) ∙ tokens_in-join (all_tokens step) (step_tokens step h);
+  parsed = parsed-printed (changes_of step) (recursion_from_All IsU64 (changes_of step) h);
+}
 
 -- ---- the lines
-lines_of-end : (line : List ℕ) → All IsNoNewline line → plan_lines (line ++ 10 ∷ []) ≡ line ∷ []
-lines_of-end line in_line = lines_of-alone (line ++ 10 ∷ []) line (omega (arith, length-append line (10 ∷ []))) (slice_split_at is_newline line 10 [] in_line refl)
+full_lines-line : (line rest : List ℕ) → IsAll is_no_newline line → full_lines (line ++ 10 ∷ rest) ≡ (line ++ 10 ∷ []) ∷ full_lines rest
+full_lines-line [] rest h = refl
+full_lines-line (byte ∷ line) rest h = grind (arith, full_lines-line line rest)
 
-lines_of-next : (line rest : List ℕ) → All IsNoNewline line → 0 < length rest → plan_lines (line ++ 10 ∷ rest) ≡ line ∷ plan_lines rest
-lines_of-next line rest in_line more = lines_of-on (line ++ 10 ∷ rest) line rest (omega (arith, length-append line (10 ∷ rest))) more (slice_split_at is_newline line 10 rest in_line refl)
+full_lines-printed : (steps : List Step) → AllByRecursion HasU64Ids steps → full_lines (flat_map line_and_newline steps) ≡ map line_and_newline steps
+full_lines-printed [] h = refl
+full_lines-printed (step ∷ steps) h =
+    ap full_lines (append_assoc (line_text step) (codes "\n") (flat_map line_and_newline steps))
+    ∙ full_lines-line (line_text step) (flat_map line_and_newline steps) (no_newline-join (all_tokens step) (step_tokens step h.0))
+    ∙ ap (λ lines. line_and_newline step ∷ lines) (full_lines-printed steps h.1)
 
-IsNoNewline-line_text : (step : Step) → HasU64Ids step → All IsNoNewline (line_text step)
-IsNoNewline-line_text step h = IsNoNewline-join (all_tokens step) (all_are_tokens step h)
-
-lines_of-printed : (step : Step) (steps : List Step) → All HasU64Ids (step ∷ steps) → plan_lines (flat_map line_and_newline (step ∷ steps)) ≡ map line_text (step ∷ steps)
-lines_of-printed step [] h =
-    ap plan_lines (append-nil (line_and_newline step)) ∙ lines_of-end (line_text step) (IsNoNewline-line_text step (All-head HasU64Ids step [] h))
-lines_of-printed step (next ∷ steps) h =
-    let rest = flat_map line_and_newline (next ∷ steps) in
-    let more : 0 < length rest = omega (arith, length-append (line_and_newline next) (flat_map line_and_newline steps), length-append (line_text next) (codes "\n")) in
-    ap plan_lines (append_assoc (line_text step) (codes "\n") rest) ∙ lines_of-next (line_text step) rest (IsNoNewline-line_text step (All-head HasU64Ids step (next ∷ steps) h)) more
-    ∙ ap (λ lines. line_text step ∷ lines) (lines_of-printed next steps (All-tail HasU64Ids step (next ∷ steps) h))
-
-lines-printed : (steps : List Step) → All HasU64Ids steps → AllZip IsLineOf (map line_text steps) steps
+lines-printed : (steps : List Step) → AllByRecursion HasU64Ids steps → AllZip IsLineOf (map line_and_newline steps) steps
 lines-printed [] h = tt
-lines-printed (step ∷ steps) h = (IsLineOf-printed step (All-head HasU64Ids step steps h), lines-printed steps (All-tail HasU64Ids step steps h))
+lines-printed (step ∷ steps) h = (IsLineOf-printed step h.0, lines-printed steps h.1)
 
 pub ParsesToPath-printed : (steps : List Step) → All HasU64Ids steps → ParsesToPath (plan_text steps) steps
-ParsesToPath-printed [] h = inl (refl, record { line = codes "nothing to do"; alone = refl; line_tokens = refl })
-ParsesToPath-printed (step ∷ steps) h = inr (rw (lines_of-printed step steps h) (lines-printed (step ∷ steps) h))
+ParsesToPath-printed [] h = inl (refl, record { line = codes "nothing to do\n"; alone = refl; line_tokens = refl })
+ParsesToPath-printed (step ∷ steps) h =
+    let small = recursion_from_All HasU64Ids (step ∷ steps) h in
+    let rest = flat_map line_and_newline steps in
+    let some : 0 < length (plan_text (step ∷ steps)) = omega (arith, length-append (line_and_newline step) rest, length-append (line_text step) (codes "\n")) in
+    inr (rw (plan_lines-full (plan_text (step ∷ steps)) some ∙ full_lines-printed (step ∷ steps) small) (lines-printed (step ∷ steps) small))
 
 pub path_in-printed : (steps : List Step) → All HasU64Ids steps → path_in (plan_text steps) ≡ Ok steps
 path_in-printed steps h = (path_in-is_exact (plan_text steps)).ok steps (ParsesToPath-printed steps h)

@@ -1,5 +1,5 @@
 -- The steps from a configuration that is not joint to a joint one.
-use Rattle.std.proofs.Common.{◌≡◌, ℕ, ◌≤◌, Bool, true, false, not, ◌&&◌, ◌||◌, List, length, refl, sym, ap, subst, ◌∙◌, arith}
+use Rattle.std.proofs.Common.{◌≡◌, ℕ, ◌≤◌, Bool, true, false, not, ◌&&◌, ◌||◌, length, refl, sym, ap, ◌∙◌, arith}
 use Rattle.std.specs.Prelude.{Ok}
 use Rattle.std.proofs.lemmas.Bool.{cond_both, not-true, true≢false, or_from, and_right, false_from_ne_true}
 use Rattle.std.proofs.lemmas.List.{length-append}
@@ -8,11 +8,10 @@ use Rattle.quorum_sets.proofs.Offered.{has-ids_where}
 use Rattle.conf_change.specs.Configuration.{Configuration, is_joint, is_member, members, is_same_set}
 use Rattle.conf_change.specs.Change.{result_of}
 use Rattle.conf_change.specs.Outcome.{outcome, with_outgoing}
-use Rattle.conf_change.specs.declared.step.Step.{Step}
-use Rattle.conf_change.proofs.Offered.{outcome-enter_accepted, any-members, configuration-by_members, ValidByMember-from_is_valid, is_empty-no_ids, is_same_set-equal}
-use Rattle.conf_plan.specs.Run.{IsValidWithVoter, Gives, IsRun}
-use Rattle.conf_plan.specs.Planned.{single_with, moves, shared_members, inserted_steps, configuration_after, entering_step, joint_steps}
-use Rattle.conf_plan.proofs.Runs.Chains.{run-is_valid, IsChain-append, IsRun-one, configuration_after-run}
+use Rattle.conf_change.proofs.Offered.{outcome-enter_accepted, any-members, configuration-by_members, ValidByMember-from_is_valid, is_empty-no_ids}
+use Rattle.conf_plan.specs.Run.{IsValidWithVoter}
+use Rattle.conf_plan.specs.Planned.{single_with, moves, shared_members, inserted_steps, entering_step, joint_steps}
+use Rattle.conf_plan.proofs.Runs.Chains.{run-is_valid}
 use Rattle.conf_plan.proofs.FindingMoves.OfEachId.{has-union}
 use Rattle.conf_plan.proofs.FindingMoves.ResultingConfiguration.{IsSingle, AreWanted, moves-has_wanted}
 use Rattle.conf_plan.proofs.PlannedSteps.BetweenSingle.{single_steps-is_run, single_steps-at_most_two}
@@ -47,17 +46,6 @@ pub at_outgoing-is_single : (c target : Configuration) → IsSingle c → IsVali
 at_outgoing-is_single c target single valid_with_voter joint =
     let run = single_steps-is_run c target.outgoing (shared_members c target) single (outgoing-are_wanted c target valid_with_voter joint) in
     record { valid_with_voter = run-is_valid c (single_with target.outgoing (shared_members c target)) _ single.valid_with_voter run; single = ap not is_empty-no_ids }
-
--- the inserted steps lead to a configuration whose incoming voters are the target's outgoing ones
-abbrev Inserted : Configuration → Configuration → List Step → Type 0
-Inserted c target steps = (reached : Configuration) × IsRun c steps reached × IsSingle reached × (reached.incoming ≡ target.outgoing)
-
-inserted : (c target : Configuration) → IsSingle c → IsValidWithVoter target → is_joint target ≡ true → Inserted c target (inserted_steps c target)
-inserted c target single valid_with_voter joint =
-    let run = single_steps-is_run c target.outgoing (shared_members c target) single (outgoing-are_wanted c target valid_with_voter joint) in
-    cond_both (is_same_set c.incoming target.outgoing) _ _ (Inserted c target)
-    (λ same. (c, refl, single, is_same_set-equal c.incoming target.outgoing same))
-    (λ other. (single_with target.outgoing (shared_members c target), run, at_outgoing-is_single c target single valid_with_voter joint, refl))
 
 inserted_steps-at_most_two : (c target : Configuration) → length (inserted_steps c target) ≤ 2
 inserted_steps-at_most_two c target =
@@ -102,14 +90,6 @@ entering-reaches c target single valid_with_voter same =
     outcome-enter_accepted c target target.auto_leave changes single.single single.valid_with_voter.voter made valid_with_voter.voter
 
 -- ---- the steps
-pub joint_steps-is_run : (c target : Configuration) → IsSingle c → IsValidWithVoter target → is_joint target ≡ true → IsRun c (joint_steps c target) target
-joint_steps-is_run c target single valid_with_voter joint =
-    let first = inserted c target single valid_with_voter joint in
-    let is = configuration_after-run c first.0 (inserted_steps c target) first.1 in
-    let P : Configuration → Type 0 = λ d. outcome first.0 (entering_step d target) ≡ Ok target in
-    IsChain-append Gives c first.0 target (inserted_steps c target) _ first.1
-    (IsRun-one first.0 target (entering_step (configuration_after c (inserted_steps c target)) target) (subst P (sym is) (entering-reaches first.0 target first.2 valid_with_voter first.3)))
-
 pub joint_steps-at_most_three : (c target : Configuration) → length (joint_steps c target) ≤ 3
 joint_steps-at_most_three c target =
     let few = inserted_steps-at_most_two c target in

@@ -1,6 +1,6 @@
 -- The shapes of a plan: what holds of each holds of the plan.
 use Rattle.std.proofs.Common.{◌≡◌, Bool, true, false, List, [], ◌∷◌, ◌++◌, refl, sym, ap, subst, ◌∙◌}
-use Rattle.std.proofs.lemmas.Bool.{cond_both, cond-true, true≢false}
+use Rattle.std.proofs.lemmas.Bool.{cond_both, cond-true, cond-false, true≢false}
 use Rattle.quorum_sets.specs.Ids.{Ids}
 use Rattle.conf_change.specs.Configuration.{Configuration, is_joint, is_same_set, is_same}
 use Rattle.conf_change.specs.Outcome.{after_leave}
@@ -8,9 +8,11 @@ use Rattle.conf_change.specs.declared.step.Step.{Step}
 use Rattle.conf_change.specs.declared.step.Step.TheVariants.{LeaveJoint}
 use Rattle.conf_change.proofs.Offered.{is_same_set-equal, is_same_set-refl, is_same-equal, is_same-is_equality}
 use Rattle.conf_plan.specs.Run.{IsValidWithVoter}
-use Rattle.conf_plan.specs.Planned.{single_with, single_steps, shared_members, configuration_after, entering_step, joint_steps, planned_from_single, planned}
+use Rattle.conf_plan.specs.Planned.{single_with, single_steps, shared_members, inserted_steps, configuration_after, entering_step, joint_steps, planned_from_single, planned}
 use Rattle.conf_plan.proofs.FindingMoves.ResultingConfiguration.{IsSingle}
-use Rattle.conf_plan.proofs.PlannedSteps.Cases.{joint_steps-inserted}
+use Rattle.conf_plan.proofs.Runs.Chains.{configuration_after-run}
+use Rattle.conf_plan.proofs.PlannedSteps.BetweenSingle.{single_steps-is_run}
+use Rattle.conf_plan.proofs.PlannedSteps.IntoJoint.{outgoing-are_wanted}
 
 -- no configuration is found to be another one
 other_configuration : (a b : Configuration) → is_same a b ≡ false → a ≡ b → ⊥
@@ -20,6 +22,20 @@ other_set : (a b : Ids) → is_same_set a b ≡ false → a ≡ b → ⊥
 other_set a b differs same = true≢false (sym (is_same_set-refl a) ∙ ap (is_same_set a) same ∙ differs)
 
 -- ---- from a configuration that is not joint
+-- into a joint one, by its outgoing voters
+pub joint_steps-inserted : (c target : Configuration) → IsSingle c → IsValidWithVoter target → is_joint target ≡ true → is_same_set c.incoming target.outgoing ≡ false
+    → joint_steps c target
+    ≡ single_steps c target.outgoing (shared_members c target) ++ entering_step (single_with target.outgoing (shared_members c target)) target ∷ []
+joint_steps-inserted c target single valid_with_voter joint differs = λ i. inserted i ++ entering_step (reached i) target ∷ []
+  where
+    inserted : inserted_steps c target ≡ single_steps c target.outgoing (shared_members c target)
+    inserted = cond-false (is_same_set c.incoming target.outgoing) _ _ differs
+
+    reached : configuration_after c (inserted_steps c target) ≡ single_with target.outgoing (shared_members c target)
+    reached =
+        ap (configuration_after c) inserted
+        ∙ configuration_after-run c _ _ (single_steps-is_run c target.outgoing (shared_members c target) single (outgoing-are_wanted c target valid_with_voter joint))
+
 -- its steps are none; or those to one that is not joint; or the one into a joint one, after those to its outgoing voters where the present ones are others
 pub record OfShapes (c target : Configuration) (P : List Step → Type 0) : Type 0 where
   pub nothing : c ≡ target → P []

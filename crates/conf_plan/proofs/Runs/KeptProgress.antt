@@ -1,11 +1,11 @@
 -- Who keeps its progress when a changer takes the steps of a plan.
-use Rattle.std.proofs.Common.{◌≡◌, ℕ, true, cond, not, ◌&&◌, ◌||◌, List, [], ◌∷◌, refl, sym, ap, subst, ◌∙◌, inl, inr, is_some}
+use Rattle.std.proofs.Common.{◌≡◌, ℕ, Bool, true, false, cond, not, ◌&&◌, ◌||◌, List, [], ◌∷◌, refl, sym, ap, subst, ◌∙◌, is_some, arith}
 use Rattle.std.specs.Prelude.{Option, Some, None, unwrap_or}
 use Rattle.std.specs.FinMap as finite
-use Rattle.std.proofs.lemmas.Bool.{true≢false, and_parts, or_cases}
+use Rattle.std.proofs.lemmas.Bool.{true≢false, and_parts}
 use Rattle.quorum_sets.specs.Ids.{has, is_empty}
 use Rattle.conf_change.specs.Changer.{ChangerState, IsSound, Accepts}
-use Rattle.conf_change.specs.Configuration.{Configuration, is_member, is_valid, has_voter, is_restorable}
+use Rattle.conf_change.specs.Configuration.{Configuration, is_member, is_valid, is_restorable}
 use Rattle.conf_change.specs.Progress.{fresh_next_of, fresh_progress, with_mark, is_replaced, keeps_progress}
 use Rattle.conf_change.specs.declared.progress.Progress.{Progress}
 use Rattle.conf_change.specs.declared.step.Step.{Step}
@@ -96,16 +96,13 @@ member-is_valid c q ok member =
     let both = and_parts (is_valid c) _ ok in
     record {
       valid = both.0;
-      voter = elim (or_cases (has_voter c) _ both.1) [
-        | inl voter ↦ voter
-        | inr no_voter ↦
-            let three = and_parts (is_empty c.incoming && is_empty c.outgoing && is_empty c.learners) (is_empty c.learners_next) no_voter in
-            let two = and_parts (is_empty c.incoming && is_empty c.outgoing) (is_empty c.learners) three.0 in
-            let one = and_parts (is_empty c.incoming) (is_empty c.outgoing) two.0 in
-            absurd (true≢false (sym member
-            ∙ (λ i. has-none_in_empty c.incoming one.0 q i || has-none_in_empty c.outgoing one.1 q i || has-none_in_empty c.learners two.1 q i)))
-      ];
+      voter = has_some (is_empty c.incoming) (is_empty c.outgoing) (is_empty c.learners) (is_empty c.learners_next) (has c.incoming q) (has c.outgoing q) (has c.learners q)
+          both.1 member (λ e. has-none_in_empty c.incoming e q) (λ e. has-none_in_empty c.outgoing e q) (λ e. has-none_in_empty c.learners e q);
     }
+  where
+    has_some : (ei eo el en i o l : Bool) → (not ei || (ei && eo && el && en)) ≡ true → (i || o || l) ≡ true
+        → (ei ≡ true → i ≡ false) → (eo ≡ true → o ≡ false) → (el ≡ true → l ≡ false) → not ei ≡ true
+    has_some ei eo el en i o l restorable member in_incoming in_outgoing in_learners = grind arith
 
 pub takes-keep_planned : (a b : ChangerState) (steps other : List Step) (target : Configuration) (q : ℕ) → IsSound a.tracker → Takes a steps b
     → steps ≡ planned a.tracker.config target → Preserves a.tracker.config other target q → HasKeptProgress a b q

@@ -1,5 +1,5 @@
 -- What a step makes of an id: an incoming voter, a learner of either kind, or neither.
-use Rattle.std.proofs.Common.{◌≡◌, ℕ, zero, suc, ◌+◌, ◌<◌, Bool, true, false, cond, ◌||◌, ◌⊎◌, inl, inr, List, [], ◌∷◌, refl, sym, ap, subst, ◌∙◌, arith}
+use Rattle.std.proofs.Common.{◌≡◌, ℕ, ◌+◌, ◌<◌, Bool, true, false, cond, ◌||◌, ◌⊎◌, inl, inr, List, [], ◌∷◌, refl, sym, ap, subst, ◌∙◌, arith}
 use Rattle.std.proofs.Math.Bool.{or-false}
 use Rattle.std.specs.Prelude.{Option, Some, None, Ok, count_by}
 use Rattle.std.specs.Option.{option_or}
@@ -113,5 +113,4 @@ run-is_in before after (step ∷ steps) q run is =
     ]
   where
     zero_or_more : (n : ℕ) → (n ≡ 0) ⊎ (0 < n)
-    zero_or_more zero = inl refl
-    zero_or_more (suc n) = inr (omega arith)
+    zero_or_more n = grind arith

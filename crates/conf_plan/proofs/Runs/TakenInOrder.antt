@@ -7,7 +7,7 @@ use Rattle.conf_change.specs.Configuration.{Configuration}
 use Rattle.conf_change.specs.Outcome.{Outcome, outcome}
 use Rattle.conf_change.specs.Changer.{ChangerState, Accepts, Refuses}
 use Rattle.conf_change.specs.declared.refused.Refused.{Refused}
-use Rattle.conf_change.specs.declared.refused.Refused.TheVariants.{AlreadyJoint, ZeroVoterJoint, NotJoint, SimpleInJoint, RemovedAllVoters, MoreThanOneVoter, NoMemory}
+use Rattle.conf_change.specs.declared.refused.Refused.TheVariants.{NoMemory}
 use Rattle.conf_change.specs.declared.step.Step.{Step}
 use Rattle.conf_plan.specs.Run.{IsRun, Takes, StopsAt}
 use Rattle.conf_plan.proofs.Runs.Chains.{IsChain-append}
@@ -35,13 +35,7 @@ Takes-to_target a b (x ∷ xs) target t run =
     Takes-to_target t.0 b xs target t.2 (subst P same run.2)
 
 decided : (why : Refused) → (why ≢ NoMemory → ⊥) → why ≡ NoMemory
-decided AlreadyJoint f = absurd (f (λ e. cc))
-decided ZeroVoterJoint f = absurd (f (λ e. cc))
-decided NotJoint f = absurd (f (λ e. cc))
-decided SimpleInJoint f = absurd (f (λ e. cc))
-decided RemovedAllVoters f = absurd (f (λ e. cc))
-decided MoreThanOneVoter f = absurd (f (λ e. cc))
-decided NoMemory f = refl
+decided why f = grind arith
 
 -- along a run nothing is refused but for want of memory
 pub Refuses-for_memory : (a b : ChangerState) (xs ys : List Step) (x : Step) (why : Refused) (target : Configuration)

@@ -1,16 +1,17 @@
 use Rattle.std.proofs.Common.{List, sym, ◌∙◌, subst}
 use Rattle.conf_change.specs.declared.step.Step.{Step}
 use Rattle.conf_plan.specs.PlanText.{plan_text, ParsesToPath}
-use Rattle.conf_plan.proofs.PlanText.PlanFromLines.{path_in-is_exact, Means-from_ok, Refuses-from_err, means-or_refuses}
+use Rattle.std.proofs.lemmas.Result.{MatchResult-at_ok, MatchResult-at_err}
+use Rattle.conf_plan.proofs.PlanText.PlanFromLines.{path_in-is_exact, means-or_refuses}
 use Rattle.conf_plan.proofs.PlanText.PrintedPlan.{ParsesToPath-printed}
 use Rattle.conf_plan.proofs.PlanText.ReadSoFar.{HasU64Ids-from_path}
 use Rattle.conf_plan.proofs.laws.one_path_per_text.Goals as goal
 
 pub returns-clause-ok : goal.returns-clause-ok
-returns-clause-ok c = λ text steps. ((path_in-is_exact text).ok steps, Means-from_ok _ _ _ (path_in-is_exact text) steps)
+returns-clause-ok c = λ text steps. ((path_in-is_exact text).ok steps, λ e. MatchResult-at_ok _ _ steps e (path_in-is_exact text).is)
 
 pub returns-clause-err : goal.returns-clause-err
-returns-clause-err c = λ text fault. ((path_in-is_exact text).err fault, Refuses-from_err _ _ _ (path_in-is_exact text) fault)
+returns-clause-err c = λ text fault. ((path_in-is_exact text).err fault, λ e. MatchResult-at_err _ _ fault e (path_in-is_exact text).is)
 
 pub returns-clause-each : goal.returns-clause-each
 returns-clause-each c = λ text. means-or_refuses _ _ _ (path_in-is_exact text).is

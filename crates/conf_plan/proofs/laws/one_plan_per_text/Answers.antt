@@ -1,14 +1,15 @@
 use Rattle.std.proofs.Common.{sym, ◌∙◌}
 use Rattle.conf_change.specs.Step.{changes_of}
-use Rattle.conf_plan.proofs.PlanText.PlanFromLines.{plan_in-is_exact, Means-from_ok, Refuses-from_err, means-or_refuses}
+use Rattle.std.proofs.lemmas.Result.{MatchResult-at_ok, MatchResult-at_err}
+use Rattle.conf_plan.proofs.PlanText.PlanFromLines.{plan_in-is_exact, means-or_refuses}
 use Rattle.conf_plan.proofs.PlanText.PrintedPlan.{Denotes-printed, ParsesToPlan-printed}
 use Rattle.conf_plan.proofs.laws.one_plan_per_text.Goals as goal
 
 pub returns-clause-ok : goal.returns-clause-ok
-returns-clause-ok c = λ text steps. ((plan_in-is_exact text).ok steps, Means-from_ok _ _ _ (plan_in-is_exact text) steps)
+returns-clause-ok c = λ text steps. ((plan_in-is_exact text).ok steps, λ e. MatchResult-at_ok _ _ steps e (plan_in-is_exact text).is)
 
 pub returns-clause-err : goal.returns-clause-err
-returns-clause-err c = λ text fault. ((plan_in-is_exact text).err fault, Refuses-from_err _ _ _ (plan_in-is_exact text) fault)
+returns-clause-err c = λ text fault. ((plan_in-is_exact text).err fault, λ e. MatchResult-at_err _ _ fault e (plan_in-is_exact text).is)
 
 pub returns-clause-each : goal.returns-clause-each
 returns-clause-each c = λ text. means-or_refuses _ _ _ (plan_in-is_exact text).is

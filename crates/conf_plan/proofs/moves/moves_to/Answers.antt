@@ -1,69 +1,45 @@
-use Rattle.std.proofs.Common.{sym, subst, ap, ◌∙◌, arith}
-use Rattle.conf_plan.specs.Planned.{single_with}
-use Rattle.conf_plan.proofs.FindingMoves.FourSetWalk.{IsWalked, with_move, four-first, four-none, IsWalked-begun, IsWalked-one_more, IsWalked-ended, left_of_four-shorter}
+use Rattle.std.proofs.Common.{◌≡◌, ℕ, ◌+◌, ◌<◌, ◌^◌, List, [], ◌∷◌, ◌++◌, take, sym, ap, subst, ◌∙◌, append-nil, slice_get, arith}
+use Rattle.std.specs.Prelude.{Option, Some, None, option_map, filter_map}
+use Rattle.std.specs.List.{All, cons_option}
+use Rattle.std.proofs.lemmas.List.Elements.{All-push, filter_map-append}
+use Rattle.quorum_sets.proofs.Offered.{slice_get-not_past, take-one_more}
+use Rattle.conf_change.specs.declared.change.Change.{Change}
+use Rattle.conf_plan.specs.Planned.{kind_by, move_of, single_with}
+use Rattle.conf_plan.proofs.FindingMoves.OfEachId.{change_of}
 use Rattle.conf_plan.proofs.moves.moves_to.Goals as goal
+use Rattle.conf_plan.proofs.moves.moves_to.Goals.{in-Some+in-Some-kind_of_move+in_ok-push, in-Some+in_default-kind_of_move, in_default}
 
-pub loop-id-init : goal.loop-id-init
-loop-id-init g c = record {
-  walked =
-      IsWalked-begun _ _ _ _ _ _ _ _ c.begin-voter_walk.ensures.begun c.begin-learner_walk.ensures.begun c.begin-to_voter_walk.ensures.begun c.begin-to_learner_walk.ensures.begun
-      c.in_ok-changes.ensures.items;
-  to_voter = c.begin-to_voter_walk.ensures.standing;
-  to_learner = c.begin-to_learner_walk.ensures.standing;
-  voter = c.begin-voter_walk.ensures.standing;
-  learner = c.begin-learner_walk.ensures.standing;
-}
+-- the changes of one more id
+one_more : (move : ℕ → Option Change) (ids : List ℕ) (k id : ℕ) (change : Option Change) (changes after : List Change) → Some id ≡ slice_get ids k → change ≡ move id
+    → changes ≡ filter_map move (take k ids) → after ≡ changes ++ cons_option change [] → after ≡ filter_map move (take (k + 1) ids)
+one_more move ids k id change changes after here is so_far added =
+    added ∙ (λ i. so_far i ++ cons_option (is i) [])
+    ∙ sym (ap (filter_map move) (take-one_more ids k id (sym here)) ∙ filter_map-append move (take k ids) (id ∷ []))
 
-pub loop-id-smaller-in-Continue-branch-2 : goal.loop-id-smaller-in-Continue-branch-2
-loop-id-smaller-in-Continue-branch-2 g c =
-    let now = c.loop-id.invariant in
-    left_of_four-shorter _ _ _ _ _ _ _ _ _ _ _ _ _ _ _ _ _
-    (four-first _ _ _ _ _ _ _ _ _ _ _ _ _ _ _ now.to_voter.here now.to_learner.here now.voter.here now.learner.here c.earlier.ensures c.earlier-in-loop-id.ensures c.in-Some.ensures)
-    c.pass-target_voter.ensures.passed c.pass-target_learner.ensures.passed c.pass-voter.ensures.passed c.pass-learner.ensures.passed
-
-pub loop-id-smaller : goal.loop-id-smaller
-loop-id-smaller g c =
-    let now = c.loop-id.invariant in
-    left_of_four-shorter _ _ _ _ _ _ _ _ _ _ _ _ _ _ _ _ _
-    (four-first _ _ _ _ _ _ _ _ _ _ _ _ _ _ _ now.to_voter.here now.to_learner.here now.voter.here now.learner.here c.earlier.ensures c.earlier-in-loop-id.ensures c.in-Some.ensures)
-    c.pass-target_voter.ensures.passed c.pass-target_learner.ensures.passed c.pass-voter.ensures.passed c.pass-learner.ensures.passed
-
-pub loop-id-preserved-in-Continue-branch-2 : goal.loop-id-preserved-in-Continue-branch-2
-loop-id-preserved-in-Continue-branch-2 g c =
-    let from = single_with (g.S.MemberSet.ids c.args.incoming.now) (g.S.MemberSet.ids c.args.learners.now) in
-    let changes = c.loop-id.changes.items in
-    let now = c.loop-id.invariant in
-    record {
-      walked =
-          subst (IsWalked from _ _ _ _ _ _) (ap (λ kind. with_move changes kind c.in-Some.id) (sym c.in-Some-kind_of_move.ensures) ∙ sym c.in_ok-push.ensures.items)
-          (IsWalked-one_more from _ _ _ _ _ _ _ _ _ _ c.in-Some.id changes _ _ _ _ now.walked
-          (four-first _ _ _ _ _ _ _ _ _ _ _ _ _ _ _ now.to_voter.here now.to_learner.here now.voter.here now.learner.here c.earlier.ensures c.earlier-in-loop-id.ensures c.in-Some.ensures)
-          c.pass-target_voter.ensures.passed c.pass-target_learner.ensures.passed c.pass-voter.ensures.passed c.pass-learner.ensures.passed (omega arith));
-      to_voter = c.pass-target_voter.ensures.standing;
-      to_learner = c.pass-target_learner.ensures.standing;
-      voter = c.pass-voter.ensures.standing;
-      learner = c.pass-learner.ensures.standing;
-    }
-
-pub loop-id-preserved : goal.loop-id-preserved
-loop-id-preserved g c =
-    let from = single_with (g.S.MemberSet.ids c.args.incoming.now) (g.S.MemberSet.ids c.args.learners.now) in
-    let changes = c.loop-id.changes.items in
-    let now = c.loop-id.invariant in
-    record {
-      walked =
-          subst (IsWalked from _ _ _ _ _ _) (ap (λ kind. with_move changes kind c.in-Some.id) (sym c.in_default-kind_of_move.ensures))
-          (IsWalked-one_more from _ _ _ _ _ _ _ _ _ _ c.in-Some.id changes _ _ _ _ now.walked
-          (four-first _ _ _ _ _ _ _ _ _ _ _ _ _ _ _ now.to_voter.here now.to_learner.here now.voter.here now.learner.here c.earlier.ensures c.earlier-in-loop-id.ensures c.in-Some.ensures)
-          c.pass-target_voter.ensures.passed c.pass-target_learner.ensures.passed c.pass-voter.ensures.passed c.pass-learner.ensures.passed (omega arith));
-      to_voter = c.pass-target_voter.ensures.standing;
-      to_learner = c.pass-target_learner.ensures.standing;
-      voter = c.pass-voter.ensures.standing;
-      learner = c.pass-learner.ensures.standing;
-    }
-
-pub returns-clause-moves : goal.returns-clause-moves
-returns-clause-moves g c =
-    let now = c.loop-id.invariant in
-    IsWalked-ended _ _ _ _ _ _ _ _ now.walked
-    (four-none _ _ _ _ _ _ _ _ _ _ _ _ _ _ now.to_voter.here now.to_learner.here now.voter.here now.learner.here c.earlier.ensures c.earlier-in-loop-id.ensures c.in_default.ensures)
+pub loop-position-preserved : goal.loop-position-preserved
+loop-position-preserved g c =
+    let own = g.S.MemberSet.ids in
+    let now = c.loop-position.invariant in
+    let move = move_of (single_with (own c.args.incoming.now) (own c.args.learners.now)) (own c.args.to_voters.now) (own c.args.to_learners.now) in
+    elim c.match-at.branch [
+      | in-Some+in-Some-kind_of_move+in_ok-push w ↦
+          let small : w.in-Some.id < 2 ^ 64 = omega arith in
+          let added = ap (λ changes. changes.items) w.changes-is ∙ w.in_ok-push.ensures.items in
+          record {
+            moved = one_more move _ _ w.in-Some.id (Some (change_of w.in-Some.id w.in-Some-kind_of_move.kind)) _ _ w.in-Some.ensures
+                (ap (option_map (change_of w.in-Some.id)) (w.in-Some-kind_of_move.ensures
+                ∙ (λ i. kind_by (w.contains-target_voter.ensures i) (w.contains-target_learner.ensures i) (w.contains-voter.ensures i) (w.contains-learner.ensures i))))
+                now.moved added;
+            u64_ids = subst (All (λ change. change.id < 2 ^ 64)) (sym added) (All-push (λ change. change.id < 2 ^ 64) _ _ now.u64_ids small);
+          }
+      | in-Some+in_default-kind_of_move w ↦
+          let same = ap (λ changes. changes.items) w.changes-is in
+          record {
+            moved = one_more move _ _ w.in-Some.id None _ _ w.in-Some.ensures
+                (ap (option_map (change_of w.in-Some.id)) (w.in_default-kind_of_move.ensures
+                ∙ (λ i. kind_by (w.contains-target_voter.ensures i) (w.contains-target_learner.ensures i) (w.contains-voter.ensures i) (w.contains-learner.ensures i))))
+                now.moved (same ∙ sym (append-nil _));
+            u64_ids = subst (All (λ change. change.id < 2 ^ 64)) (sym same) now.u64_ids;
+          }
+      | in_default w ↦ slice_get-not_past _ _ _ (sym w.in_default.is ∙ c.at.ensures) c.len-position-end.ensures c.loop-position-test.true
+    ]

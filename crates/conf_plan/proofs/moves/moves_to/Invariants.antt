@@ -1,19 +1,14 @@
-use Rattle.conf_plan.specs.Planned.{single_with}
-use Rattle.conf_plan.specs.Walking.{IsAt}
-use Rattle.conf_plan.proofs.FindingMoves.FourSetWalk.{IsWalked, left_of_four}
+use Rattle.std.proofs.Common.{◌≡◌, ◌<◌, ◌^◌, take}
+use Rattle.std.specs.Prelude.{filter_map}
+use Rattle.std.specs.List.{All}
+use Rattle.quorum_sets.specs.Ids.{ascending}
+use Rattle.conf_plan.specs.Planned.{move_of, single_with}
 use Rattle.conf_plan.proofs.moves.moves_to.Given as goal
 
-abbrev pub invariant-loop-id : goal.invariant-loop-id
-invariant-loop-id g l = record {
-  walked : IsWalked (single_with (g.S.MemberSet.ids l.incoming) (g.S.MemberSet.ids l.learners)) (g.S.MemberSet.ids l.to_voters) (g.S.MemberSet.ids l.to_learners)
-      l.voter_walk.index l.learner_walk.index l.to_voter_walk.index l.to_learner_walk.index l.changes.items;
-  to_voter : IsAt (g.S.MemberSet.ids l.to_voters) l.to_voter_walk.index l.to_voter_walk.next;
-  to_learner : IsAt (g.S.MemberSet.ids l.to_learners) l.to_learner_walk.index l.to_learner_walk.next;
-  voter : IsAt (g.S.MemberSet.ids l.incoming) l.voter_walk.index l.voter_walk.next;
-  learner : IsAt (g.S.MemberSet.ids l.learners) l.learner_walk.index l.learner_walk.next;
-}
-
-abbrev pub decreases-loop-id : goal.decreases-loop-id
-decreases-loop-id g l =
-    left_of_four (g.S.MemberSet.ids l.to_voters) (g.S.MemberSet.ids l.to_learners) (g.S.MemberSet.ids l.incoming) (g.S.MemberSet.ids l.learners)
-    l.to_voter_walk.index l.to_learner_walk.index l.voter_walk.index l.learner_walk.index
+abbrev pub invariant-loop-position : goal.invariant-loop-position
+invariant-loop-position g l =
+    let own = g.S.MemberSet.ids in
+    record {
+      moved : l.changes.items ≡ filter_map (move_of (single_with (own l.incoming) (own l.learners)) (own l.to_voters) (own l.to_learners)) (take l.position (ascending (own l.ids)));
+      u64_ids : All (λ change. change.id < 2 ^ 64) l.changes.items;
+    }

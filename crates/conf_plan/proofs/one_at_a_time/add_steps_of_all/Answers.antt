@@ -5,12 +5,11 @@ use Rattle.quorum_sets.specs.Ids.{ascending}
 use Rattle.conf_plan.specs.OneAtATime.{steps_of}
 use Rattle.conf_plan.specs.Planned.{single_with}
 use Rattle.conf_plan.specs.Walking.{IsAdded}
-use Rattle.conf_plan.proofs.OnTheWay.InTurn.{AreAddedSoFar-if_any}
+use Rattle.conf_plan.proofs.OnTheWay.InTurn.{added-one}
 use Rattle.conf_plan.proofs.one_at_a_time.add_steps_of_all.Goals as goal
 
 pub loop-index-preserved : goal.loop-index-preserved
 loop-index-preserved g c =
     let of = steps_of (single_with (g.S.MemberSet.ids c.args.start.now.incoming.now) (g.S.MemberSet.ids c.args.start.now.learners.now)) c.args.target.now in
     let Added : Option ℕ → Type 0 = λ id. IsAdded c.loop-index.steps.items (flat_map of (cons_option id [])) c.add_steps_if_any.new.steps.items in
-    AreAddedSoFar-if_any c.args.steps.now.items c.loop-index.steps.items c.add_steps_if_any.new.steps.items of (ascending (g.S.MemberSet.ids c.args.ids.now)) c.loop-index.index c.loop-index.invariant
-    (subst Added c.at.ensures c.in_ok-add_steps_if_any.ensures)
+    added-one of _ c.loop-index.steps.items _ (ascending (g.S.MemberSet.ids c.args.ids.now)) c.loop-index.index c.loop-index.invariant (subst Added c.at.ensures c.in_ok-add_steps_if_any.ensures)

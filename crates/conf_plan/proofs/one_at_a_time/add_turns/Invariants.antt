@@ -1,10 +1,12 @@
+use Rattle.std.specs.Prelude.{flat_map, take}
 use Rattle.quorum_sets.specs.Ids.{ascending}
-use Rattle.conf_plan.specs.OneAtATime.{steps_of}
+use Rattle.conf_plan.specs.OneAtATime.{steps_of, in_turn}
 use Rattle.conf_plan.specs.Planned.{single_with}
-use Rattle.conf_plan.proofs.OnTheWay.InTurn.{AreInTurn}
+use Rattle.conf_plan.specs.Walking.{IsAdded}
 use Rattle.conf_plan.proofs.one_at_a_time.add_turns.Given as goal
 
 abbrev pub invariant-loop-index : goal.invariant-loop-index
 invariant-loop-index g l =
-    AreInTurn l.fn.steps.items (steps_of (single_with (g.S.MemberSet.ids l.start.incoming.now) (g.S.MemberSet.ids l.start.learners.now)) l.target)
-    (ascending (g.S.MemberSet.ids l.joining)) (ascending (g.S.MemberSet.ids l.retiring)) l.index l.steps.items
+    IsAdded l.fn.steps.items
+    (flat_map (steps_of (single_with (g.S.MemberSet.ids l.start.incoming.now) (g.S.MemberSet.ids l.start.learners.now)) l.target)
+    (in_turn (take l.index (ascending (g.S.MemberSet.ids l.joining))) (take l.index (ascending (g.S.MemberSet.ids l.retiring))))) l.steps.items

@@ -1,20 +1,16 @@
-use Rattle.std.proofs.Common.{◌≡◌, ◌&&◌, sym, ap, ◌∙◌}
+use Rattle.std.proofs.Common.{sym, ap, ◌∙◌}
 use Rattle.quorum_sets.specs.Tolerance.{commits_without}
 use Rattle.quorum_sets.specs.Voters.{pair}
 use Rattle.conf_change.specs.Configuration.{voters_of}
-use Rattle.conf_plan.specs.Planned.{single_with}
 use Rattle.conf_plan.proofs.one_at_a_time.both_commit.Goals as goal
 use Rattle.conf_plan.proofs.one_at_a_time.both_commit.Goals.{then-commits_without, else-commits_without}
 
 pub returns : goal.returns
 returns g c =
-    let incoming = g.S.MemberSet.ids c.args.start.now.incoming.now in
-    let start = single_with incoming (g.S.MemberSet.ids c.args.start.now.learners.now) in
     let down = g.S.MemberSet.ids c.args.down.now in
-    let first : c.commits_without.result ≡ commits_without (voters_of start) down = c.commits_without.ensures ∙ ap (λ s. commits_without (pair incoming s) down) c.empty-none.ensures in
+    let first = sym (c.commits_without.ensures ∙ ap (λ s. commits_without (pair (g.S.MemberSet.ids c.args.start.now.incoming.now) s) down) c.empty-none.ensures) in
     elim c.if-commits_without.branch [
       | then-commits_without w ↦
-          w.result-is ∙ w.commits_without-then-commits_without.ensures ∙ ap (λ d. commits_without (voters_of d) down) c.target.view_is
-          ∙ (λ i. (sym w.if-commits_without.true ∙ first) i && commits_without (voters_of c.args.target.now) down)
-      | else-commits_without w ↦ w.result-is ∙ w.if-commits_without.false ∙ (λ i. (sym w.if-commits_without.false ∙ first) i && commits_without (voters_of c.args.target.now) down)
+          rw (first ∙ w.if-commits_without.true) (w.result-is ∙ w.commits_without-then-commits_without.ensures ∙ ap (λ d. commits_without (voters_of d) down) c.target.view_is)
+      | else-commits_without w ↦ rw (first ∙ w.if-commits_without.false) (w.result-is ∙ w.if-commits_without.false)
     ]

@@ -1,18 +1,22 @@
-use Rattle.std.proofs.Common.{[], ◌∷◌, subst}
-use Rattle.std.proofs.lemmas.List.Concat.{flat_map_single}
+use Rattle.std.proofs.Common.{[], ◌∷◌, take, ap, ◌∙◌, subst, sym}
+use Rattle.std.specs.Prelude.{map}
+use Rattle.std.proofs.lemmas.List.{map-append, take_all, take_more}
 use Rattle.conf_change.specs.declared.change.Change.{Change}
+use Rattle.conf_change.specs.declared.step.Step.{Step}
 use Rattle.conf_change.specs.declared.step.Step.TheVariants.{Simple}
 use Rattle.conf_plan.specs.Walking.{IsAdded}
-use Rattle.conf_plan.proofs.OnTheWay.InTurn.{AreAddedSoFar-item, AreAddedSoFar-ended}
+use Rattle.conf_plan.proofs.PlannedSteps.Cases.{added-more}
 use Rattle.conf_plan.proofs.one_change_each.add_changes.Goals as goal
 
 pub loop-change-preserved : goal.loop-change-preserved
 loop-change-preserved c =
-    AreAddedSoFar-item c.args.steps.now.items c.loop-change.steps.items c.add_change.new.steps.items (λ (change : Change). Simple (change ∷ []) ∷ []) c.args.changes.now
-    c.loop-change.change-index _ c.loop-change-test.true c.loop-change.invariant c.in_ok-add_change.ensures
+    let step : Change → Step = λ change. Simple (change ∷ []) in
+    let now = c.loop-change in
+    subst (λ steps. IsAdded c.args.steps.now.items steps c.add_change.new.steps.items)
+    (sym (ap (map step) (take_more c.args.changes.now now.change-index _ c.loop-change-test.true) ∙ map-append step (take now.change-index c.args.changes.now) _))
+    (added-more _ _ now.steps.items _ _ now.invariant c.in_ok-add_change.ensures)
 
 pub returns : goal.returns
 returns c =
-    subst (λ steps. IsAdded c.args.steps.now.items steps c.loop-change.steps.items) (flat_map_single (λ (change : Change). Simple (change ∷ [])) c.args.changes.now)
-    (AreAddedSoFar-ended c.args.steps.now.items c.loop-change.steps.items (λ (change : Change). Simple (change ∷ []) ∷ []) c.args.changes.now c.loop-change.change-index
-    c.loop-change-test.false c.loop-change.invariant)
+    subst (λ changes. IsAdded c.args.steps.now.items (map (λ (change : Change). Simple (change ∷ [])) changes) c.loop-change.steps.items)
+    (take_all c.loop-change.change-index c.args.changes.now c.loop-change-test.false) c.loop-change.invariant

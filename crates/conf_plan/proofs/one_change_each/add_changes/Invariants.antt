@@ -1,8 +1,8 @@
-use Rattle.std.proofs.Common.{[], ◌∷◌}
+use Rattle.std.specs.Prelude.{[], ◌∷◌, map, take}
 use Rattle.conf_change.specs.declared.change.Change.{Change}
 use Rattle.conf_change.specs.declared.step.Step.TheVariants.{Simple}
-use Rattle.conf_plan.proofs.OnTheWay.InTurn.{AreAddedSoFar}
+use Rattle.conf_plan.specs.Walking.{IsAdded}
 use Rattle.conf_plan.proofs.one_change_each.add_changes.Given as goal
 
 abbrev pub invariant-loop-change : goal.invariant-loop-change
-invariant-loop-change l = AreAddedSoFar l.fn.steps.items (λ (change : Change). Simple (change ∷ []) ∷ []) l.changes l.change-index l.steps.items
+invariant-loop-change l = IsAdded l.fn.steps.items (map (λ (change : Change). Simple (change ∷ [])) (take l.change-index l.changes)) l.steps.items

@@ -1,7 +1,24 @@
-use Rattle.conf_plan.proofs.FindingMoves.PickedIds.{ids_where-picked}
+use Rattle.std.proofs.Common.{[], ◌∷◌, ◌++◌, cond, filter, take, sym, ap, ◌∙◌, append-nil}
+use Rattle.std.proofs.lemmas.List.Elements.{filter-append}
+use Rattle.quorum_sets.specs.Ids.{ascending}
+use Rattle.quorum_sets.proofs.Offered.{slice_get-not_past, take-one_more}
 use Rattle.conf_plan.proofs.picked.picked.Goals as goal
+use Rattle.conf_plan.proofs.picked.picked.Goals.{in-Some+then-test+in_ok-push, in-Some+else-test, in_default}
 
-pub returns : goal.returns
-returns g c = λ passes answers.
-    ids_where-picked (g.S.MemberSet.ids c.args.ids.now) (g.S.MemberSet.ids c.empty-picked.result) (g.S.MemberSet.ids c.add_picked.new.picked) passes c.empty-picked.ensures
-    (c.in_ok-add_picked.ensures passes answers)
+pub loop-index-preserved : goal.loop-index-preserved
+loop-index-preserved g c =
+    let ids = ascending (g.S.MemberSet.ids c.args.ids.now) in
+    let index = c.loop-index.index in
+    elim c.match-at.branch [
+      | in-Some+then-test+in_ok-push w ↦ λ passes answers.
+          let id = w.in-Some.id in
+          ap (λ list. list.items) w.list-is ∙ w.in_ok-push.ensures.ok
+          ∙ (λ i. c.loop-index.invariant passes answers i ++ cond ((sym (sym (answers _ _ w.test.ensures) ∙ w.if-test.true)) i) (id ∷ []) [])
+          ∙ sym (ap (filter passes) (take-one_more ids index id (sym w.in-Some.ensures)) ∙ filter-append passes (take index ids) (id ∷ []))
+      | in-Some+else-test w ↦ λ passes answers.
+          let id = w.in-Some.id in
+          ap (λ list. list.items) w.list-is ∙ c.loop-index.invariant passes answers ∙ sym (append-nil (filter passes (take index ids)))
+          ∙ (λ i. filter passes (take index ids) ++ cond ((sym (sym (answers _ _ w.test.ensures) ∙ w.if-test.false)) i) (id ∷ []) [])
+          ∙ sym (ap (filter passes) (take-one_more ids index id (sym w.in-Some.ensures)) ∙ filter-append passes (take index ids) (id ∷ []))
+      | in_default w ↦ slice_get-not_past _ _ _ (sym w.in_default.is ∙ c.at.ensures) c.len-index-end.ensures c.loop-index-test.true
+    ]

@@ -1,14 +1,24 @@
-use Rattle.std.proofs.Common.{rules, ◌≡◌}
+use Rattle.std.proofs.Common.{rules, ◌≡◌, ◌&&◌, sym, ap, ◌∙◌}
 use Rattle.std.proofs.lemmas.Result.{IfOk-weaker}
-use Rattle.quorum_sets.specs.Ids.{ascending, ids_where}
-use Rattle.conf_plan.specs.Planned.{is_shared}
-use Rattle.conf_plan.proofs.FindingMoves.PickedIds.{shared_members-picked}
+use Rattle.quorum_sets.specs.Ids.{ascending, ids_where, union}
+use Rattle.quorum_sets.proofs.Offered.{has-ascending, has-ids_where, has-same_ids, has-union}
+use Rattle.conf_plan.specs.Planned.{is_shared, single_with}
+use Rattle.conf_plan.proofs.BestPlan.PreservedMembers.{is_member-single_with}
+use Rattle.conf_plan.proofs.PlannedSteps.IntoJoint.{has-shared_members}
 use Rattle.conf_plan.proofs.shared_members.shared_members.Goals as goal
 
 pub returns : goal.returns
 returns g c =
+    let own = g.S.MemberSet.ids in
     let target = c.args.target.now in
-    let members = g.S.MemberSet.ids c.in_ok-members.members in
-    IfOk-weaker c.picked.result (λ shared. g.S.MemberSet.ids shared ≡ ids_where (is_shared target) (ascending members)) _
-    (λ shared is. shared_members-picked (g.S.MemberSet.ids c.args.start.now.incoming.now) (g.S.MemberSet.ids c.args.start.now.learners.now) members (g.S.MemberSet.ids shared) target c.in_ok-members.ensures is)
+    let voters = own c.args.start.now.incoming.now in
+    let learners = own c.args.start.now.learners.now in
+    let all = union voters learners in
+    IfOk-weaker c.picked.result (λ shared. own shared ≡ ids_where (is_shared target) (ascending (own c.in_ok-members.members))) _
+    (λ shared is.
+    is ∙ ap (λ s. ids_where (is_shared target) (ascending s)) c.in_ok-members.ensures
+    ∙ has-same_ids _ _ (λ q.
+    has-ids_where (is_shared target) (ascending all) q
+    ∙ ap (λ b. is_shared target q && b) (sym (has-ascending all q) ∙ has-union voters learners q ∙ sym (is_member-single_with voters learners q))
+    ∙ sym (has-shared_members (single_with voters learners) target q)))
     (c.picked.ensures (is_shared target) (λ id answer given. search rules))
