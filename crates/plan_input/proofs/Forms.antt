@@ -79,8 +79,7 @@ form-change Voter (digit ∷ digits) more numeral =
     let range = digit_at (digit ∷ digits) 0 numeral.1 numeral.0 in
     by_blank (is_blank (digit ∷ digits ++ more)) (ne_eqb 111 digit (λ same. omega (arith, range))) where
       by_blank : (blank : Bool) → nat_eq 111 digit ≡ false → form_of_trimmed (118 ∷ cond blank [] (digit ∷ without_trailing_space (digits ++ more))) ≡ Other
-      by_blank true other = refl
-      by_blank false other = rw other refl
+      by_blank blank other = grind arith
 
 pub form-changes : (text : List ℕ) (changes : List Change) → Denotes text changes → form_of text ≡ Other
 form-changes text changes h = by_tokens (tokens_in text) changes refl h where

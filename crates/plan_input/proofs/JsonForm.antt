@@ -23,12 +23,10 @@ use Rattle.plan_input.proofs.Forms.{form-after_space}
 
 -- ---- only an object denotes a saved configuration
 no_array : (saved : ConfStateLists) (items : Option values.Items) → option_and_then saved_of_json (option_map values.array items) ≡ Some saved → ⊥
-no_array saved None e = cc
-no_array saved (Some items) e = cc
+no_array saved items e = grind arith
 
 no_number : (saved : ConfStateLists) (n : Option values.Num) → option_and_then saved_of_json (option_map values.number n) ≡ Some saved → ⊥
-no_number saved None e = cc
-no_number saved (Some n) e = cc
+no_number saved n e = grind arith
 
 -- the value of a text that was read, if nothing is after it
 abbrev saved_in_read : Option (json.Json × List Token) → Option ConfStateLists
@@ -78,8 +76,7 @@ brace-lexeme comma ls rest e = absurd cc
 brace-lexeme colon ls rest e = absurd cc
 
 no_string : (s : Option (List ℕ)) → token (string_token s) ≡ token begin_object → ⊥
-no_string None e = cc
-no_string (Some s) e = cc
+no_string s e = grind arith
 
 no_cond : (b : Bool) (t u : Token) → (t ≡ begin_object → ⊥) → (u ≡ begin_object → ⊥) → cond b t u ≡ begin_object → ⊥
 no_cond true t u not_t not_u e = not_t e
@@ -106,19 +103,10 @@ no_word text e =
     (no_cond (first == ascii.lower_n) of_null numbers (no_literal ascii.null_text null text (λ f. cc)) (no_number_before text (after_number text)))) e
 
 brace-operator : (a b c d e : Bool) → cond a (token begin_object) (cond b (token end_object) (cond c (token begin_array) (cond d (token end_array) (cond e comma colon)))) ≡ token begin_object → a ≡ true
-brace-operator true b c d e is = refl
-brace-operator false true c d e is = absurd cc
-brace-operator false false true d e is = absurd cc
-brace-operator false false false true e is = absurd cc
-brace-operator false false false false true is = absurd cc
-brace-operator false false false false false is = absurd cc
+brace-operator a b c d e is = grind arith
 
 space-class : (a b c d : Bool) → cond a quote (cond b backslash (cond c operator (cond d space other))) ≡ space → d ≡ true
-space-class true b c d is = absurd cc
-space-class false true c d is = absurd cc
-space-class false false true d is = absurd cc
-space-class false false false true is = refl
-space-class false false false false is = absurd cc
+space-class a b c d is = grind arith
 
 white : (x : ℕ) → words.is_space x ≡ true → is_space x ≡ true
 white x is = grind (arith, nat_tests)

@@ -1,5 +1,5 @@
 -- Paths in which a joint configuration that is left automatically comes last.
-use Rattle.std.proofs.Common.{◌≡◌, Bool, true, false, not, ◌&&◌, ◌||◌, List, [], ◌∷◌, ◌++◌, map, refl}
+use Rattle.std.proofs.Common.{◌≡◌, Bool, true, false, not, ◌&&◌, ◌||◌, List, [], ◌∷◌, ◌++◌, map, refl, arith}
 use Rattle.std.specs.Prelude.{nat_le, if◌then◌else◌}
 use Rattle.std.proofs.lemmas.Bool.{and_parts}
 use Rattle.quorum_sets.specs.Ids.{difference_count, is_empty}
@@ -11,7 +11,7 @@ use Rattle.conf_change.specs.declared.step.Step.TheVariants.{Simple, EnterJoint,
 use Rattle.conf_plan.specs.OnTheWay.{ChangesOneLearnerFirst}
 use Rattle.conf_plan.specs.LearnersFirst.{learner_changes, learners_first_from_single, newcomers, with_learners}
 use Rattle.conf_plan.specs.OneChangeEach.{one_change_each}
-use Rattle.conf_plan.specs.Planned.{configuration_after, entering_step, inserted_steps, joint_steps, moves, planned, planned_from_single, shared_members, single_steps}
+use Rattle.conf_plan.specs.Planned.{planned, planned_from_single}
 use Rattle.conf_plan.specs.Run.{IsRunWith}
 
 -- whether a step leads to a joint configuration that is left automatically
@@ -30,13 +30,8 @@ stays_till_last [] = true
 stays_till_last (step ∷ steps) = (not (leaves_by_itself step) || is_last steps) && stays_till_last steps
 
 -- ---- a step and those after it
-no_leaving : (leaves : Bool) → (not leaves || false) ≡ true → leaves ≡ false
-no_leaving true e = cc
-no_leaving false e = refl
-
 pub stays_till_last-first : (step other : Step) (steps : List Step) → stays_till_last (step ∷ other ∷ steps) ≡ true → leaves_by_itself step ≡ false
-stays_till_last-first step other steps e =
-    no_leaving (leaves_by_itself step) (and_parts (not (leaves_by_itself step) || false) (stays_till_last (other ∷ steps)) e).0
+stays_till_last-first step other steps e = grind arith
 
 pub stays_till_last-rest : (step : Step) (steps : List Step) → stays_till_last (step ∷ steps) ≡ true → stays_till_last steps ≡ true
 stays_till_last-rest step steps e = (and_parts (not (leaves_by_itself step) || is_last steps) (stays_till_last steps) e).1
@@ -48,8 +43,7 @@ of_singles (change ∷ changes) steps e = of_singles changes steps e
 
 of_leaving : (changes : List Change) (steps : List Step) → stays_till_last (EnterJoint true changes ∷ steps) ≡ true
     → stays_till_last (EnterJoint true changes ∷ one_change_each steps) ≡ true
-of_leaving changes [] e = refl
-of_leaving changes (step ∷ steps) e = cc
+of_leaving changes steps e = grind arith
 
 pub stays_till_last-one_change_each : (steps : List Step) → stays_till_last steps ≡ true → stays_till_last (one_change_each steps) ≡ true
 stays_till_last-one_change_each [] e = refl
@@ -63,46 +57,31 @@ of_either : (b : Bool) (xs ys : List Step) → stays_till_last xs ≡ true → s
 of_either true xs ys here there = here
 of_either false xs ys here there = there
 
-of_either_then : (b : Bool) (xs ys zs : List Step) → stays_till_last (xs ++ zs) ≡ true → stays_till_last (ys ++ zs) ≡ true → stays_till_last ((if b then xs else ys) ++ zs) ≡ true
-of_either_then true xs ys zs here there = here
-of_either_then false xs ys zs here there = there
-
-of_one : (step : Step) → stays_till_last (step ∷ []) ≡ true
-of_one (Simple changes) = refl
-of_one (EnterJoint true changes) = refl
-of_one (EnterJoint false changes) = refl
-of_one LeaveJoint = refl
+-- by the tests of a plan from a configuration that is not joint
+of_plan : (same joint there few close leaves : Bool) (moved entered changes : List Change)
+    → stays_till_last (if same then []
+    else (if joint then (if there then [] else (if few then Simple moved ∷ [] else EnterJoint false moved ∷ LeaveJoint ∷ [])) ++ EnterJoint leaves entered ∷ []
+    else (if close then Simple changes ∷ [] else EnterJoint false changes ∷ LeaveJoint ∷ []))) ≡ true
+of_plan same joint there few close leaves moved entered changes = grind arith
 
 -- a path that leaves a joint configuration first
 pub stays_till_last-left_first : (same joint : Bool) (left single : List Step) → stays_till_last left ≡ true → stays_till_last single ≡ true
     → stays_till_last (if same then [] else (if joint then LeaveJoint ∷ left else single)) ≡ true
-stays_till_last-left_first same joint left single of_left of_single =
-    of_either same [] (if joint then LeaveJoint ∷ left else single) refl (of_either joint (LeaveJoint ∷ left) single of_left of_single)
-
-of_joint : (c target : Configuration) → stays_till_last (joint_steps c target) ≡ true
-of_joint c target =
-    let entering = entering_step (configuration_after c (inserted_steps c target)) target in
-    let changes = moves c target.outgoing (shared_members c target) in
-    of_either_then (is_same_set c.incoming target.outgoing) [] (single_steps c target.outgoing (shared_members c target)) (entering ∷ []) (of_one entering)
-    (of_either_then (nat_le (difference_count c.incoming target.outgoing) 1) (Simple changes ∷ []) (EnterJoint false changes ∷ LeaveJoint ∷ []) (entering ∷ [])
-    (of_one entering) (of_one entering))
+stays_till_last-left_first same joint left single of_left of_single = grind arith
 
 pub stays_till_last-planned_from_single : (c target : Configuration) → stays_till_last (planned_from_single c target) ≡ true
 stays_till_last-planned_from_single c target =
-    let changes = moves c target.incoming target.learners in
-    of_either (is_same c target) [] (if is_joint target then joint_steps c target else single_steps c target.incoming target.learners) refl
-    (of_either (is_joint target) (joint_steps c target) (single_steps c target.incoming target.learners) (of_joint c target)
-    (of_either (nat_le (difference_count c.incoming target.incoming) 1) (Simple changes ∷ []) (EnterJoint false changes ∷ LeaveJoint ∷ []) refl refl))
+    of_plan (is_same c target) (is_joint target) (is_same_set c.incoming target.outgoing) (nat_le (difference_count c.incoming target.outgoing) 1)
+    (nat_le (difference_count c.incoming target.incoming) 1) target.auto_leave _ _ _
 
 stays_till_last-planned : (c target : Configuration) → stays_till_last (planned c target) ≡ true
 stays_till_last-planned c target =
-    stays_till_last-left_first (is_same c target) (is_joint c) (planned_from_single (after_leave c) target) (planned_from_single c target)
-    (stays_till_last-planned_from_single (after_leave c) target) (stays_till_last-planned_from_single c target)
+    stays_till_last-left_first (is_same c target) (is_joint c) _ _ (stays_till_last-planned_from_single (after_leave c) target) (stays_till_last-planned_from_single c target)
 
 pub stays_till_last-learners_first : (c target : Configuration) → stays_till_last (learners_first_from_single c target) ≡ true
 stays_till_last-learners_first c target =
     let grown = with_learners c (newcomers c target) in
-    of_either (is_empty (newcomers c target)) (planned c target) (Simple (learner_changes (newcomers c target)) ∷ planned grown target)
+    of_either (is_empty (newcomers c target)) (planned c target) (Simple (learner_changes c (newcomers c target)) ∷ planned grown target)
     (stays_till_last-planned c target) (stays_till_last-planned grown target)
 
 -- a path of one change a step

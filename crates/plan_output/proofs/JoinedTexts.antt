@@ -2,7 +2,7 @@
 use Rattle.std.proofs.Common.{◌≡◌, ℕ, zero, suc, ◌+◌, ◌<◌, Bool, true, false, ◌==◌, List, [], ◌∷◌, ◌++◌, length, take, get_or, map, refl, sym, ap, ◌∙◌, arith}
 use Rattle.std.specs.Prelude.{codes, decimal}
 use Rattle.std.specs.List.{join_with_byte}
-use Rattle.std.proofs.lemmas.Bool.{lt-ltb, eqb-true}
+use Rattle.std.proofs.lemmas.Bool.{lt-ltb}
 use Rattle.std.proofs.lemmas.List.{append_assoc, append-nil, map_more}
 use Rattle.conf_change.specs.Text.{text_if}
 use Rattle.conf_change.specs.Step.{changes_of}
@@ -33,14 +33,10 @@ abbrev parts : List ℕ → Step → List ℕ
 parts prefix step = prefix ++ join_with_byte 32 (command_tokens step) ++ changes_part (changes_of step)
 
 line_text-simple : (changes : List Change) → line_text (Simple changes) ≡ parts [] (Simple changes)
-line_text-simple [] = refl
-line_text-simple (change ∷ changes) = refl
+line_text-simple changes = grind arith
 
 line_text-enter : (auto_leave : Bool) (changes : List Change) → line_text (EnterJoint auto_leave changes) ≡ parts [] (EnterJoint auto_leave changes)
-line_text-enter true [] = refl
-line_text-enter false [] = refl
-line_text-enter true (change ∷ changes) = refl
-line_text-enter false (change ∷ changes) = refl
+line_text-enter auto_leave changes = grind arith
 
 line_text-parts : (step : Step) → line_text step ≡ parts [] step
 line_text-parts (Simple changes) = line_text-simple changes
@@ -53,12 +49,10 @@ step_name-parts number step =
     ∙ sym (ap (λ line. decimal number ++ codes " " ++ line) (line_text-parts step))
 
 changes_part-none : (changes : List Change) → (length changes == 0) ≡ true → changes_part changes ≡ []
-changes_part-none [] none = refl
-changes_part-none (change ∷ changes) none = absurd (omega (arith, eqb-true (length (change ∷ changes)) 0 none))
+changes_part-none changes none = grind arith
 
 changes_part-some : (changes : List Change) → (length changes == 0) ≡ false → changes_part changes ≡ 32 ∷ join_with_byte 32 (map change_text changes)
-changes_part-some [] some = cc
-changes_part-some (change ∷ changes) some = refl
+changes_part-some changes some = grind arith
 
 pub step_name-alone : (number : ℕ) (step : Step) → (length (changes_of step) == 0) ≡ true
     → decimal number ++ codes " " ++ join_with_byte 32 (command_tokens step) ≡ step_name number step

@@ -1,11 +1,11 @@
 -- The JSON lines of a run, read back and carried out one after another.
-use Rattle.std.proofs.Common.{◌≡◌, ℕ, ◌+◌, Bool, true, false, List, [], ◌∷◌, length, refl, sym, ap, subst, ◌∙◌, inl, inr}
-use Rattle.std.specs.Prelude.{Option, Some, None, Ok, option_and_then}
+use Rattle.std.proofs.Common.{◌≡◌, ℕ, ◌+◌, Bool, true, false, List, [], ◌∷◌, length, refl, sym, ap, subst, ◌∙◌, inl, inr, arith}
+use Rattle.std.specs.Prelude.{Option, Some, None, Ok, option_and_then, if◌then◌else◌}
 use Rattle.std.specs.List.{list_all}
 use Rattle.std.specs.Result.{result_ok, result_unwrap_or}
 use Rattle.std.proofs.lemmas.Bool.{and_parts}
 use Rattle.quorum_sets.specs.Ids.{Ids}
-use Rattle.conf_change.specs.Configuration.{Configuration, is_joint, is_restorable, is_valid}
+use Rattle.conf_change.specs.Configuration.{Configuration, is_restorable, is_valid}
 use Rattle.conf_change.specs.ConfState.{lists_of, restored}
 use Rattle.conf_change.specs.Outcome.{Outcome, after_leave, outcome}
 use Rattle.conf_change.specs.declared.step.Step.{Step}
@@ -16,7 +16,7 @@ use Rattle.raft_json.specs.Proposal.{after_auto_leave, proposal_of, proposed_cha
 use Rattle.raft_json.proofs.Offered.{carried_out-step, conf_change_of_json-conf_change_json, conf_state_of_json-conf_state_json}
 use Rattle.plan_output.specs.CarriedOut.{IsNoStep, LineLeads, LinesLead, configuration_in, proposal_in}
 use Rattle.plan_output.specs.Json.{each_json, no_steps_json, step_json, steps_json}
-use Rattle.plan_output.specs.Stages.{StageState, first_stage, stage_after, stages_after}
+use Rattle.plan_output.specs.Stages.{StageState, first_stage, stage_after}
 use Rattle.plan_output.proofs.SingleChanges.{is_taken_as_it_is, outcome-taken_as_it_is}
 use Rattle.plan_output.proofs.AutoLeave.{leaves_by_itself, stays_till_last, stays_till_last-first, stays_till_last-rest}
 
@@ -42,16 +42,8 @@ proposal_in-step_json down flag plan count number before step after =
 
 -- ---- where etcd ends
 -- a valid configuration stays, or is left
-ended : (c : Configuration) → is_valid c ≡ true → (end : Configuration) × (after_auto_leave (Ok c) ≡ Ok end)
-ended c valid = of_flag c.auto_leave refl
-  where
-    of_joint : (joint : Bool) → is_joint c ≡ joint → c.auto_leave ≡ true → (end : Configuration) × (after_auto_leave (Ok c) ≡ Ok end)
-    of_joint true joint flag = (after_leave c, rw (flag, joint) refl)
-    of_joint false single flag = let off = (ValidByMember-from_is_valid c valid).auto_leave single in absurd (cc)
-
-    of_flag : (flag : Bool) → c.auto_leave ≡ flag → (end : Configuration) × (after_auto_leave (Ok c) ≡ Ok end)
-    of_flag true flag = of_joint (is_joint c) refl flag
-    of_flag false flag = (c, rw flag refl)
+ended : (c : Configuration) → is_valid c ≡ true → after_auto_leave (Ok c) ≡ Ok (if c.auto_leave then after_leave c else c)
+ended c valid = grind (arith, (ValidByMember-from_is_valid c valid).auto_leave)
 
 after_auto_leave-stays : (c : Configuration) → c.auto_leave ≡ false → after_auto_leave (Ok c) ≡ Ok c
 after_auto_leave-stays c flag = rw flag refl
@@ -81,32 +73,31 @@ LineLeads-step given down flag plan count number before step after end is_before
 }
 
 -- ---- all lines
+-- where etcd ends after a step, the lines of the other steps lead on
+ended_then : (down : Option Ids) (flag : Option Bool) (plan count number : ℕ) (before target : Configuration) (step : Step) (after : StageState) (steps : List Step)
+    → is_valid before ≡ true → is_valid after.config ≡ true → outcome before step ≡ Ok after.config → stays_till_last (step ∷ steps) ≡ true
+    → LinesLead after.config after.config (steps_json down flag plan count number after steps) target
+    → (end : Configuration) × (after_auto_leave (Ok after.config) ≡ Ok end) × LinesLead end after.config (steps_json down flag plan count number after steps) target
+ended_then down flag plan count number before target step after [] valid is_after e stays rest =
+    (if after.config.auto_leave then after_leave after.config else after.config, ended after.config is_after, rest)
+ended_then down flag plan count number before target step after (other ∷ steps) valid is_after e stays rest =
+    (after.config, after_auto_leave-stays after.config (auto_leave-after before after.config step valid e (stays_till_last-first step other steps stays)), rest)
+
 LinesLead-steps : IsGiven → (down : Option Ids) (flag : Option Bool) (plan count number : ℕ) (stage : StageState) (steps : List Step) (target : Configuration)
     → IsValidWithVoter stage.config → IsRun stage.config steps target → stays_till_last steps ≡ true → list_all is_taken_as_it_is steps ≡ true
-    → LinesLead stage.config stage.config (steps_json down flag plan count number (stage ∷ stages_after stage.config steps) steps) target
+    → LinesLead stage.config stage.config (steps_json down flag plan count number stage steps) target
 LinesLead-steps given down flag plan count number stage [] target is run stays taken = run
-LinesLead-steps given down flag plan count number stage (step ∷ []) target is run stays taken =
+LinesLead-steps given down flag plan count number stage (step ∷ steps) target is run stays taken =
     let after = stage_after stage.config step in
     let same : run.0 ≡ after.config = sym (ap (λ (o : Outcome). result_unwrap_or o stage.config) run.1) in
     let gives = run.1 ∙ ap Ok same in
     let is_after = given.valid stage.config after.config (step ∷ []) is (after.config, gives, refl) in
-    let end = ended after.config is_after.valid in
-    let as_it_is = (and_parts (is_taken_as_it_is step) true taken).0 in
-    inr (after.config, end.0, LineLeads-step given down flag plan count number stage step after end.0 is is_after gives as_it_is end.1, sym same ∙ run.2)
-LinesLead-steps given down flag plan count number stage (step ∷ other ∷ steps) target is run stays taken =
-    let after = stage_after stage.config step in
-    let same : run.0 ≡ after.config = sym (ap (λ (o : Outcome). result_unwrap_or o stage.config) run.1) in
-    let gives = run.1 ∙ ap Ok same in
-    let is_after = given.valid stage.config after.config (step ∷ []) is (after.config, gives, refl) in
-    let leaves = after_auto_leave-stays after.config (auto_leave-after stage.config after.config step is.valid gives (stays_till_last-first step other steps stays)) in
-    let rest = subst (λ (c : Configuration). IsRun c (other ∷ steps) target) same run.2 in
-    let each = and_parts (is_taken_as_it_is step) (list_all is_taken_as_it_is (other ∷ steps)) taken in
-    inr (
-      after.config,
-      after.config,
-      LineLeads-step given down flag plan count number stage step after after.config is is_after gives each.0 leaves,
-      LinesLead-steps given down flag plan count (number + 1) after (other ∷ steps) target is_after rest (stays_till_last-rest step (other ∷ steps) stays) each.1,
-    )
+    let each = and_parts (is_taken_as_it_is step) (list_all is_taken_as_it_is steps) taken in
+    let rest =
+    LinesLead-steps given down flag plan count (number + 1) after steps target is_after (subst (λ (c : Configuration). IsRun c steps target) same run.2) (stays_till_last-rest step steps stays)
+    each.1 in
+    let end = ended_then down flag plan count (number + 1) stage.config target step after steps is.valid is_after.valid gives stays rest in
+    inr (after.config, end.0, LineLeads-step given down flag plan count number stage step after end.0 is is_after gives each.0 end.1, end.2)
 
 IsNoStep-no_steps_json : (flag : Option Bool) (plan : ℕ) → IsNoStep (no_steps_json flag plan)
 IsNoStep-no_steps_json None plan = record { nothing = refl; nowhere = refl }

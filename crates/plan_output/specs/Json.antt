@@ -11,7 +11,7 @@ use Rattle.raft_json.specs.IdsJson.{ids_json}
 use Rattle.raft_json.specs.ConfStateJson.{conf_state_json}
 use Rattle.raft_json.specs.ConfChangeJson.{conf_change_json}
 use Rattle.raft_json.specs.Proposal.{proposed_changes, transition_of}
-use Rattle.plan_output.specs.Stages.{StageState, stages, stage_may_be_down, until_then, may_be_down_besides, stalls}
+use Rattle.plan_output.specs.Stages.{StageState, first_stage, stage_after, stage_may_be_down, until_then, may_be_down_besides, stalls}
 
 -- a number, or null if there is none
 abbrev pub count_json : Option ℕ → Data
@@ -48,13 +48,12 @@ step_json down stalls plan count number_of before step after =
     object (member (codes "catch_up") (ids_json (ascending after.catching_up))
     (step_keys down stalls plan count number_of before step after))
 
--- the objects of steps, the first of which has this number, each with the stages before and after it
-abbrev pub steps_json : Option Ids → Option Bool → ℕ → ℕ → ℕ → List StageState → List Step → List Data
-steps_json down stalls plan count number_of (before ∷ after ∷ all) (step ∷ steps) =
-    step_json down stalls plan count number_of before step after ∷ steps_json down stalls plan count (number_of + 1) (after ∷ all) steps
-steps_json down stalls plan count number_of (before ∷ after ∷ all) [] = []
-steps_json down stalls plan count number_of (before ∷ []) steps = []
-steps_json down stalls plan count number_of [] steps = []
+-- the objects of steps, the first of which has this number and leads from this stage
+abbrev pub steps_json : Option Ids → Option Bool → ℕ → ℕ → ℕ → StageState → List Step → List Data
+steps_json down stalls plan count number_of before [] = []
+steps_json down stalls plan count number_of before (step ∷ steps) =
+    step_json down stalls plan count number_of before step (stage_after before.config step)
+    ∷ steps_json down stalls plan count (number_of + 1) (stage_after before.config step) steps
 
 -- the object of a path without a step
 abbrev pub no_steps_json : Option Bool → ℕ → Data
@@ -64,7 +63,7 @@ no_steps_json stalls plan =
 -- the objects of these steps, or the one object if there is none
 abbrev pub each_json : Option Ids → Option Bool → ℕ → Configuration → List Step → List Data
 each_json down stalls plan now [] = no_steps_json stalls plan ∷ []
-each_json down stalls plan now (step ∷ steps) = steps_json down stalls plan (length (step ∷ steps)) 1 (stages now (step ∷ steps)) (step ∷ steps)
+each_json down stalls plan now (step ∷ steps) = steps_json down stalls plan (length (step ∷ steps)) 1 (first_stage now) (step ∷ steps)
 
 -- the objects of a path, in which a simple step of several changes is as many steps of one change each
 abbrev pub path_json : ℕ → Configuration → List Step → Option Ids → List Data

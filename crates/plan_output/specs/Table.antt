@@ -1,5 +1,5 @@
 -- The table of a path: a row for the configuration with which it begins, and one for each step.
-use Rattle.std.specs.Prelude.{ℕ, ◌+◌, ◌-◌, not, ◌&&◌, List, [], ◌∷◌, ◌++◌, map, length, replicate, codes, decimal, flat_map, nat_lt, Option, Some, None, if◌then◌else◌}
+use Rattle.std.specs.Prelude.{ℕ, ◌+◌, ◌-◌, ◌==◌, not, ◌&&◌, List, [], ◌∷◌, ◌++◌, map, length, replicate, codes, decimal, flat_map, nat_lt, slice_get, Option, Some, None, if◌then◌else◌}
 use Rattle.std.specs.List.{join_with_byte}
 use Rattle.quorum_sets.specs.Ids.{Ids, has, ascending, size, ids_of, is_empty}
 use Rattle.quorum_sets.specs.Voters.{majority}
@@ -78,20 +78,19 @@ headings ids down =
 abbrev pub step_name : ℕ → Step → List ℕ
 step_name number step = decimal number ++ codes " " ++ line_text step
 
--- the names of steps, the first of which has this number
-abbrev pub step_names : ℕ → List Step → List (List ℕ)
-step_names number [] = []
-step_names number (step ∷ steps) = step_name number step ∷ step_names (number + 1) steps
+-- the name of a stage with this number, if this step leads to it: no step leads to the first one
+abbrev pub name_after : ℕ → Option Step → List ℕ
+name_after number None = codes "now"
+name_after number (Some step) = step_name number step
 
--- the names of the stages: now, and then the steps
-abbrev pub stage_names : List Step → List (List ℕ)
-stage_names steps = codes "now" ∷ step_names 1 steps
+-- the name of the stage at this index, counted from 0
+abbrev pub stage_name : List Step → ℕ → List ℕ
+stage_name steps index = name_after index (if index == 0 then None else slice_get steps (index - 1))
 
--- a row for each stage, with its name
-abbrev pub rows_of : List ℕ → Option Ids → List (List ℕ) → List StageState → List (List (List ℕ))
-rows_of ids down [] stages = []
-rows_of ids down (name ∷ names) [] = []
-rows_of ids down (name ∷ names) (stage ∷ stages) = row ids down name stage ∷ rows_of ids down names stages
+-- a row for each stage, the first of which has this index
+abbrev pub rows_of : List ℕ → Option Ids → List Step → ℕ → List StageState → List (List (List ℕ))
+rows_of ids down steps index [] = []
+rows_of ids down steps index (stage ∷ stages) = row ids down (stage_name steps index) stage ∷ rows_of ids down steps (index + 1) stages
 
 -- the ids that are members at some stage
 abbrev pub ids_on_the_way : List StageState → Ids
@@ -101,7 +100,7 @@ ids_on_the_way all = ids_of (flat_map (λ stage. members stage.config) all)
 abbrev pub stage_rows : List StageState → List Step → Option Ids → List (List (List ℕ))
 stage_rows all steps down =
     let ids = ascending (ids_on_the_way all) in
-    headings ids down ∷ rows_of ids down (stage_names steps) all
+    headings ids down ∷ rows_of ids down steps 0 all
 
 -- the table of a path; if ids are given that are down, its last column shows how many may be down besides these
 abbrev pub table_text : Configuration → List Step → Option Ids → List ℕ

@@ -5,7 +5,7 @@
 //! ["now", "2 of 3"]        ->    now          2 of 3
 //! ["1 simple v4", ""]            1 simple v4
 //! ```
-ghost use Rattle.std.specs.Prelude.{◌≡◌, ℕ, ◌<◌, ◌^◌, max, [], ◌∷◌, ◌++◌, length, flat_map, slice_index, IfOk, OnOk, OnErr};
+ghost use Rattle.std.specs.Prelude.{◌≡◌, ℕ, ◌<◌, ◌≤◌, ◌^◌, [], ◌∷◌, ◌++◌, length, flat_map, slice_index, IfOk, OnOk, OnErr};
 ghost use Rattle.ascii_text.specs.Append.{Extends};
 ghost use Rattle.plan_output.specs.Grid as grid;
 ghost use Rattle.plan_output.specs.Grid.{cell, width, line_of_row, grid_text};
@@ -84,27 +84,33 @@ fn widths(alloc: Global, rows: &[Row]) -> Result<Vec<usize>, NoMemory>
     ensures small { IfOk result (λ widths. (column : ℕ) → slice_index widths.items column < 2 ^ 63) }
 {
     let mut widths = Vec::new(alloc);
-    for row in rows {
-        widen(&mut widths, row)?;
+    for column in 0..columns(rows) {
+        widths.push(width(rows, column))?;
     }
     Ok(widths)
 }
 
-// Widens the columns that are narrower than the row's cells.
-fn widen(widths: &mut Vec<usize>, row: &Row) -> Result<(), NoMemory>
-    requires { (column : ℕ) → slice_index widths.old.items column < 2 ^ 63 }
-    ensures wider { OnOk result ((column : ℕ) → slice_index widths.new.items column ≡ max (slice_index widths.old.items column) (length (cell column row.now))) }
-    ensures small { OnOk result ((column : ℕ) → slice_index widths.new.items column < 2 ^ 63) }
+// The number of columns that some row reaches.
+fn columns(rows: &[Row]) -> usize
+    ensures { (column : ℕ) → result ≤ column → width rows.now column ≡ 0 }
 {
-    for column in 0..row.len() {
-        let len = row.cell(column).len();
-        if column < widths.len() {
-            widths[column] = widths[column].max(len);
-        } else {
-            widths.push(len)?;
-        }
+    let mut columns = 0usize;
+    for row in rows {
+        columns = columns.max(row.len());
     }
-    Ok(())
+    columns
+}
+
+// The width of a column, counted from 0.
+fn width(rows: &[Row], column: usize) -> usize
+    ensures width { result ≡ width rows.now column }
+    ensures small { result < 2 ^ 63 }
+{
+    let mut width = 0usize;
+    for row in rows {
+        width = width.max(row.cell(column).len());
+    }
+    width
 }
 
 // Appends a line for each row, by the widths of the columns. On `NoMemory` some lines may be there.

@@ -19,17 +19,16 @@ ghost use Rattle.quorum_sets.specs.Ids.{ascending};
 ghost use Rattle.conf_change.specs.Configuration.{is_restorable};
 ghost use Rattle.serde_json.specs.View.{view, members_view};
 ghost use Rattle.serde_json.specs.Written.{has_float};
-ghost use Rattle.raft_json.specs.IdsJson.{ids_json};
 ghost use Rattle.plan_output.specs.Json as spec;
 ghost use Rattle.plan_output.specs.Stages as stage_spec;
 ghost use Rattle.plan_output.specs.Json.{each_json, json_text, value_line, no_plan_json, no_steps_json, step_json};
 
-use crate::stage::{Stage, stages, stalls};
+use crate::stage::{Stage, stalls};
 use ascii_text::append::append;
 use conf_change::{Config, Step, conf_state};
 use conf_plan::Path;
 use quorum_sets::{MemberSet, NoMemory};
-use raft_json::{conf_change_value, conf_state_value};
+use raft_json::{conf_change_value, conf_state_value, ids_value};
 use serde_json::{Map, Value, put};
 use std::alloc::Global;
 
@@ -116,18 +115,18 @@ fn lines_of<S: MemberSet>(
         add_line(alloc, &mut lines, &no_steps_value(alloc, plan, stalls)?)?;
         return Ok(lines);
     }
-    let stages = stages(alloc, now, path)?;
-    for index in 0..path.len() {
-        if let Some(step) = path.step(index) {
-            let number = Number {
-                plan,
-                steps: path.len(),
-                step: index + 1,
-                stalls,
-            };
-            let (before, after) = (&stages[index], &stages[index + 1]);
-            add_step(alloc, &mut lines, number, before, step, after, down)?;
-        }
+    let steps = path.as_slice();
+    let mut before = Stage::first(alloc, now)?;
+    for (index, step) in steps.iter().enumerate() {
+        let number = Number {
+            plan,
+            steps: steps.len(),
+            step: index + 1,
+            stalls,
+        };
+        let after = before.next(alloc, step)?;
+        add_step(alloc, &mut lines, number, &before, step, &after, down)?;
+        before = after;
     }
     Ok(lines)
 }
@@ -202,8 +201,13 @@ fn step_value<S: MemberSet>(
             count_value(after.may_be_down_besides(down)?),
         )?;
     }
-    let catch_up = ids_value(alloc, after.catching_up())?;
-    put(&mut members, alloc, "catch_up", catch_up)?;
+    let catch_up = list_of(alloc, after.catching_up())?;
+    put(
+        &mut members,
+        alloc,
+        "catch_up",
+        ids_value(alloc, catch_up.as_slice())?,
+    )?;
     Ok(Value::Object(members))
 }
 
@@ -252,15 +256,15 @@ fn count_value(count: Option<usize>) -> Value
     }
 }
 
-// Ids as an array of numbers, ascending.
-fn ids_value<S: MemberSet>(alloc: Global, ids: &S) -> Result<Value, NoMemory>
-    ensures { IfOk result (λ v. view v ≡ ids_json (ascending (S.ids ids.now))) }
+// The ids of a set in ascending order.
+fn list_of<S: MemberSet>(alloc: Global, ids: &S) -> Result<Vec<u64>, NoMemory>
+    ensures { IfOk result (λ list. list.items ≡ ascending (S.ids ids.now)) }
 {
-    let mut items = Vec::with_capacity(alloc, ids.len())?;
+    let mut list = Vec::with_capacity(alloc, ids.len())?;
     for index in 0..ids.len() {
         if let Some(id) = ids.at(index) {
-            items.push(Value::from(id))?;
+            list.push(id)?;
         }
     }
-    Ok(Value::Array(items))
+    Ok(list)
 }

@@ -10,6 +10,7 @@
 //! ```
 ghost use Rattle.std.specs.Prelude.{◌≡◌, IfOk};
 ghost use Rattle.quorum_sets.specs.Ids.{no_ids, union};
+ghost use Rattle.quorum_sets.specs.Tolerance as tolerance;
 ghost use Rattle.quorum_sets.specs.Tolerance.{IsMostDown};
 ghost use Rattle.conf_change.specs.Configuration.{voters_of};
 ghost use Rattle.plan_output.specs.Stages as spec;
@@ -17,7 +18,7 @@ ghost use Rattle.plan_output.specs.Stages.{StageState, first_stage, configuratio
 
 use conf_change::{Config, Refused, Step, next_config};
 use conf_plan::{Path, catching_up};
-use quorum_sets::{MemberSet, NoMemory, union};
+use quorum_sets::{MemberSet, NoMemory, may_be_down, union};
 use std::alloc::Global;
 use std::marker::Model;
 
@@ -41,12 +42,24 @@ impl<S: MemberSet> Model for Stage<S> {
 
 impl<S: MemberSet> Stage<S> {
     // The stage before the first step, where no member has to catch up.
-    fn first(alloc: Global, now: &Config<S>) -> Result<Stage<S>, NoMemory>
+    pub(crate) fn first(alloc: Global, now: &Config<S>) -> Result<Stage<S>, NoMemory>
         ensures { IfOk result (λ stage. stage ≡ first_stage now.now) }
     {
         Ok(Stage {
             config: now.try_clone()?,
             catching_up: S::empty(alloc),
+        })
+    }
+
+    // The stage that a step leads to. A step that is refused changes nothing.
+    pub(crate) fn next(&self, alloc: Global, step: &Step) -> Result<Stage<S>, NoMemory>
+        ensures { IfOk result (λ stage. stage ≡ stage_after self.now.config step.now) }
+    {
+        let config = after_step(&self.config, step)?;
+        let catching_up = catching_up(alloc, &self.config, step, &config)?;
+        Ok(Stage {
+            config,
+            catching_up,
         })
     }
 
@@ -70,9 +83,8 @@ impl<S: MemberSet> Stage<S> {
         ensures most { IsMostDown (voters_of self.now.config) no_ids result }
         ensures counted { result ≡ spec.stage_may_be_down self.now }
     {
-        let config = &self.config;
         let no_ids = S::empty(self.catching_up.allocator());
-        quorum_sets::may_be_down((&config.incoming, &config.outgoing), &no_ids)
+        self.most_down(&no_ids)
     }
 
     /// How many ids may be down until the members that have to catch up have done so; these do not count, be they down
@@ -81,8 +93,7 @@ impl<S: MemberSet> Stage<S> {
         ensures most { IsMostDown (voters_of self.now.config) self.now.catching_up result }
         ensures counted { result ≡ spec.until_then self.now }
     {
-        let config = &self.config;
-        quorum_sets::may_be_down((&config.incoming, &config.outgoing), &self.catching_up)
+        self.most_down(self.catching_up())
     }
 
     /// How many ids may be down besides these, while the members that have to catch up do not count either. `None` if
@@ -92,9 +103,17 @@ impl<S: MemberSet> Stage<S> {
         ensures most { IfOk result (λ most. IsMostDown (voters_of self.now.config) (union (S.ids down.now) self.now.catching_up) most) }
         ensures counted { IfOk result (λ most. most ≡ spec.may_be_down_besides self.now (S.ids down.now)) }
     {
-        let away = union(down, &self.catching_up)?;
+        let away = union(down, self.catching_up())?;
+        Ok(self.most_down(&away))
+    }
+
+    // How many ids may be down while the others, without these that do not count, are still a quorum.
+    fn most_down(&self, uncounted: &S) -> Option<usize>
+        ensures most { IsMostDown (voters_of self.now.config) (S.ids uncounted.now) result }
+        ensures counted { result ≡ tolerance.may_be_down (voters_of self.now.config) (S.ids uncounted.now) }
+    {
         let config = &self.config;
-        Ok(quorum_sets::may_be_down((&config.incoming, &config.outgoing), &away))
+        may_be_down((&config.incoming, &config.outgoing), uncounted)
     }
 }
 
@@ -106,33 +125,15 @@ pub fn stages<S: MemberSet>(
 ) -> Result<Vec<Stage<S>>, NoMemory>
     ensures { IfOk result (λ stages. stages.items ≡ spec.stages now.now path.now) }
 {
-    let mut before = now.try_clone()?;
     let mut stages = Vec::new(alloc);
-    stages.push(Stage::first(alloc, now)?)?;
-    for index in 0..path.len() {
-        if let Some(step) = path.step(index) {
-            let stage = next_stage(alloc, &before, step)?;
-            before = stage.config().try_clone()?;
-            stages.push(stage)?;
-        }
+    let mut last = Stage::first(alloc, now)?;
+    for step in path.as_slice() {
+        let next = last.next(alloc, step)?;
+        stages.push(last)?;
+        last = next;
     }
+    stages.push(last)?;
     Ok(stages)
-}
-
-// The stage that a step leads to. A step that is refused changes nothing.
-fn next_stage<S: MemberSet>(
-    alloc: Global,
-    before: &Config<S>,
-    step: &Step,
-) -> Result<Stage<S>, NoMemory>
-    ensures { IfOk result (λ stage. stage ≡ stage_after before.now step.now) }
-{
-    let config = after_step(before, step)?;
-    let catching_up = catching_up(alloc, before, step, &config)?;
-    Ok(Stage {
-        config,
-        catching_up,
-    })
 }
 
 // The configuration after a step.

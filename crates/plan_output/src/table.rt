@@ -7,11 +7,12 @@
 //! now          V V V .  2 of 3    1                                  0
 //! 1 simple v4  V V V V  3 of 4    1            4         0           stalls
 //! ```
-ghost use Rattle.std.specs.Prelude.{◌≡◌, ℕ, ◌+◌, ◌≤◌, true, [], ◌++◌, length, option_copied, option_map, slice_index_or, IfOk, OnOk, OnErr};
-ghost use Rattle.quorum_sets.specs.Ids.{ascending, has};
-ghost use Rattle.conf_change.specs.Configuration.{is_member, is_restorable};
+ghost use Rattle.std.specs.Prelude.{◌≡◌, true, ◌++◌, option_copied, option_map, IfOk, OnOk, OnErr};
+ghost use Rattle.quorum_sets.specs.Ids.{ascending};
+ghost use Rattle.quorum_sets.specs.Ids.{union as set_union};
+ghost use Rattle.conf_change.specs.Configuration.{is_restorable};
 ghost use Rattle.plan_output.specs.Table as spec;
-ghost use Rattle.plan_output.specs.Table.{stage_names, table_text};
+ghost use Rattle.plan_output.specs.Table.{table_text};
 
 use crate::cells::{
     besides_heading, down_text, ids_text, majority_text, marks_text, step_name, until_text,
@@ -51,7 +52,6 @@ fn rows<S: MemberSet>(
     path: &Path,
     down: Option<&S>,
 ) -> Result<Vec<Row>, NoMemory>
-    requires { length stages.now ≡ length path.now + 1 }
     ensures { IfOk result (λ rows. rows.items ≡ spec.stage_rows stages.now path.now (option_map S.ids (option_copied down.entry))) }
 {
     let ids = ids_on_the_way(alloc, stages)?;
@@ -78,7 +78,7 @@ fn ids_on_the_way<S: MemberSet>(alloc: Global, stages: &[Stage<S>]) -> Result<S,
 
 // The members of a configuration: its voters and its learners. A next learner is an outgoing voter.
 fn members<S: MemberSet>(config: &Config<S>) -> Result<S, NoMemory>
-    ensures { IfOk result (λ ids. (q : ℕ) → has (S.ids ids) q ≡ is_member config.now q) }
+    ensures { IfOk result (λ ids. S.ids ids ≡ set_union (set_union config.now.incoming config.now.outgoing) config.now.learners) }
 {
     let voters = union(&config.incoming, &config.outgoing)?;
     union(&voters, &config.learners)
@@ -103,8 +103,7 @@ fn headings<S: MemberSet>(alloc: Global, ids: &S, down: Option<&S>) -> Result<Ro
 
 // The name of a stage: `now`, or the step that leads to it. Stage 0 is before the first step.
 fn stage_name(alloc: Global, path: &Path, index: usize) -> Result<Vec<u8>, NoMemory>
-    requires { index ≤ length path.now }
-    ensures { IfOk result (λ name. name.items ≡ slice_index_or (stage_names path.now) index []) }
+    ensures { IfOk result (λ name. name.items ≡ spec.stage_name path.now index) }
 {
     if index > 0 {
         if let Some(step) = path.step(index - 1) {

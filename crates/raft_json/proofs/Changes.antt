@@ -1,24 +1,17 @@
 -- The JSON of a change of the configuration, read.
-use Rattle.std.proofs.Common.{◌≡◌, List, [], ◌∷◌, map, Some, option_map, refl, ap}
+use Rattle.std.proofs.Common.{◌≡◌, List, [], ◌∷◌, map, Some, option_map, refl, ap, arith}
 use Rattle.conf_change.specs.declared.change.Change.{Change}
 use Rattle.conf_change.specs.declared.change.Kind.{Kind}
-use Rattle.conf_change.specs.declared.change.Kind.TheVariants.{Voter, Learner, Remove, Update}
 use Rattle.conf_change.specs.declared.transition.Transition.{Transition}
-use Rattle.conf_change.specs.declared.transition.Transition.TheVariants.{Auto, Implicit, Explicit}
 use Rattle.serde_json.specs.View.{items_of}
 use Rattle.raft_json.specs.ConfChangeJson.{change_json, conf_change_json, kind_name, transition_name}
 use Rattle.raft_json.specs.ConfChangeRead.{kind_named, transition_named, change_of_json, changes_from, conf_change_of_json}
 
 kind_named-kind_name : (kind : Kind) → kind_named (kind_name kind) ≡ Some kind
-kind_named-kind_name Voter = refl
-kind_named-kind_name Learner = refl
-kind_named-kind_name Remove = refl
-kind_named-kind_name Update = refl
+kind_named-kind_name kind = grind arith
 
 transition_named-transition_name : (transition : Transition) → transition_named (transition_name transition) ≡ Some transition
-transition_named-transition_name Auto = refl
-transition_named-transition_name Implicit = refl
-transition_named-transition_name Explicit = refl
+transition_named-transition_name transition = grind arith
 
 change_of_json-change_json : (change : Change) → change_of_json (change_json change) ≡ Some change
 change_of_json-change_json change = rw (kind_named-kind_name change.kind) refl

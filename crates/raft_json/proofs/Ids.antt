@@ -1,5 +1,5 @@
 -- Lists of ids, item by item.
-use Rattle.std.proofs.Common.{◌≡◌, ℕ, List, [], ◌∷◌, ◌++◌, Option, Some, None, option_map, refl, sym, ap, append_assoc}
+use Rattle.std.proofs.Common.{◌≡◌, ℕ, List, [], ◌∷◌, ◌++◌, Option, Some, None, option_map, refl, sym, ap, append_assoc, arith}
 use Rattle.serde_json.specs.Data.{Data, Items, item}
 use Rattle.raft_json.specs.IdsJson.{id_from, ids_from}
 
@@ -8,8 +8,7 @@ abbrev pub joined : List ℕ → Option (List ℕ) → Option (List ℕ)
 joined ids rest = option_map (λ more. ids ++ more) rest
 
 pub joined-none : (rest : Option (List ℕ)) → rest ≡ joined [] rest
-joined-none None = refl
-joined-none (Some more) = refl
+joined-none rest = grind arith
 
 one_more : (ids : List ℕ) (id : ℕ) (rest : Option (List ℕ)) → joined ids (option_map (λ more. id ∷ more) rest) ≡ joined (ids ++ id ∷ []) rest
 one_more ids id None = refl

@@ -1,5 +1,5 @@
 -- The members of a list, item by item.
-use Rattle.std.proofs.Common.{◌≡◌, ℕ, Bool, true, false, List, [], ◌∷◌, ◌++◌, Option, Some, None, option_map, refl, sym, ap, append_assoc, append-nil}
+use Rattle.std.proofs.Common.{◌≡◌, ℕ, Bool, true, false, List, [], ◌∷◌, ◌++◌, Option, Some, None, option_map, refl, append_assoc, arith}
 use Rattle.std.specs.Prelude.{if◌then◌else◌}
 use Rattle.conf_change.specs.ConfState.{ConfStateLists}
 use Rattle.serde_json.specs.Data.{Data, Items, item}
@@ -17,8 +17,7 @@ with_more voters learners rest = option_map (λ more. record {
 }) rest
 
 pub with_more-none : (rest : Option (List Member)) → option_map conf_state_of_members rest ≡ with_more [] [] rest
-with_more-none None = refl
-with_more-none (Some more) = refl
+with_more-none rest = grind arith
 
 one_more : (voters learners : List ℕ) (member : Member) (rest : Option (List Member)) → (is : Bool) → member.is_learner ≡ is →
     with_more voters learners (option_map (λ members. member ∷ members) rest)

@@ -1,7 +1,8 @@
 -- Where etcd ends with what is proposed for a step.
-use Rattle.std.proofs.Common.{◌≡◌, ℕ, ◌<◌, Bool, true, false, not, ◌||◌, List, [], ◌∷◌, length, Option, Some, None, refl, sym, ap, ◌∙◌, arith}
+use Rattle.std.proofs.Common.{◌≡◌, ℕ, ◌<◌, Bool, true, false, not, ◌||◌, List, [], ◌∷◌, length, get_or, Option, Some, None, refl, sym, ap, ◌∙◌, arith}
 use Rattle.std.specs.Prelude.{Ok, Err, slice_get, nat_lt, if◌then◌else◌}
 use Rattle.std.specs.Result.{result_ok}
+use Rattle.std.proofs.lemmas.Option.{slice_get-get_or}
 use Rattle.std.proofs.lemmas.Bool.{true≢false, not-true, eqb-false, false_from_ne_true}
 use Rattle.quorum_sets.specs.Ids.{has, ascending, difference_count}
 use Rattle.quorum_sets.proofs.Offered.{has-no_ids}
@@ -30,15 +31,12 @@ result_of-or_update before c [] = result_of-update_of c (slice_get (ascending be
 result_of-or_update before c (change ∷ changes) = refl
 
 -- a configuration with a voter has a least one
-first_of_some : (ids : List ℕ) → 0 < length ids → (id : ℕ) × (slice_get ids 0 ≡ Some id)
-first_of_some [] h = absurd (omega arith)
-first_of_some (id ∷ ids) h = (id, refl)
-
-least_voter : (before : Configuration) → has_voter before ≡ true → (id : ℕ) × (slice_get (ascending before.incoming) 0 ≡ Some id)
-least_voter before voter = first_of_some (ascending before.incoming) (omega (arith, eqb-false (length (ascending before.incoming)) 0 (not-true _ voter)))
+least_voter : (before : Configuration) → has_voter before ≡ true → slice_get (ascending before.incoming) 0 ≡ Some (get_or (ascending before.incoming) 0 0)
+least_voter before voter =
+    slice_get-get_or (ascending before.incoming) 0 0 (omega (arith, eqb-false (length (ascending before.incoming)) 0 (not-true _ voter)))
 
 pub or_update-named : (before : Configuration) (changes : List Change) → has_voter before ≡ true → 0 < length (or_update before changes)
-or_update-named before [] voter = let least = least_voter before voter in rw least.1 (omega arith)
+or_update-named before [] voter = rw (least_voter before voter) (omega arith)
 or_update-named before (change ∷ changes) voter = omega arith
 
 -- ---- the outcome goes by what the changes make
@@ -63,32 +61,25 @@ enter-proposed before true changes = enter_by_result before true (or_update befo
 enter-proposed before false changes = enter_by_result before false (or_update before changes) changes (result_of-or_update before (with_outgoing before false) changes)
 
 -- ---- a simple step ends without auto-leave
-after_auto_leave-flag : (c : Configuration) → c.auto_leave ≡ false → after_auto_leave (Ok c) ≡ Ok c
-after_auto_leave-flag c e = ap (λ b. if b then leave_outcome c else Ok c) e
+after_auto_leave-simple : (before after : Configuration) (changes : List Change) → is_valid before ≡ true → outcome before (Simple changes) ≡ Ok after → after_auto_leave (Ok after) ≡ Ok after
+after_auto_leave-simple before after changes valid e =
+    let taken = SimpleTaken-from_outcome before after changes e in
+    ap (λ b. if b then leave_outcome after else Ok after)
+    (sym (ap (λ (c : Configuration). c.auto_leave) taken.made) ∙ (ValidByMember-from_is_valid before valid).auto_leave taken.single)
 
 final_outcome-simple : (before after : Configuration) (changes : List Change) → is_valid before ≡ true → outcome before (Simple changes) ≡ Ok after → final_outcome before (Simple changes) ≡ Ok after
-final_outcome-simple before after changes valid e =
-    let taken = SimpleTaken-from_outcome before after changes e in
-    let flag = (ValidByMember-from_is_valid before valid).auto_leave taken.single in
-    ap after_auto_leave e ∙ after_auto_leave-flag after (sym (ap (λ (c : Configuration). c.auto_leave) taken.made) ∙ flag)
+final_outcome-simple before after changes valid e = ap after_auto_leave e ∙ after_auto_leave-simple before after changes valid e
 
 -- ---- through a joint configuration and out of it
 joined_learners : (o : Option Kind) (out was next : Bool) → next ≡ false → (is_learner_after o out was || is_next_after o out next) ≡ is_learner_after o false was
-joined_learners None out true next e = refl
-joined_learners None out false next e = e
+joined_learners None out was next e = grind arith
 joined_learners (Some Voter) out was next e = refl
-joined_learners (Some Learner) true was next e = refl
-joined_learners (Some Learner) false was next e = refl
+joined_learners (Some Learner) out was next e = grind arith
 joined_learners (Some Remove) out was next e = refl
-joined_learners (Some Update) out true next e = refl
-joined_learners (Some Update) out false next e = e
+joined_learners (Some Update) out was next e = grind arith
 
 no_next : (o : Option Kind) (next : Bool) → next ≡ false → is_next_after o false next ≡ false
-no_next None next e = e
-no_next (Some Voter) next e = refl
-no_next (Some Learner) next e = refl
-no_next (Some Remove) next e = refl
-no_next (Some Update) next e = e
+no_next o next e = grind arith
 
 entered_and_left : (before : Configuration) (changes : List Change) → is_valid before ≡ true → is_joint before ≡ false
     → after_leave (result_of (with_outgoing before true) changes) ≡ result_of before changes
@@ -122,10 +113,9 @@ through_joint before after changes valid voter e =
 pub simple-proposed : (before after : Configuration) (changes : List Change) → is_valid before ≡ true → has_voter before ≡ true
     → outcome before (Simple changes) ≡ Ok after → final_outcome before (proposed_step before (Simple changes)) ≡ Ok after
 simple-proposed before after [] valid voter e =
-    let least = least_voter before voter in
-    let update : List Change = update_of (Some least.0) in
-    ap (λ o. final_outcome before (step_for Auto (update_of o))) least.1
-    ∙ ap after_auto_leave (simple_by_result before update [] (result_of-update_of before (Some least.0)))
+    let least = Some (get_or (ascending before.incoming) 0 0) in
+    ap (λ o. final_outcome before (step_for Auto (update_of o))) (least_voter before voter)
+    ∙ ap after_auto_leave (simple_by_result before (update_of least) [] (result_of-update_of before least))
     ∙ final_outcome-simple before after [] valid e
 simple-proposed before after (change ∷ []) valid voter e = final_outcome-simple before after (change ∷ []) valid e
 simple-proposed before after (change ∷ other ∷ changes) valid voter e = through_joint before after (change ∷ other ∷ changes) valid voter e
@@ -141,8 +131,7 @@ enter-named before after auto_leave changes e = or_update-named before changes (
 
 -- ---- the leader lets it through
 let_through-some : (before : Configuration) (changes : List Change) → 0 < length changes → is_joint before ≡ false → is_let_through before changes ≡ true
-let_through-some before [] some single = absurd (omega arith)
-let_through-some before (change ∷ changes) some single = ap not single
+let_through-some before changes some single = grind arith
 
 carried_out-let_through : (before : Configuration) (step : Step) → is_let_through before (proposed_changes before step) ≡ true
     → carried_out before (proposal_of before step) ≡ result_ok (final_outcome before (proposed_step before step))
@@ -151,11 +140,9 @@ carried_out-let_through before step through = rw through refl
 pub carried_out-step : (before after : Configuration) (step : Step) → is_valid before ≡ true → has_voter before ≡ true → outcome before step ≡ Ok after
     → carried_out before (proposal_of before step) ≡ result_ok (after_auto_leave (Ok after))
 carried_out-step before after (Simple changes) valid voter e =
-    let taken = SimpleTaken-from_outcome before after changes e in
-    let flag = (ValidByMember-from_is_valid before valid).auto_leave taken.single in
-    carried_out-let_through before (Simple changes) (let_through-some before (or_update before changes) (or_update-named before changes voter) taken.single)
-    ∙ ap result_ok (simple-proposed before after changes valid voter e)
-    ∙ ap result_ok (sym (after_auto_leave-flag after (sym (ap (λ (c : Configuration). c.auto_leave) taken.made) ∙ flag)))
+    carried_out-let_through before (Simple changes)
+    (let_through-some before (or_update before changes) (or_update-named before changes voter) (SimpleTaken-from_outcome before after changes e).single)
+    ∙ ap result_ok (simple-proposed before after changes valid voter e ∙ sym (after_auto_leave-simple before after changes valid e))
 carried_out-step before after (EnterJoint auto_leave changes) valid voter e =
     let taken = EnterTaken-from_outcome before after auto_leave changes e in
     carried_out-let_through before (EnterJoint auto_leave changes) (let_through-some before (or_update before changes) (or_update-named before changes voter) taken.single)

@@ -32,8 +32,8 @@ fn ids_from(alloc: Global, items: &Vec<Value>) -> Result<Vec<u64>, JsonFault>
     Ok(ids)
 }
 
-/// The JSON of a list of ids.
-pub(crate) fn ids_value(alloc: Global, ids: &[u64]) -> Result<Value, NoMemory>
+/// The JSON of a list of ids, in its order.
+pub fn ids_value(alloc: Global, ids: &[u64]) -> Result<Value, NoMemory>
     ensures { IfOk result (λ v. view v ≡ spec.ids_json ids.now) }
 {
     let mut items = Vec::with_capacity(alloc, ids.len())?;

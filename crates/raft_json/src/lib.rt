@@ -47,4 +47,5 @@ pub mod saved_json;
 
 pub use conf_change_json::conf_change_value;
 pub use conf_state_json::{JsonFault, conf_state_value};
+pub use ids_json::ids_value;
 pub use saved_json::read_saved_json;

@@ -20,16 +20,15 @@ returns-clause-changes c = λ now text changes denotes. target-changes now text 
 
 pub returns-clause-printed : goal.returns-clause-printed
 returns-clause-printed c = λ configuration valid small.
-    current-denoted c.one_conf_state_per_text.ensures.some c.one_config_per_text.ensures.some Printed (config_text configuration) (lists_of configuration) (c.one_config_per_text.ensures.printed configuration small)
+    returns-clause-current c Printed (config_text configuration) (lists_of configuration) (c.one_config_per_text.ensures.printed configuration small)
     ∙ ap as_text ((c.valid_is_described.ensures (lists_of configuration) configuration).1 (c.conf_state_describes.ensures.own configuration, valid))
 
 pub returns-clause-json : goal.returns-clause-json
 returns-clause-json c = λ configuration text valid utf8 is.
-    let reads_back = c.conf_state_json_reads_back.ensures (lists_of configuration) in
-    current-denoted c.one_conf_state_per_text.ensures.some c.one_config_per_text.ensures.some Json text (lists_of configuration) (utf8, ap (option_and_then saved_of_json) is ∙ reads_back)
+    returns-clause-current c Json text (lists_of configuration) (utf8, ap (option_and_then saved_of_json) is ∙ c.conf_state_json_reads_back.ensures (lists_of configuration))
     ∙ ap as_text ((c.valid_is_described.ensures (lists_of configuration) configuration).1 (c.conf_state_describes.ensures.own configuration, valid))
 
 pub returns-clause-line : goal.returns-clause-line
 returns-clause-line c = λ configuration valid small.
-    current-denoted c.one_conf_state_per_text.ensures.some c.one_config_per_text.ensures.some ConfStateLine (conf_state_text (lists_of configuration)) (lists_of configuration) (c.one_conf_state_per_text.ensures.printed configuration small)
+    returns-clause-current c ConfStateLine (conf_state_text (lists_of configuration)) (lists_of configuration) (c.one_conf_state_per_text.ensures.printed configuration small)
     ∙ ap as_text ((c.valid_is_described.ensures (lists_of configuration) configuration).1 (c.conf_state_describes.ensures.own configuration, valid))

@@ -1,9 +1,10 @@
-use Rattle.std.proofs.Common.{◌≡◌, ℕ, ◌<◌, ◌^◌, take, get_or}
+use Rattle.std.proofs.Common.{◌≡◌, ℕ, ◌<◌, ◌^◌, get_or, length}
 use Rattle.plan_output.specs.Grid.{width}
 use Rattle.plan_output.proofs.grid.widths.Given as goal
 
-abbrev pub invariant-loop-row : goal.invariant-loop-row
-invariant-loop-row l = record {
-  widths : (column : ℕ) → get_or l.widths.items column 0 ≡ width (take l.row-index l.rows) column;
+abbrev pub invariant-loop-column : goal.invariant-loop-column
+invariant-loop-column l = record {
+  reached : length l.widths.items ≡ l.column;
+  widths : (column : ℕ) → column < l.column → get_or l.widths.items column 0 ≡ width l.rows column;
   small : (column : ℕ) → get_or l.widths.items column 0 < 2 ^ 63;
 }

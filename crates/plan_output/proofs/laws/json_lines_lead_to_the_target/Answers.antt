@@ -5,9 +5,7 @@ use Rattle.conf_change.specs.ConfState.{lists_of}
 use Rattle.conf_change.specs.Outcome.{after_leave}
 use Rattle.conf_plan.specs.declared.strategy.Strategy.{Strategy}
 use Rattle.conf_plan.specs.declared.strategy.Strategy.TheVariants.{Shortest, LearnersFirst, OneAtATime}
-use Rattle.conf_plan.specs.LearnersFirst.{learners_first_from_single}
 use Rattle.conf_plan.specs.PathBy.{KeepsPromises, path_by}
-use Rattle.conf_plan.specs.Planned.{planned_from_single}
 use Rattle.plan_output.proofs.AutoLeave.{stays_till_last, stays_till_last-from_one_change, stays_till_last-learners_first, stays_till_last-left_first, stays_till_last-one_change_each, stays_till_last-planned_from_single}
 use Rattle.plan_output.proofs.LinesLead.{LinesLead-each_json}
 use Rattle.plan_output.proofs.SingleChanges.{is_taken_as_it_is-one_change_each}
@@ -17,11 +15,9 @@ use Rattle.plan_output.proofs.laws.json_lines_lead_to_the_target.Goals as goal
 of_strategy : (strategy : Strategy) (down : Ids) (now target : Configuration) → KeepsPromises strategy down now (path_by strategy down now target) target
     → stays_till_last (path_by strategy down now target) ≡ true
 of_strategy Shortest down now target promises =
-    stays_till_last-left_first (is_same now target) (is_joint now) (planned_from_single (after_leave now) target) (planned_from_single now target)
-    (stays_till_last-planned_from_single (after_leave now) target) (stays_till_last-planned_from_single now target)
+    stays_till_last-left_first (is_same now target) (is_joint now) _ _ (stays_till_last-planned_from_single (after_leave now) target) (stays_till_last-planned_from_single now target)
 of_strategy LearnersFirst down now target promises =
-    stays_till_last-left_first (is_same now target) (is_joint now) (learners_first_from_single (after_leave now) target) (learners_first_from_single now target)
-    (stays_till_last-learners_first (after_leave now) target) (stays_till_last-learners_first now target)
+    stays_till_last-left_first (is_same now target) (is_joint now) _ _ (stays_till_last-learners_first (after_leave now) target) (stays_till_last-learners_first now target)
 of_strategy OneAtATime down now target promises = stays_till_last-from_one_change (path_by OneAtATime down now target) now target promises.run
 
 pub returns : goal.returns

@@ -1,10 +1,7 @@
-use Rattle.std.proofs.Common.{◌≡◌, take}
-use Rattle.conf_plan.specs.Planned.{configuration_after}
+use Rattle.std.proofs.Common.{◌≡◌, ◌∷◌, ◌++◌, drop}
 use Rattle.plan_output.specs.Stages as spec
 use Rattle.plan_output.proofs.stage.stages.Given as goal
 
-abbrev pub invariant-loop-index : goal.invariant-loop-index
-invariant-loop-index g l = record {
-  config : l.before ≡ configuration_after l.now (take l.index l.path);
-  stages : l.stages.items ≡ spec.stages l.now (take l.index l.path);
-}
+-- the stages so far, the last one and those after the other steps are all stages
+abbrev pub invariant-loop-step : goal.invariant-loop-step
+invariant-loop-step g l = l.stages.items ++ l.last ∷ spec.stages_after l.last.config (drop l.step-index l.step-items) ≡ spec.stages l.now l.step-items

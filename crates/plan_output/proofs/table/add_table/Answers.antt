@@ -1,13 +1,9 @@
-use Rattle.std.proofs.Common.{◌++◌, length, ap, ◌∙◌}
+use Rattle.std.proofs.Common.{◌++◌, ap, ◌∙◌}
 use Rattle.std.proofs.lemmas.Result.{on_ok_weaker}
 use Rattle.std.specs.Prelude.{option_map, option_copied}
 use Rattle.plan_output.specs.Grid.{grid_text}
 use Rattle.plan_output.specs.Table.{stage_rows}
-use Rattle.plan_output.proofs.TableRows.{length-stages}
 use Rattle.plan_output.proofs.table.add_table.Goals as goal
-
-pub rows-requires : goal.rows-requires
-rows-requires g c = ap length (c.as_slice.ensures.value ∙ c.in_ok-stages.ensures) ∙ length-stages c.args.now.now c.args.path.now
 
 pub returns-clause-ok : goal.returns-clause-ok
 returns-clause-ok g c =

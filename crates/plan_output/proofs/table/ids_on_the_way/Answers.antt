@@ -1,13 +1,12 @@
 use Rattle.std.proofs.Common.{ap, ◌∙◌}
-use Rattle.conf_change.specs.Configuration.{Configuration, is_member}
-use Rattle.plan_output.specs.Stages.{StageState}
+use Rattle.quorum_sets.specs.Ids.{union}
+use Rattle.conf_change.specs.Configuration.{Configuration}
 use Rattle.plan_output.proofs.TableRows.{ids_on_the_way-one_more}
 use Rattle.plan_output.proofs.table.ids_on_the_way.Goals as goal
 
 pub loop-stage-preserved : goal.loop-stage-preserved
 loop-stage-preserved g c =
-    let here : StageState = c.stage-item.result in
+    let so_far = g.S.MemberSet.ids c.loop-stage.ids in
     c.in_ok-ids.ensures
-    ∙ ids_on_the_way-one_more c.args.stages.now c.loop-stage.stage-index here (g.S.MemberSet.ids c.loop-stage.ids) (g.S.MemberSet.ids c.in_ok-members.field-0)
-    c.loop-stage-test.true c.loop-stage.invariant
-    (λ q. c.in_ok-members.ensures q ∙ ap (λ (d : Configuration). is_member d q) (c.config.ensures ∙ ap (λ (s : StageState). s.config) c.stage-item.is))
+    ∙ ap (union so_far) (c.in_ok-members.ensures ∙ ap (λ (d : Configuration). union (union d.incoming d.outgoing) d.learners) c.config.ensures)
+    ∙ ids_on_the_way-one_more c.args.stages.now c.loop-stage.stage-index c.stage-item.result so_far c.loop-stage-test.true c.stage-item.is c.loop-stage.invariant

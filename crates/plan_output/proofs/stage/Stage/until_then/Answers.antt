@@ -1,18 +1,10 @@
-use Rattle.std.proofs.Common.{ap, ◌∙◌}
-use Rattle.quorum_sets.specs.Tolerance as tolerance
+use Rattle.std.proofs.Common.{ap, subst, ◌∙◌}
+use Rattle.quorum_sets.specs.Tolerance.{IsMostDown, may_be_down}
 use Rattle.conf_change.specs.Configuration.{voters_of}
-use Rattle.plan_output.specs.Stages.{StageState}
-use Rattle.plan_output.proofs.StagesOnTheWay.{IsMostDown-along}
 use Rattle.plan_output.proofs.stage.Stage.until_then.Goals as goal
 
 pub returns-clause-counted : goal.returns-clause-counted
-returns-clause-counted g c =
-    let voters = ap voters_of c.config.view_is ∙ ap (λ (s : StageState). voters_of s.config) c.self.view_is in
-    let uncounted = ap (λ (s : StageState). s.catching_up) c.self.view_is in
-    c.may_be_down.ensures.counted ∙ (λ i. tolerance.may_be_down (voters i) (uncounted i))
+returns-clause-counted g c = c.most_down.ensures.counted ∙ ap (may_be_down (voters_of c.args.self.now.config)) c.catching_up.ensures
 
 pub returns-clause-most : goal.returns-clause-most
-returns-clause-most g c =
-    let voters = ap voters_of c.config.view_is ∙ ap (λ (s : StageState). voters_of s.config) c.self.view_is in
-    let uncounted = ap (λ (s : StageState). s.catching_up) c.self.view_is in
-    IsMostDown-along _ _ _ _ _ voters uncounted c.may_be_down.ensures.most
+returns-clause-most g c = subst (λ uncounted. IsMostDown (voters_of c.args.self.now.config) uncounted c.most_down.result) c.catching_up.ensures c.most_down.ensures.most
