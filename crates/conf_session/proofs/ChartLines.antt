@@ -1,20 +1,18 @@
 -- A chart, a committed index and the result of a vote are reply lines.
-use Rattle.std.proofs.Common.{◌≡◌, ℕ, zero, suc, ◌-◌, Bool, true, false, cond, List, [], ◌∷◌, ◌++◌, length, map, refl, sym, ap, ◌∙◌, subst, arith}
+use Rattle.std.proofs.Common.{◌≡◌, ℕ, zero, suc, ◌-◌, Bool, true, false, cond, List, [], ◌∷◌, ◌++◌, length, refl, sym, ap, ◌∙◌, subst, arith}
 use Rattle.std.specs.Prelude.{nat_eq, Option, Some, None, unwrap_or, codes, decimal, flat_map, replicate}
 use Rattle.std.specs.FinMap as finite
-use Rattle.std.specs.List.{list_all}
 use Rattle.std.proofs.lemmas.Bool.{or_right}
 use Rattle.std.proofs.lemmas.List.{append_assoc}
 use Rattle.std.proofs.lemmas.List.Folds.{list_any-append}
 use Rattle.quorum_sets.specs.Chart.{bar_text, bar_width, in_five_columns, row_text, chart_row, chart_text}
 use Rattle.quorum_sets.specs.Committed.{Acks, greatest_index}
 use Rattle.quorum_sets.specs.declared.voting.VoteResult.{VoteResult}
-use Rattle.quorum_sets.specs.declared.voting.VoteResult.TheVariants.{VotePending, VoteLost, VoteWon}
-use Rattle.ascii_text.specs.Lines.{newline, text_of}
+use Rattle.ascii_text.specs.Lines.{newline}
 use Rattle.conf_session.specs.Quorum.{index_text, vote_text}
 use Rattle.conf_session.specs.ReplyTexts.{line}
 use Rattle.conf_session.specs.ReplyLines.{is_line_byte, is_reply_line, IsReplyText}
-use Rattle.conf_session.proofs.ReplyLines.{and-both, all-append, is_mark, IsBytes, IsLine, IsTail, ◌▸◌, ◌▹◌, IsLine-from_mark, IsLine-in_lines, IsTail-from_bytes, IsTail-number, decimal-high, decimal-bytes, high-mark, line-in_lines, reply_text-append}
+use Rattle.conf_session.proofs.ReplyLines.{and-both, all-append, is_mark, IsBytes, IsLine, IsTail, ◌▸◌, ◌▹◌, IsLine-from_mark, IsLine-in_lines, IsTail-from_bytes, IsTail-number, decimal-line, line-in_lines, reply_text-append, rows-in_lines}
 
 -- ---- a line with its mark at the end
 leads : {front back : List ℕ} → IsTail front → IsLine back → IsLine (front ++ back)
@@ -46,36 +44,28 @@ row-in_lines n id acked width =
 abbrev row_of : List ℕ → Acks → ℕ → List ℕ
 row_of ids acks id = row_line (length ids) id (finite.get acks id) (bar_width ids acks id)
 
-rows-in_lines : (ids : List ℕ) (acks : Acks) (some : List ℕ) → list_all is_reply_line (map (row_of ids acks) some) ≡ true
-rows-in_lines ids acks [] = refl
-rows-in_lines ids acks (id ∷ some) = and-both _ _ (row-in_lines (length ids) id (finite.get acks id) (bar_width ids acks id)) (rows-in_lines ids acks some)
-
 row-whole : (n id : ℕ) (acked : Option ℕ) (width : ℕ) → row_text n id acked width ≡ line (row_line n id acked width)
 row-whole n id acked width =
     sym (append_assoc (bar_text n acked width ++ codes " " ++ in_five_columns (unwrap_or acked 0) ++ codes "    (id=" ++ decimal id) (codes ")") newline)
 
-rows-whole : (ids : List ℕ) (acks : Acks) (some : List ℕ) → flat_map (chart_row ids acks) some ≡ text_of (map (row_of ids acks) some)
+rows-whole : (ids : List ℕ) (acks : Acks) (some : List ℕ) → flat_map (chart_row ids acks) some ≡ flat_map (λ id. line (row_of ids acks id)) some
 rows-whole ids acks [] = refl
-rows-whole ids acks (id ∷ some) =
-    (λ i. row-whole (length ids) id (finite.get acks id) (bar_width ids acks id) i ++ rows-whole ids acks some i)
+rows-whole ids acks (id ∷ some) = (λ i. row-whole (length ids) id (finite.get acks id) (bar_width ids acks id) i ++ rows-whole ids acks some i)
 
 -- the first line and the others
 all-in_lines : (ids : List ℕ) (acks : Acks) → IsReplyText (replicate (length ids) 32 ++ codes "    idx\n" ++ flat_map (chart_row ids acks) ids)
 all-in_lines ids acks =
     let head : List ℕ = replicate (length ids) 32 ++ codes "    idx" in
-    record {
-      lines = head ∷ map (row_of ids acks) ids;
-      some = omega arith;
-      whole = ap (λ text. text ++ flat_map (chart_row ids acks) ids) (sym (append_assoc (replicate (length ids) 32) (codes "    idx") newline)) ∙ ap (λ rows. line head ++ rows) (rows-whole ids acks ids);
-      valid = and-both _ _ (IsLine-in_lines (leads (spaces (length ids)) (IsLine-from_mark (codes "    idx") refl refl))) (rows-in_lines ids acks ids);
-    }
+    subst IsReplyText (ap (λ rows. line head ++ rows) (sym (rows-whole ids acks ids)) ∙ ap (λ text. text ++ flat_map (chart_row ids acks) ids) (append_assoc (replicate (length ids) 32) (codes "    idx") newline))
+    (rows-in_lines head (row_of ids acks) ids (IsLine-in_lines (leads (spaces (length ids)) (IsLine-from_mark (codes "    idx") refl refl)))
+    (λ id. row-in_lines (length ids) id (finite.get acks id) (bar_width ids acks id)))
 
 -- ---- an index, after a chart or alone
 index-line : (index : ℕ) → IsLine (index_text index)
 index-line index = by (nat_eq index greatest_index) where
   by : (greatest : Bool) → IsLine (cond greatest (226 ∷ 136 ∷ 158 ∷ []) (decimal index))
   by true = IsLine-from_mark (226 ∷ 136 ∷ 158 ∷ []) refl refl
-  by false = IsLine-from_mark (decimal index) (high-mark (decimal index) (decimal-high index)) (decimal-bytes index)
+  by false = decimal-line index
 
 pub index-in_lines : (index : ℕ) → is_reply_line (index_text index) ≡ true
 index-in_lines index = IsLine-in_lines (index-line index)
@@ -91,6 +81,4 @@ chart-in_lines ids acks index = by (nat_eq (length ids) 0) where
 
 -- ---- the result of a vote
 pub vote-in_lines : (vote : VoteResult) → is_reply_line (vote_text vote) ≡ true
-vote-in_lines VotePending = refl
-vote-in_lines VoteLost = refl
-vote-in_lines VoteWon = refl
+vote-in_lines vote = grind arith

@@ -73,9 +73,8 @@ record Led (now older : Configuration) (count : ℕ) : Type 0 where
 led-run : (now : Configuration) (kept : List Configuration) (position : ℕ) (older : Configuration) → LedTo now kept → slice_get kept position ≡ Some older → Led now older (suc position)
 led-run now [] position older led e = cc
 led-run now (c ∷ kept) zero older led e =
-    let same : c ≡ older = cc in
-    let Leading : Configuration → Type 0 = λ o. Led now o 1 in
-    subst Leading same (record { restorable = led.0; steps = led.1.step ∷ []; run = (now, led.1.gives, refl); counted = refl })
+    let same : older ≡ c = cc in
+    rw same (record { restorable = led.0; steps = led.1.step ∷ []; run = (now, led.1.gives, refl); counted = refl })
 led-run now (c ∷ kept) (suc position) older led e =
     let rest = led-run c kept position older led.2 e in
     record {
@@ -114,8 +113,7 @@ led-take now (c ∷ kept) (suc n) led = (led.0, led.1, led-take c kept n led.2)
 led-drop : (now : Configuration) (kept : List Configuration) (position : ℕ) (older : Configuration) → LedTo now kept → slice_get kept position ≡ Some older → LedTo older (drop (suc position) kept)
 led-drop now [] position older led e = cc
 led-drop now (c ∷ kept) zero older led e =
-    let same : c ≡ older = cc in
-    let Leading : Configuration → Type 0 = λ o. LedTo o kept in subst Leading same led.2
+    let same : older ≡ c = cc in rw same led.2
 led-drop now (c ∷ kept) (suc position) older led e = led-drop c kept position older led.2 e
 
 -- an update that a command may make to a session
@@ -128,14 +126,11 @@ IsDue session (Undone after count) = (1 ≤ count) × IsSound after.tracker × (
 
 due-stays : ChangeLaws → (session : SessionState) (update : SessionChange) → IsSession session → IsDue session update → IsSession (after_directive session update)
 due-stays laws session Nothing is due = record { sound = is.sound; few = is.few; led = is.led }
-due-stays laws session (Acknowledged after) is due =
-    let Leading : Configuration → Type 0 = λ c. LedTo c session.kept in
-    record { sound = due.0; few = is.few; led = subst Leading (sym due.1) is.led }
+due-stays laws session (Acknowledged after) is due = record { sound = due.0; few = is.few; led = rw due.1 is.led }
 due-stays laws session (Stepped after) is due =
     let accepts = due.1 in
-    let Sound : ChangerState → Type 0 = λ c. IsSound c.tracker in
     record {
-      sound = subst Sound (sym accepts.whole) (laws.step session.changer due.0 after.tracker.config is.sound accepts.configuration);
+      sound = rw accepts.whole (laws.step session.changer due.0 after.tracker.config is.sound accepts.configuration);
       few = let n = length-take session.history (current session ∷ session.kept) in omega arith;
       led = led-take after.tracker.config (current session ∷ session.kept) session.history (is.sound.restorable, record { step = due.0; gives = accepts.configuration }, is.led);
     }
@@ -143,11 +138,10 @@ due-stays laws session (Restored after) is due = record { sound = due; few = ome
 due-stays laws session (Undone after count) is due =
     let some = due.0 in
     let same : suc (count - 1) ≡ count = omega arith in
-    let Leading : ℕ → Type 0 = λ n. LedTo after.tracker.config (drop n session.kept) in
     record {
       sound = due.1;
       few = let n = length-drop count session.kept in let few = is.few in omega arith;
-      led = subst Leading same (led-drop (current session) session.kept (count - 1) after.tracker.config is.led due.2);
+      led = rw (← same) (led-drop (current session) session.kept (count - 1) after.tracker.config is.led due.2);
     }
 
 -- ---- each command makes such an update
@@ -166,11 +160,24 @@ ack-due laws session id index (Err IndexTooLarge) is e = tt
 
 -- ---- of undo
 taken-sound : ChangeLaws → (before : ChangerState) (steps : List Step) (after : ChangerState) → Takes before steps after → IsSound before.tracker → IsSound after.tracker
-taken-sound laws before [] after taken sound = let Sound : ChangerState → Type 0 = λ c. IsSound c.tracker in subst Sound taken sound
+taken-sound laws before [] after taken sound = rw (← taken) sound
 taken-sound laws before (step ∷ steps) after taken sound =
     let accepts = taken.1 in
-    let Sound : ChangerState → Type 0 = λ c. IsSound c.tracker in
-    taken-sound laws taken.0 steps after taken.2 (subst Sound (sym accepts.whole) (laws.step before step taken.0.tracker.config sound accepts.configuration))
+    taken-sound laws taken.0 steps after taken.2 (rw accepts.whole (laws.step before step taken.0.tracker.config sound accepts.configuration))
+
+-- a plan that undoes changes is the one to an earlier configuration
+record IsPlanBack (session : SessionState) (kept : Option Configuration) (steps : List Step) : Type 0 where
+  older : Configuration
+  is_kept : kept ≡ Some older
+  voter : has_voter older ≡ true
+  is : steps ≡ planned (current session) older
+
+plan_back-ok : (session : SessionState) (kept : Option Configuration) (steps : List Step) → plan_back session kept ≡ Ok steps → IsPlanBack session kept steps
+plan_back-ok session None steps e = cc
+plan_back-ok session (Some older) steps e = at (has_voter older) refl e where
+  at : (voter : Bool) → has_voter older ≡ voter → cond voter (Ok (planned (current session) older)) (Err NoVoterTarget) ≡ Ok steps → IsPlanBack session (Some older) steps
+  at true voter made = record { older = older; is_kept = refl; voter = voter; is = cc }
+  at false voter made = cc
 
 -- where the plan leads
 pub record Arrives (session : SessionState) (older : Configuration) : Type 0 where
@@ -189,25 +196,17 @@ Arrives-planned plans session count older is some e voter =
       there = ap (λ (c : ChangerState). c.tracker.config) same ∙ reached.2;
     }
 
-voter-due : ChangeLaws → PlanLaws → (session : SessionState) (count : ℕ) (older : Configuration) (voter : Bool) → IsSession session → 1 ≤ count → slice_get session.kept (count - 1) ≡ Some older → has_voter older ≡ voter →
-    IsDue session (undo_reply session count (plan_back session (Some older))).update
-voter-due laws plans session count older true is some e voter =
-    let steps = planned (current session) older in
-    let arrives = Arrives-planned plans session count older is some e voter in
-    let sound = taken-sound laws session.changer steps (undone_changer session steps) ((plans.taken session.changer (undone_changer session steps) steps).1 arrives.taken) is.sound in
-    let Due : Bool → Type 0 = λ b. IsDue session (undo_reply session count (cond b (Ok (planned (current session) older)) (Err NoVoterTarget))).update in
-    subst Due (sym voter) (some, sound, e ∙ ap Some (sym arrives.there))
-voter-due laws plans session count older false is some e voter =
-    let Due : Bool → Type 0 = λ b. IsDue session (undo_reply session count (cond b (Ok (planned (current session) older)) (Err NoVoterTarget))).update in
-    subst Due (sym voter) tt
-
-planned-due : ChangeLaws → PlanLaws → (session : SessionState) (count : ℕ) (actual : Option Configuration) → IsSession session → 1 ≤ count → slice_get session.kept (count - 1) ≡ actual →
-    IsDue session (undo_reply session count (plan_back session actual)).update
-planned-due laws plans session count None is some e = tt
-planned-due laws plans session count (Some older) is some e = voter-due laws plans session count older (has_voter older) is some e refl
-
 undo-due : ChangeLaws → PlanLaws → (session : SessionState) (count : ℕ) → IsSession session → 1 ≤ count → IsDue session (undo_last session count).update
-undo-due laws plans session count is some = planned-due laws plans session count (slice_get session.kept (count - 1)) is some refl
+undo-due laws plans session count is some = at (undo_plan_of session count) refl where
+  at : (plan : Result (List Step) UndoFault) → undo_plan_of session count ≡ plan → IsDue session (undo_reply session count plan).update
+  at (Err fault) e = tt
+  at (Ok steps) e =
+      let made = plan_back-ok session (slice_get session.kept (count - 1)) steps e in
+      let plan = planned (current session) made.older in
+      let arrives = Arrives-planned plans session count made.older is some made.is_kept made.voter in
+      let taken = (plans.taken session.changer (undone_changer session plan) plan).1 arrives.taken in
+      let Due : List Step → Type 0 = λ s. IsDue session (Undone (undone_changer session s) count) in
+      subst Due (sym made.is) (some, taken-sound laws session.changer plan (undone_changer session plan) taken is.sound, made.is_kept ∙ ap Some (sym arrives.there))
 
 command-due : ChangeLaws → PlanLaws → (command : Command) (session : SessionState) (input : Input) (values : Values) → IsSession session → 1 ≤ values.steps → IsDue session (reply_of command session input values).update
 command-due laws plans Simple session input values is some = step-due laws session (SimpleStep input.changes) _ refl
@@ -258,40 +257,21 @@ pub record UndoLaw : Type 0 where
   pub at_most_four : (before after : Configuration) (steps : List Step) → IsValidWithVoter before → IsRun before steps after → length (planned after before) ≤ 4
   pub at_most_three : (before after : Configuration) (steps : List Step) → IsValidWithVoter before → IsRun before steps after → length steps ≡ 1 → length (planned after before) ≤ 3
 
-leads-back : UndoLaw → (session : SessionState) (count : ℕ) (older : Configuration) (plan : List Step) → slice_get session.kept (count - 1) ≡ Some older → has_voter older ≡ true → IsEarlier session count older →
-    plan ≡ planned (current session) older → LeadsBack session count plan
-leads-back law session count older plan kept voter earlier same =
-    let is_valid = valid older earlier.restorable voter in
-    let now = current session in
-    let Back : List Step → Type 0 = λ steps. LeadsBack session count steps in
-    subst Back (sym same) (record {
-      older = older;
-      is_kept = kept;
-      run = law.back older now earlier.steps is_valid earlier.run;
-      at_most_four = law.at_most_four older now earlier.steps is_valid earlier.run;
-      at_most_three = λ one. law.at_most_three older now earlier.steps is_valid earlier.run (earlier.counted ∙ one);
-    })
-
-abbrev Planned : Type 0
-Planned = Result (List Step) UndoFault
-
-same-steps : (a b : List Step) → ◌≡◌ {A = Planned} (Ok a) (Ok b) → a ≡ b
-same-steps a b e = cc
-
-planned-by_voter : UndoLaw → (session : SessionState) (count : ℕ) (older : Configuration) (steps : List Step) (voter : Bool) → slice_get session.kept (count - 1) ≡ Some older → IsEarlier session count older →
-    has_voter older ≡ voter → ◌≡◌ {A = Planned} (cond voter (Ok (planned (current session) older)) (Err NoVoterTarget)) (Ok steps) → LeadsBack session count steps
-planned-by_voter law session count older steps true kept earlier voter made = leads-back law session count older steps kept voter earlier (sym (same-steps _ _ made))
-planned-by_voter law session count older steps false kept earlier voter made = let bad : ⊥ = cc in absurd bad
-
-planned-by_kept : UndoLaw → (session : SessionState) (count : ℕ) (steps : List Step) (actual : Option Configuration) → slice_get session.kept (count - 1) ≡ actual
-    → ((older : Configuration) → slice_get session.kept (count - 1) ≡ Some older → IsEarlier session count older) → plan_back session actual ≡ Ok steps → LeadsBack session count steps
-planned-by_kept law session count steps None kept earlier made = let bad : ⊥ = cc in absurd bad
-planned-by_kept law session count steps (Some older) kept earlier made = planned-by_voter law session count older steps (has_voter older) kept (earlier older kept) refl made
-
 pub planned-leads_back : UndoLaw → EarlierLaw
     → (session : SessionState) (count : ℕ) (steps : List Step) → IsSession session → 1 ≤ count → undo_plan_of session count ≡ Ok steps → LeadsBack session count steps
-planned-leads_back law earlier session count steps is some made =
-    planned-by_kept law session count steps (slice_get session.kept (count - 1)) refl (λ older kept. earlier session count older is some kept) made
+planned-leads_back law earlier session count steps is some e =
+    let made = plan_back-ok session (slice_get session.kept (count - 1)) steps e in
+    let before = earlier session count made.older is some made.is_kept in
+    let is_valid = valid made.older before.restorable made.voter in
+    let now = current session in
+    let Back : List Step → Type 0 = λ s. LeadsBack session count s in
+    subst Back (sym made.is) (record {
+      older = made.older;
+      is_kept = made.is_kept;
+      run = law.back made.older now before.steps is_valid before.run;
+      at_most_four = law.at_most_four made.older now before.steps is_valid before.run;
+      at_most_three = λ one. law.at_most_three made.older now before.steps is_valid before.run (before.counted ∙ one);
+    })
 
 pub same-some : (a b : Configuration) → ◌≡◌ {A = Option Configuration} (Some a) (Some b) → a ≡ b
 same-some a b e = cc

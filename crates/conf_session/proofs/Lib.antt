@@ -7,7 +7,6 @@ mod RepliesInLines
 mod InputLines
 mod SameAnswer
 mod Kept
-mod EachOnce
 mod IndexRows
 mod QuorumValues
 mod ReadValues

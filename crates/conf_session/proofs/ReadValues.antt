@@ -33,8 +33,7 @@ find-some p (y ∷ ys) x e = at (p y) refl (find-some p ys x) e where
   at false is rest e = rest e
 
 or-none : {X : Type 0} (o : Option X) → option_or o None ≡ o
-or-none None = refl
-or-none (Some x) = refl
+or-none o = grind arith
 
 -- ---- one more argument, whose key is new
 -- the values, by the argument of each parameter
@@ -56,15 +55,7 @@ abbrev with_own : Parameter → Option ArgumentText → (Parameter → Option Ar
 with_own p own argument q = cond (bytes_eq (key_of p) (key_of q)) own (argument q)
 
 own-more : (p : Parameter) (argument : Parameter → Option ArgumentText) (a : ArgumentText) → values_by (with_own p (Some a) argument) ≡ with_more (values_by (with_own p None argument)) p a.values
-own-more AutoLeave argument a = refl
-own-more TransitionAsked argument a = refl
-own-more Steps argument a = refl
-own-more Id argument a = refl
-own-more Index argument a = refl
-own-more Incoming argument a = refl
-own-more Outgoing argument a = refl
-own-more Indexes argument a = refl
-own-more Votes argument a = refl
+own-more p argument a = grind arith
 
 none-before : (p q : Parameter) (before : List ArgumentText) (a : ArgumentText) → a.key ≡ key_of p → has_key before a.key ≡ false → bytes_eq (key_of p) (key_of q) ≡ true → argument_of q before ≡ None
 none-before p q before a key new same =

@@ -1,5 +1,5 @@
 -- Each reply is reply lines.
-use Rattle.std.proofs.Common.{◌≡◌, ℕ, Bool, true, false, cond, not, List, [], ◌∷◌, ◌++◌, filter, refl, sym, ap, ◌∙◌, subst, arith}
+use Rattle.std.proofs.Common.{◌≡◌, ℕ, Bool, true, false, cond, not, List, [], ◌∷◌, ◌++◌, refl, sym, ap, ◌∙◌, subst, arith}
 use Rattle.std.specs.Prelude.{◌==◌, Option, Some, None, Result, Ok, Err, codes}
 use Rattle.std.specs.List.{list_all, slice_split, onto_first}
 use Rattle.std.proofs.lemmas.Bool.{eqb-true, false_from_ne_true, not_from_false}
@@ -9,6 +9,7 @@ use Rattle.quorum_sets.specs.Ids.{ascending, union}
 use Rattle.quorum_sets.specs.Votes.{joint_vote_result}
 use Rattle.dd_file.specs.DirectiveText.{DirectiveText}
 use Rattle.dd_file.specs.DirectiveLine.{ArgumentText, has_keys, is_key, is_key_byte}
+use Rattle.dd_file.proofs.Offered.{all-filter}
 use Rattle.conf_change.specs.ChangerState.{ChangerState}
 use Rattle.conf_change.specs.Acknowledgement.{ack_answer}
 use Rattle.conf_change.specs.Configuration.{Configuration}
@@ -40,7 +41,6 @@ use Rattle.conf_session.specs.ReplyTexts.{line}
 use Rattle.conf_session.specs.Commands.{row_of, step_reply, restore_reply, undo_reply, ack_reply, committed_by, if_read, reply_of, reply_to}
 use Rattle.conf_session.specs.ReplyLines.{is_line_byte, is_reply_line, IsReplyText}
 use Rattle.conf_session.specs.declared.parameter.Parameter.{Parameter}
-use Rattle.conf_session.specs.declared.parameter.Parameter.TheVariants.{AutoLeave, Transition, Steps, Id, Index, Incoming, Outgoing, Indexes, Votes}
 use Rattle.conf_session.specs.declared.input.InputKind.{InputKind}
 use Rattle.conf_session.specs.declared.input.InputKind.TheVariants.{Changes, NoChange, ConfStateLine, Nothing}
 use Rattle.conf_session.specs.declared.commands.Command.{Command}
@@ -51,9 +51,6 @@ use Rattle.conf_session.proofs.ReplyLines.{and-first, and-second, and-both, all-
 abbrev HasReplyText : Reply → Type 0
 HasReplyText reply = IsReplyText reply.actual
 
-replied_line-in_lines : (text : List ℕ) → is_reply_line text ≡ true → HasReplyText (replied_line text)
-replied_line-in_lines text h = line-in_lines text h
-
 no_input-in_lines : IsReplyText no_input_line
 no_input-in_lines = line-in_lines (codes "this command takes no input") refl
 
@@ -61,28 +58,16 @@ no_input-in_lines = line-in_lines (codes "this command takes no input") refl
 abbrev has_no_white : List ℕ → Bool
 has_no_white token = list_all (λ b. not (is_space b)) token
 
-onto-whole : (b : ℕ) (parts : List (List ℕ)) → is_space b ≡ false → list_all has_no_white parts ≡ true → list_all has_no_white (onto_first b parts) ≡ true
-onto-whole b [] e h = and-both _ _ (and-both _ _ (ap not e) refl) refl
-onto-whole b (part ∷ parts) e h = and-both _ _ (and-both _ _ (ap not e) (and-first _ _ h)) (and-second _ _ h)
-
-split-step : (b : ℕ) (parts : List (List ℕ)) (white : Bool) → is_space b ≡ white → list_all has_no_white parts ≡ true → list_all has_no_white (cond white ([] ∷ parts) (onto_first b parts)) ≡ true
-split-step b parts true e h = h
-split-step b parts false e h = onto-whole b parts e h
-
 split-whole : (text : List ℕ) → list_all has_no_white (slice_split is_space text) ≡ true
 split-whole [] = refl
-split-whole (b ∷ text) = split-step b (slice_split is_space text) (is_space b) refl (split-whole text)
-
-filter-step : (test : List ℕ → Bool) (part : List ℕ) (parts : List (List ℕ)) (kept : Bool) → has_no_white part ≡ true → list_all has_no_white parts ≡ true → list_all has_no_white (cond kept (part ∷ parts) parts) ≡ true
-filter-step test part parts true h k = and-both _ _ h k
-filter-step test part parts false h k = k
-
-filter-whole : (test : List ℕ → Bool) (parts : List (List ℕ)) → list_all has_no_white parts ≡ true → list_all has_no_white (filter test parts) ≡ true
-filter-whole test [] h = refl
-filter-whole test (part ∷ parts) h = filter-step test part (filter test parts) (test part) (and-first _ _ h) (filter-whole test parts (and-second _ _ h))
+split-whole (b ∷ text) = at (is_space b) refl (slice_split is_space text) (split-whole text) where
+  at : (white : Bool) → is_space b ≡ white → (parts : List (List ℕ)) → list_all has_no_white parts ≡ true → list_all has_no_white (cond white ([] ∷ parts) (onto_first b parts)) ≡ true
+  at true e parts h = h
+  at false e [] h = rw e refl
+  at false e (part ∷ parts) h = rw e h
 
 tokens_in-whole : (text : List ℕ) → list_all has_no_white (tokens_in text) ≡ true
-tokens_in-whole text = filter-whole has_bytes (slice_split is_space text) (split-whole text)
+tokens_in-whole text = all-filter has_no_white has_bytes (slice_split is_space text) (split-whole text)
 
 among : (before : List (List ℕ)) (token : List ℕ) (after : List (List ℕ)) → list_all has_no_white (before ++ token ∷ after) ≡ true → has_no_white token ≡ true
 among [] token after h = and-first _ _ h
@@ -139,15 +124,7 @@ bad-key parameters before (argument ∷ arguments) key h e =
     bad-step argument (first_bad parameters (before ++ argument ∷ []) arguments) (is_good parameters before argument) key (and-first _ _ h) (bad-key parameters (before ++ argument ∷ []) arguments key (and-second _ _ h)) e
 
 parameter-bytes : (parameter : Parameter) → list_all is_line_byte (key_of parameter) ≡ true
-parameter-bytes AutoLeave = refl
-parameter-bytes Transition = refl
-parameter-bytes Steps = refl
-parameter-bytes Id = refl
-parameter-bytes Index = refl
-parameter-bytes Incoming = refl
-parameter-bytes Outgoing = refl
-parameter-bytes Indexes = refl
-parameter-bytes Votes = refl
+parameter-bytes parameter = grind arith
 
 values-in_lines : (bad : Option (List ℕ)) (missing : Option Parameter) (values : Values) (actual : List ℕ) → ((key : List ℕ) → bad ≡ Some key → is_key key ≡ true) → values_read bad missing values ≡ Err actual → IsReplyText actual
 values-in_lines (Some key) missing values actual h e =
@@ -166,37 +143,37 @@ arguments-in_lines (Some parameters) arguments actual keys e =
 -- ---- the commands
 step-in_lines : (made : Result ChangerState Refused) → HasReplyText (step_reply made)
 step-in_lines (Ok after) = tracker-in_lines after.tracker
-step-in_lines (Err refused) = replied_line-in_lines (refused_text refused) (refused-in_lines refused)
+step-in_lines (Err refused) = line-in_lines (refused_text refused) (refused-in_lines refused)
 
 restored-in_lines : (changer : ChangerState) (c : Option Configuration) → HasReplyText (restore_reply changer c)
-restored-in_lines changer None = replied_line-in_lines (codes "not a configuration") refl
+restored-in_lines changer None = line-in_lines (codes "not a configuration") refl
 restored-in_lines changer (Some c) = tracker-in_lines (begun_with changer.tracker.floor changer.last_index c).tracker
 
 undo-in_lines : (session : SessionState) (count : ℕ) (plan : Result (List Step) UndoFault) → HasReplyText (undo_reply session count plan)
 undo-in_lines session count (Ok steps) = reply_text-append _ _ (plan-in_lines steps) (tracker-in_lines (undone_changer session steps).tracker)
-undo-in_lines session count (Err fault) = replied_line-in_lines (undo_fault_text fault) (undo_fault-in_lines fault)
+undo-in_lines session count (Err fault) = line-in_lines (undo_fault_text fault) (undo_fault-in_lines fault)
 
 ack-in_lines : (changer : ChangerState) (id : ℕ) (made : Result Progress AckFault) → HasReplyText (ack_reply changer id made)
-ack-in_lines changer id (Ok p) = replied_line-in_lines (progress_text id p) (progress-in_lines id p)
-ack-in_lines changer id (Err NotMember) = replied_line-in_lines (codes "not a member") refl
-ack-in_lines changer id (Err IndexTooLarge) = replied_line-in_lines (codes "index too large") refl
+ack-in_lines changer id (Ok p) = line-in_lines (progress_text id p) (progress-in_lines id p)
+ack-in_lines changer id (Err NotMember) = line-in_lines (codes "not a member") refl
+ack-in_lines changer id (Err IndexTooLarge) = line-in_lines (codes "index too large") refl
 
 one_each-in_lines : {V : Type 0} (ids : List ℕ) (values : List (Option V)) (text : List ℕ) → HasReplyText (replied_line text) → HasReplyText (replied_line (with_one_each ids values text))
 one_each-in_lines ids values text t = by (is_one_each ids values) where
   by : (enough : Bool) → HasReplyText (replied_line (cond enough text (codes "wrong number of values")))
   by true = t
-  by false = replied_line-in_lines (codes "wrong number of values") refl
+  by false = line-in_lines (codes "wrong number of values") refl
 
 command-in_lines : (command : Command) (session : SessionState) (input : Input) (values : Values) → HasReplyText (reply_of command session input values)
 command-in_lines Simple session input values = step-in_lines (changer_after session.changer (SimpleStep input.changes))
 command-in_lines EnterJoint session input values = step-in_lines (changer_after session.changer (EnterStep values.auto_leave input.changes))
 command-in_lines LeaveJoint session input values = step-in_lines (changer_after session.changer LeaveStep)
 command-in_lines ConfChange session input values = step-in_lines (changer_after session.changer (step_for values.transition input.changes))
-command-in_lines ConfState session input values = let saved = lists_of session.changer.tracker.config in replied_line-in_lines (conf_state_text saved) (conf_state-in_lines saved)
+command-in_lines ConfState session input values = let saved = lists_of session.changer.tracker.config in line-in_lines (conf_state_text saved) (conf_state-in_lines saved)
 command-in_lines Restore session input values = restored-in_lines session.changer (restored input.saved)
 command-in_lines Undo session input values = undo-in_lines session values.steps (undo_plan_of session values.steps)
 command-in_lines Ack session input values = ack-in_lines session.changer values.id (ack_answer session.changer.tracker values.id values.index)
-command-in_lines CommitIndex session input values = replied_line-in_lines _ (index-in_lines (committed_by session.changer.tracker))
+command-in_lines CommitIndex session input values = line-in_lines _ (index-in_lines (committed_by session.changer.tracker))
 command-in_lines Committed session input values =
     let voters = voters_named values in
     let acks = values_by_id (ids_named values) values.indexes in
@@ -204,8 +181,8 @@ command-in_lines Committed session input values =
     one_each-in_lines (ids_named values) values.indexes (committed_text voters acks) chart
 command-in_lines Vote session input values =
     let result = joint_vote_result (voters_named values) (values_by_id (ids_named values) values.votes) in
-    one_each-in_lines (ids_named values) values.votes (vote_text result) (replied_line-in_lines (vote_text result) (vote-in_lines result))
-command-in_lines Unknown session input values = replied_line-in_lines (codes "unknown command") refl
+    one_each-in_lines (ids_named values) values.votes (vote_text result) (line-in_lines (vote_text result) (vote-in_lines result))
+command-in_lines Unknown session input values = line-in_lines (codes "unknown command") refl
 
 if_read-in_lines : {V : Type 0} (reply : V → Reply) (read : Result V (List ℕ)) → ((actual : List ℕ) → read ≡ Err actual → IsReplyText actual) → ((v : V) → HasReplyText (reply v)) → HasReplyText (if_read reply read)
 if_read-in_lines reply (Ok v) bad good = good v

@@ -1,11 +1,12 @@
 -- Which texts are reply lines.
 use Rattle.std.proofs.Common.{◌≡◌, ℕ, zero, suc, ◌/◌, ◌%◌, ◌≤◌, Bool, true, false, cond, not, ◌&&◌, List, [], ◌∷◌, ◌++◌, map, refl, sym, ap, ◌∙◌, arith}
-use Rattle.std.specs.Prelude.{◌==◌, ◌||◌, nat_le, codes, decimal, flat_map}
+use Rattle.std.specs.Prelude.{◌==◌, ◌||◌, codes, decimal, flat_map}
 use Rattle.std.specs.List.{AllZip, list_all, list_any, join_with_byte}
 use Rattle.std.specs.Fmt.{digit_glyph, digits_onto, digits}
 use Rattle.std.specs.FinMap as finite
 use Rattle.std.specs.Str.Parse.{AllDigits}
-use Rattle.std.proofs.lemmas.List.{append_assoc, append-nil, length-append}
+use Rattle.std.proofs.lemmas.List.{append-nil, length-append}
+use Rattle.std.proofs.lemmas.List.Concat.{flat_map-append}
 use Rattle.std.proofs.lemmas.List.Folds.{list_all-append, list_any-append}
 use Rattle.std.proofs.lemmas.Bool.Decides.{nat_tests}
 use Rattle.std.proofs.lemmas.Slice.Eq.{bytes_eq-Decides}
@@ -22,31 +23,26 @@ use Rattle.conf_change.specs.Text.{text_if, spaced_numbers, set_text, config_tex
 use Rattle.conf_change.specs.ConfStateLine.{truth_text, bracketed_line, conf_state_text, ParsesToNumbers, DenotesConfState}
 use Rattle.conf_change.specs.declared.progress.Progress.{Progress}
 use Rattle.conf_change.specs.declared.refused.Refused.{Refused}
-use Rattle.conf_change.specs.declared.refused.Refused.TheVariants.{AlreadyJoint, ZeroVoterJoint, NotJoint, SimpleInJoint, RemovedAllVoters, MoreThanOneVoter, NoMemory}
 use Rattle.conf_change.specs.ChangeList.{letter_of}
 use Rattle.conf_change.specs.declared.change.Change.{Change}
 use Rattle.conf_change.specs.declared.change.Kind.{Kind}
-use Rattle.conf_change.specs.declared.change.Kind.TheVariants.{Voter, Learner, Remove, Update}
 use Rattle.conf_change.specs.declared.step.Step.{Step}
 use Rattle.conf_change.specs.declared.step.Step.TheVariants.{Simple, EnterJoint, LeaveJoint}
-use Rattle.conf_plan.specs.PlanText.{change_text, flag_token, line_and_newline, plan_text, line_text as step_text}
+use Rattle.conf_plan.specs.PlanText.{change_text, flag_token, plan_text, line_text as step_text}
 use Rattle.conf_session.specs.Undo.{undo_fault_text}
 use Rattle.conf_session.specs.declared.undo_fault.UndoFault.{UndoFault}
 use Rattle.conf_session.specs.declared.undo_fault.UndoFault.TheVariants.{NotKept, NoVoterTarget, NoMemory as NoMemoryToUndo}
-use Rattle.conf_session.specs.ReplyTexts.{line, member_line, tracker_text}
+use Rattle.conf_session.specs.ReplyTexts.{line, tracker_text}
 use Rattle.conf_session.specs.ReplyLines.{is_line_byte, is_reply_line, IsReplyText}
 
 pub and-first : (a b : Bool) → (a && b) ≡ true → a ≡ true
-and-first true b e = refl
-and-first false b e = cc
+and-first a b e = grind arith
 
 pub and-second : (a b : Bool) → (a && b) ≡ true → b ≡ true
-and-second true b e = e
-and-second false b e = cc
+and-second a b e = grind arith
 
 pub and-both : (a b : Bool) → a ≡ true → b ≡ true → (a && b) ≡ true
-and-both true b p q = q
-and-both false b p q = cc
+and-both a b p q = grind arith
 
 pub all-append : {X : Type 0} (p : X → Bool) (xs ys : List X) → list_all p xs ≡ true → list_all p ys ≡ true → list_all p (xs ++ ys) ≡ true
 all-append p xs ys h k = list_all-append p xs ys ∙ and-both _ _ h k
@@ -90,60 +86,9 @@ pub reply_line-append : (front back : List ℕ) → list_any is_mark front ≡ t
 reply_line-append front back h k l = marked-in_lines (front ++ back) (any-prefix is_mark front back h) (all-append is_line_byte front back k l)
 
 where-bytes : (there : Bool) (text : List ℕ) → IsBytes text → IsBytes (text_if there text)
-where-bytes true text h = h
-where-bytes false text h = refl
+where-bytes there text h = grind arith
 
--- ---- numbers
-byte-high : (b : ℕ) → nat_le 48 b ≡ true → is_line_byte b ≡ true
-byte-high b h = grind (arith, nat_tests)
-
-glyph-high : (d : ℕ) → nat_le 48 (digit_glyph false d) ≡ true
-glyph-high d = grind (arith, nat_tests)
-
--- bytes from 48 on, one at least
-abbrev is_high : List ℕ → Bool
-is_high [] = false
-is_high (b ∷ bs) = list_all (nat_le 48) (b ∷ bs)
-
-mark-high : (b : ℕ) → nat_le 48 b ≡ true → is_mark b ≡ true
-mark-high b h = grind (arith, nat_tests)
-
-pub high-mark : (bs : List ℕ) → is_high bs ≡ true → list_any is_mark bs ≡ true
-high-mark [] h = cc
-high-mark (b ∷ bs) h = ap (λ t. t || list_any is_mark bs) (mark-high b (and-first _ _ h))
-
-high-bytes : (bs : List ℕ) → is_high bs ≡ true → IsBytes bs
-high-bytes [] h = cc
-high-bytes (b ∷ bs) h = all-weaker (nat_le 48) is_line_byte byte-high (b ∷ bs) h
-
-pub is_high-either : (b : Bool) (xs ys : List ℕ) → is_high xs ≡ true → is_high ys ≡ true → is_high (cond b xs ys) ≡ true
-is_high-either true xs ys h k = h
-is_high-either false xs ys h k = k
-
-digits_onto-high : (k n : ℕ) (b : ℕ) (bs : List ℕ) → is_high (b ∷ bs) ≡ true → is_high (digits_onto k 10 false n (b ∷ bs)) ≡ true
-digits_onto-high zero n b bs h = h
-digits_onto-high (suc k) n b bs h =
-    let more : is_high (digit_glyph false (n % 10) ∷ b ∷ bs) ≡ true = and-both _ _ (glyph-high (n % 10)) h in
-    is_high-either (n / 10 == 0) _ _ more (digits_onto-high k (n / 10) (digit_glyph false (n % 10)) (b ∷ bs) more)
-
-number-high : (k n : ℕ) → is_high (digits_onto (suc k) 10 false n []) ≡ true
-number-high k n =
-    let one : is_high (digit_glyph false (n % 10) ∷ []) ≡ true = and-both _ _ (glyph-high (n % 10)) refl in
-    is_high-either (n / 10 == 0) _ _ one (digits_onto-high k (n / 10) (digit_glyph false (n % 10)) [] one)
-
-pub decimal-high : (n : ℕ) → is_high (decimal n) ≡ true
-unfolding digits
-decimal-high n = number-high 63 n
-
-pub decimal-bytes : (n : ℕ) → IsBytes (decimal n)
-decimal-bytes n = high-bytes (decimal n) (decimal-high n)
-
-pub spaced-bytes : (numbers : List ℕ) → IsBytes (spaced_numbers numbers)
-spaced-bytes [] = refl
-spaced-bytes (n ∷ []) = decimal-bytes n
-spaced-bytes (n ∷ m ∷ numbers) = all-append is_line_byte (decimal n) (32 ∷ spaced_numbers (m ∷ numbers)) (decimal-bytes n) (spaced-bytes (m ∷ numbers))
-
--- ---- the texts of a configuration, of a member, of a refusal and of a saved form
+-- ---- a line, and what may follow its first bytes
 pub record IsLine (text : List ℕ) : Type 0 where
   pub mark : list_any is_mark text ≡ true
   pub bytes : list_all is_line_byte text ≡ true
@@ -168,6 +113,32 @@ infixl 61 ◌▹◌
 pub ◌▹◌ : {front back : List ℕ} → IsTail front → IsTail back → IsTail (front ++ back)
 ◌▹◌ {front} {back} h k = record { tail = all-append is_line_byte front back h.tail k.tail }
 
+-- ---- numbers
+glyph-line : (d : ℕ) → IsLine (digit_glyph false d ∷ [])
+glyph-line d = record { mark = grind (arith, nat_tests); bytes = grind (arith, nat_tests) }
+
+either-line : (b : Bool) (xs ys : List ℕ) → IsLine xs → IsLine ys → IsLine (cond b xs ys)
+either-line b xs ys h k = grind arith
+
+digits_onto-line : (k n : ℕ) (bs : List ℕ) → IsLine bs → IsLine (digits_onto k 10 false n bs)
+digits_onto-line zero n bs h = h
+digits_onto-line (suc k) n bs h =
+    let more : IsLine (digit_glyph false (n % 10) ∷ bs) = glyph-line (n % 10) ▸ IsTail-from_bytes bs h.bytes in
+    either-line (n / 10 == 0) _ _ more (digits_onto-line k (n / 10) (digit_glyph false (n % 10) ∷ bs) more)
+
+pub decimal-line : (n : ℕ) → IsLine (decimal n)
+unfolding digits
+decimal-line n = either-line (n / 10 == 0) _ _ (glyph-line (n % 10)) (digits_onto-line 63 (n / 10) (digit_glyph false (n % 10) ∷ []) (glyph-line (n % 10)))
+
+decimal-bytes : (n : ℕ) → IsBytes (decimal n)
+decimal-bytes n = (decimal-line n).bytes
+
+pub spaced-bytes : (numbers : List ℕ) → IsBytes (spaced_numbers numbers)
+spaced-bytes [] = refl
+spaced-bytes (n ∷ []) = decimal-bytes n
+spaced-bytes (n ∷ m ∷ numbers) = all-append is_line_byte (decimal n) (32 ∷ spaced_numbers (m ∷ numbers)) (decimal-bytes n) (spaced-bytes (m ∷ numbers))
+
+-- ---- the texts of a configuration, of a member, of a refusal and of a saved form
 pub IsTail-number : (n : ℕ) → IsTail (decimal n)
 IsTail-number n = IsTail-from_bytes (decimal n) (decimal-bytes n)
 
@@ -193,20 +164,14 @@ config-in_lines c = IsLine-in_lines (config-line c)
 
 progress-line : (id : ℕ) (p : Progress) → IsLine (progress_text id p)
 progress-line id p =
-    IsLine-from_mark (decimal id) (high-mark (decimal id) (decimal-high id)) (decimal-bytes id) ▸ IsTail-from_bytes (codes ": StateProbe match=") refl ▸ IsTail-number p.matched ▸ IsTail-from_bytes (codes " next=") refl ▸ IsTail-number p.next
+    decimal-line id ▸ IsTail-from_bytes (codes ": StateProbe match=") refl ▸ IsTail-number p.matched ▸ IsTail-from_bytes (codes " next=") refl ▸ IsTail-number p.next
     ▸ IsTail-from_bytes (text_if p.learner (codes " learner")) (where-bytes p.learner (codes " learner") refl)
 
 pub progress-in_lines : (id : ℕ) (p : Progress) → is_reply_line (progress_text id p) ≡ true
 progress-in_lines id p = IsLine-in_lines (progress-line id p)
 
 pub refused-in_lines : (refused : Refused) → is_reply_line (refused_text refused) ≡ true
-refused-in_lines AlreadyJoint = refl
-refused-in_lines ZeroVoterJoint = refl
-refused-in_lines NotJoint = refl
-refused-in_lines SimpleInJoint = refl
-refused-in_lines RemovedAllVoters = refl
-refused-in_lines MoreThanOneVoter = refl
-refused-in_lines NoMemory = refl
+refused-in_lines refused = grind arith
 
 pub undo_fault-in_lines : (fault : UndoFault) → is_reply_line (undo_fault_text fault) ≡ true
 undo_fault-in_lines (NotKept kept) = IsLine-in_lines (IsLine-from_mark (codes "no plan: ") refl refl ▸ IsTail-number kept ▸ IsTail-from_bytes (codes " earlier configurations are kept") refl)
@@ -214,8 +179,7 @@ undo_fault-in_lines NoVoterTarget = refl
 undo_fault-in_lines NoMemoryToUndo = refl
 
 truth-bytes : (truth : Bool) → IsBytes (truth_text truth)
-truth-bytes true = refl
-truth-bytes false = refl
+truth-bytes truth = grind arith
 
 saved-line : (a b c d : List ℕ) (auto_leave : Bool) → IsTail a → IsTail b → IsTail c → IsTail d → IsLine (bracketed_line a b c d auto_leave)
 saved-line a b c d auto_leave voters voters_outgoing learners learners_next =
@@ -256,43 +220,38 @@ saved-bytes text saved h =
 pub line-in_lines : (text : List ℕ) → is_reply_line text ≡ true → IsReplyText (line text)
 line-in_lines text h = record { lines = text ∷ []; some = omega arith; whole = sym (append-nil (line text)); valid = and-both _ _ h refl }
 
-members-whole : (members : List (ℕ × Progress)) → flat_map member_line members ≡ text_of (map (λ member. progress_text member.0 member.1) members)
-members-whole [] = refl
-members-whole (member ∷ members) = ap (λ rest. member_line member ++ rest) (members-whole members)
+-- a first line, and then a line for each element
+pub rows-in_lines : {X : Type 0} (head : List ℕ) (row : X → List ℕ) (xs : List X) → is_reply_line head ≡ true → ((x : X) → is_reply_line (row x) ≡ true) → IsReplyText (line head ++ flat_map (λ x. line (row x)) xs)
+rows-in_lines head row xs first each = record {
+  lines = head ∷ map row xs;
+  some = omega arith;
+  whole = ap (λ rest. line head ++ rest) (whole xs);
+  valid = and-both _ _ first (valid xs);
+} where
+  whole : (xs : List _) → flat_map (λ x. line (row x)) xs ≡ text_of (map row xs)
+  whole [] = refl
+  whole (x ∷ xs) = ap (λ rest. line (row x) ++ rest) (whole xs)
 
-members-in_lines : (members : List (ℕ × Progress)) → list_all is_reply_line (map (λ member. progress_text member.0 member.1) members) ≡ true
-members-in_lines [] = refl
-members-in_lines (member ∷ members) = and-both _ _ (progress-in_lines member.0 member.1) (members-in_lines members)
+  valid : (xs : List _) → list_all is_reply_line (map row xs) ≡ true
+  valid [] = refl
+  valid (x ∷ xs) = and-both _ _ (each x) (valid xs)
 
 pub tracker-in_lines : (tracker : TrackerState) → IsReplyText (tracker_text tracker)
 tracker-in_lines tracker =
-    let members = finite.entries tracker.progress in
-    record {
-      lines = config_text tracker.config ∷ map (λ member. progress_text member.0 member.1) members;
-      some = omega arith;
-      whole = ap (λ rest. line (config_text tracker.config) ++ rest) (members-whole members);
-      valid = and-both _ _ (config-in_lines tracker.config) (members-in_lines members);
-    }
+    rows-in_lines (config_text tracker.config) (λ (member : ℕ × Progress). progress_text member.0 member.1) (finite.entries tracker.progress) (config-in_lines tracker.config) (λ member. progress-in_lines member.0 member.1)
 
 -- one text after another
-texts-append : (xs ys : List (List ℕ)) → text_of xs ++ text_of ys ≡ text_of (xs ++ ys)
-texts-append [] ys = refl
-texts-append (x ∷ xs) ys = append_assoc (line x) (text_of xs) (text_of ys) ∙ ap (λ rest. line x ++ rest) (texts-append xs ys)
-
 pub reply_text-append : (a b : List ℕ) → IsReplyText a → IsReplyText b → IsReplyText (a ++ b)
 reply_text-append a b h k = record {
   lines = h.lines ++ k.lines;
   some = let n = length-append h.lines k.lines in let some = h.some in omega arith;
-  whole = ap (λ text. text ++ b) h.whole ∙ ap (λ text. text_of h.lines ++ text) k.whole ∙ texts-append h.lines k.lines;
+  whole = ap (λ text. text ++ b) h.whole ∙ ap (λ text. text_of h.lines ++ text) k.whole ∙ sym (flat_map-append line h.lines k.lines);
   valid = all-append is_reply_line h.lines k.lines h.valid k.valid;
 }
 
 -- ---- the lines of a plan
 kind-bytes : (kind : Kind) → IsBytes (letter_of kind ∷ [])
-kind-bytes Voter = refl
-kind-bytes Learner = refl
-kind-bytes Remove = refl
-kind-bytes Update = refl
+kind-bytes kind = grind arith
 
 change-bytes : (change : Change) → IsBytes (change_text change)
 change-bytes change = all-append is_line_byte (letter_of change.kind ∷ []) (decimal change.id) (kind-bytes change.kind) (decimal-bytes change.id)
@@ -313,8 +272,7 @@ tokens_in-line token [] h k = h
 tokens_in-line token (next ∷ tokens) h k = h ▸ IsTail-from_bytes (32 ∷ join_with_byte 32 (next ∷ tokens)) (spaced-tokens_in (next ∷ tokens) k)
 
 flag-bytes : (auto_leave : Bool) → IsBytes (flag_token auto_leave)
-flag-bytes true = refl
-flag-bytes false = refl
+flag-bytes auto_leave = grind arith
 
 step-line : (step : Step) → IsLine (step_text step)
 step-line (Simple changes) = tokens_in-line (codes "simple") (map change_text changes) (IsLine-from_mark (codes "simple") refl refl) (changes-tokens_in changes)
@@ -323,19 +281,6 @@ step-line (EnterJoint auto_leave changes) =
     (and-both _ _ (flag-bytes auto_leave) (changes-tokens_in changes))
 step-line LeaveJoint = tokens_in-line (codes "leave-joint") [] (IsLine-from_mark (codes "leave-joint") refl refl) refl
 
-step-lines : (steps : List Step) → list_all is_reply_line (map step_text steps) ≡ true
-step-lines [] = refl
-step-lines (step ∷ steps) = and-both _ _ (IsLine-in_lines (step-line step)) (step-lines steps)
-
-steps-whole : (steps : List Step) → flat_map line_and_newline steps ≡ text_of (map step_text steps)
-steps-whole [] = refl
-steps-whole (step ∷ steps) = ap (λ rest. line_and_newline step ++ rest) (steps-whole steps)
-
 pub plan-in_lines : (steps : List Step) → IsReplyText (plan_text steps)
 plan-in_lines [] = line-in_lines (codes "nothing to do") refl
-plan-in_lines (step ∷ steps) = record {
-  lines = step_text step ∷ map step_text steps;
-  some = omega arith;
-  whole = steps-whole (step ∷ steps);
-  valid = step-lines (step ∷ steps);
-}
+plan-in_lines (step ∷ steps) = rows-in_lines (step_text step) step_text steps (IsLine-in_lines (step-line step)) (λ s. IsLine-in_lines (step-line s))

@@ -46,10 +46,7 @@ some-line : (b : ℕ) (bs : List ℕ) → [] ≡ ends_of (b ∷ bs) → ⊥
 some-line b bs none = let first = none ∙ ap (λ ps. map without_trailing_space (map line_of ps)) (full_lines-first (b ∷ bs) (omega arith)) in cc
 
 nothing-same : (input other : List ℕ) → ends_of input ≡ ends_of other → nothing_read input ≡ nothing_read other
-nothing-same [] [] same = refl
-nothing-same [] (b ∷ other) same = absurd (some-line b other same)
-nothing-same (b ∷ input) [] same = absurd (some-line b input (sym same))
-nothing-same (b ∷ input) (c ∷ other) same = refl
+nothing-same input other same = grind arith
 
 input-same : (kind : InputKind) (input other : List ℕ) → ends_of input ≡ ends_of other → read_input kind input ≡ read_input kind other
 input-same Changes input other same = ap changes_read (changes-same input other same)

@@ -118,8 +118,8 @@ item_has_keys (Directive directive) = has_keys directive.arguments
 abbrev pub ItemsHaveKeys : Type 0
 ItemsHaveKeys = (input : List ℕ) → list_all item_has_keys (script_of input).items ≡ true
 
--- whether an item is a comment, a blank, or a directive with its separator: of this many lines, so many of which are
--- left, one is neither left nor a raw line
+-- whether an item is a comment, a blank, or a directive with its separator: of `count` lines, `left` of which are left,
+-- one is neither left nor a raw line
 abbrev pub has_separator : Item → ℕ → ℕ → Bool
 has_separator item left count = if is_directive item then nat_lt (length (raw_lines_of item) + left) count else true
 

@@ -12,7 +12,7 @@ use crate::command::{Command, Name, parse_command};
 pub use crate::raw_lines::RawLines;
 pub use crate::values::Values;
 use crate::values::ValuesKind;
-use ascii_text::white_space::{without_leading_space, without_trailing_space};
+use ascii_text::white_space::trimmed;
 use smallvec::SmallVec;
 use std::alloc::{AllocError, Global};
 use std::marker::Model;
@@ -92,15 +92,15 @@ pub struct Directive {
     arguments: Vec<Argument>,
     /// The directive lines, and then the lines of the input.
     raw_lines: RawLines,
-    /// Where the trimmed input begins and ends in the text of the raw lines.
-    input_start: usize,
-    input_end: usize,
+    /// How many of the raw lines are directive lines.
+    directive_line_count: usize,
     expected: Vec<u8>,
 }
 
 impl Model for Directive {
-    ghost use Rattle.std.specs.Prelude.{◌≡◌, ◌≤◌, ◌-◌, true, length, take, drop};
+    ghost use Rattle.std.specs.Prelude.{◌≡◌, ◌≤◌, true, length, drop};
     ghost use Rattle.ascii_text.specs.Lines.{text_of};
+    ghost use Rattle.ascii_text.specs.WhiteSpace.{trimmed};
     ghost use Rattle.dd_file.specs.DirectiveText.{DirectiveText};
     ghost use Rattle.dd_file.specs.DirectiveLine.{has_keys};
 
@@ -110,12 +110,12 @@ impl Model for Directive {
       line = a.line;
       command = a.command.items;
       arguments = a.arguments.items;
-      input = take (a.input_end - a.input_start) (drop a.input_start (text_of a.raw_lines));
+      input = trimmed (text_of (drop a.directive_line_count a.raw_lines));
       expected = a.expected.items;
       raw_lines = a.raw_lines;
     } };
 
-    ghost invariant = { λ a. (has_keys a.arguments.items ≡ true) × (a.input_start ≤ a.input_end) × (a.input_end ≤ length (text_of a.raw_lines)) };
+    ghost invariant = { λ a. (has_keys a.arguments.items ≡ true) × (a.directive_line_count ≤ length a.raw_lines) };
 }
 
 impl Directive {
@@ -140,18 +140,12 @@ impl Directive {
         } }
     {
         let Command { name, arguments } = command;
-        let input = raw_lines.text_after(directive_line_count);
-        let ended = without_trailing_space(input);
-        let begun = without_leading_space(ended);
-        let input_end = raw_lines.text().len() - (input.len() - ended.len());
-        let input_start = input_end - begun.len();
         Directive {
             line,
             command: name,
             arguments,
             raw_lines,
-            input_start,
-            input_end,
+            directive_line_count,
             expected,
         }
     }
@@ -189,7 +183,7 @@ impl Directive {
     pub fn input(&self) -> &[u8]
         ensures { result.now ≡ self.now.input }
     {
-        &self.raw_lines.text()[self.input_start..self.input_end]
+        trimmed(self.raw_lines.text_after(self.directive_line_count))
     }
 
     /// The expected output: whole lines, or nothing (datadriven's `TestData.Expected`).

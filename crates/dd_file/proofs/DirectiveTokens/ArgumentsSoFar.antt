@@ -6,7 +6,7 @@ use Rattle.ascii_text.specs.WhiteSpace.{without_leading_space}
 use Rattle.dd_file.specs.DirectiveLine.{ArgumentText, Leading, argument_at, before_others, from_token, arguments_within, arguments_of}
 use Rattle.ascii_text.proofs.Offered.{length-without_leading_space}
 
--- the arguments so far, and those of the text that is left, which has so many at most
+-- the arguments so far, and those of the text that is left, which has at most `count`
 pub record IsParsed (text : List ℕ) (arguments : List ArgumentText) (rest : List ℕ) : Type 0 where
   pub count : ℕ
   pub enough : length rest ≤ count
@@ -15,8 +15,7 @@ pub record IsParsed (text : List ℕ) (arguments : List ArgumentText) (rest : Li
 pub parsed-none : (text : List ℕ) → IsParsed text [] text
 parsed-none text = record { count = length text; enough = omega arith; is = at (arguments_of text) } where
   at : (found : Option (List ArgumentText)) → option_map (λ others. [] ++ others) found ≡ found
-  at None = refl
-  at (Some others) = refl
+  at found = grind arith
 
 module _ (text : List ℕ) (arguments : List ArgumentText) (rest begun : List ℕ) (parsed : IsParsed text arguments rest) (begins : begun ≡ without_leading_space rest) where
   -- nothing is left
@@ -31,8 +30,7 @@ module _ (text : List ℕ) (arguments : List ArgumentText) (rest begun : List �
   step some zero enough = let fewer = length-without_leading_space rest in let same = ap length begins in absurd (omega (arith, some, enough, fewer, same))
   step some (suc left) enough = (left, refl, ap (from_token (arguments_within left)) (sym begins) ∙ at begun some) where
     at : (bytes : List ℕ) → 0 < length bytes → from_token (arguments_within left) bytes ≡ before_others (arguments_within left) (argument_at bytes)
-    at [] none = absurd (omega (arith, none))
-    at (b ∷ bs) one = refl
+    at bytes none = grind arith
 
   pub parsed-bad : 0 < length begun → None ≡ argument_at begun → None ≡ arguments_of text
   parsed-bad some bad =

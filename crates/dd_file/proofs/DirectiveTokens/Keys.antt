@@ -24,8 +24,7 @@ leading-all test (x ∷ xs) = at (test x) refl (leading-all test xs) where
 as_token-is : {A : Type 0} (found : Leading A) (whole : Leading A) → as_token (Some found) ≡ Some whole → found ≡ whole
 as_token-is found whole is = at (ends_token found.rest) is where
   at : (c : Bool) → cond c (Some found) None ≡ Some whole → found ≡ whole
-  at true e = cc
-  at false e = cc
+  at c e = grind arith
 
 after_key-key : (key rest : List ℕ) (found : Leading ArgumentText) → as_token (after_key key rest) ≡ Some found → found.value.key ≡ key
 after_key-key key [] found is = ap (λ (l : Leading ArgumentText). l.value.key) (sym (as_token-is (leading (with_key key []) []) found is))

@@ -1,17 +1,23 @@
--- Each line and each item has a byte.
-use Rattle.std.proofs.Common.{◌≡◌, ℕ, zero, suc, ◌-◌, ◌<◌, Bool, true, false, cond, List, [], ◌∷◌, length, take, drop, map, refl, ap, subst, arith}
+-- What holds of whatever comes next: lines and items are grammars.
+use Rattle.std.proofs.Common.{◌≡◌, ℕ, zero, suc, ◌+◌, ◌-◌, ◌<◌, ◌≤◌, Bool, true, false, cond, List, [], ◌∷◌, length, take, drop, map, refl, sym, ◌∙◌, ap, subst, arith, rules}
 use Rattle.std.specs.Prelude.{filter, Result, Ok, Err}
 use Rattle.std.specs.List.{concat}
 use Rattle.std.proofs.lemmas.List.{length-append, length-drop}
 use Rattle.ascii_text.specs.Lines.{first_len, full_lines, line_of, ends_in_newline}
 use Rattle.dd_file.specs.Script.{FirstItem, NoItem, Ended, Open, result_of, first_of}
-use Rattle.dd_file.specs.Position.{Position}
-use Rattle.dd_file.specs.Grammar.{Next, Over, Parsed, Faulty, next_line, next_item, from_full_lines, from_first_item, with_count, at_end, is_too_long, full_lines_within}
+use Rattle.dd_file.specs.Position.{Position, longest_input}
+use Rattle.dd_file.specs.Grammar.{next_line, next_item, from_full_lines, from_first_item, with_count, at_end, is_too_long, full_lines_within}
 use Rattle.dd_file.specs.InOrder.{TakesBytes}
+use Rattle.dd_file.specs.Answer.{IsLineFault, IsItemFault}
+use Rattle.dd_file.specs.Buffered.{IsInterruption}
 use Rattle.dd_file.specs.declared.item.Item.{Item}
 use Rattle.dd_file.specs.declared.fault.SyntaxFault.{SyntaxFault}
+use Rattle.dd_file.specs.declared.fault.SyntaxFault.TheVariants.{BadDirective, AfterDouble, UnclosedDouble}
+use Rattle.dd_file.specs.declared.fault.FileFault.{FileFault}
+use Rattle.dd_file.specs.declared.fault.FileFault.TheVariants.{Read, NoMemory, Syntax, InputTooLong}
 use Rattle.ascii_text.proofs.Offered.{full_lines-first, first_len-some, length-first}
-use Rattle.dd_file.proofs.ScriptGrammar.MoreLines.{fewest-some, first_of-left, first_of-fewest}
+use Rattle.dd_file.proofs.LineReading.BufferFilled.{IsSound, IsGrammar}
+use Rattle.dd_file.proofs.ScriptGrammar.MoreLines.{fewest, first_of-left, first_of-fewest, first_of-none}
 
 -- this many full lines, at least one, have a byte
 full_lines-some : (count : ℕ) (bytes : List ℕ) → 0 < count → 0 < length bytes → 0 < length (concat (take count (full_lines bytes)))
@@ -25,60 +31,79 @@ full_lines-some (suc count) bytes some has =
 drop-shorter : (consumed : ℕ) (bytes : List ℕ) → 0 < consumed → 0 < length bytes → length (drop consumed bytes) < length bytes
 drop-shorter consumed bytes some has = simp length-drop (omega (arith, some, has))
 
--- what was found leaves fewer bytes
-abbrev Leaves : {A : Type 0} → List ℕ → Next A → Type 0
-Leaves bytes Over = Unit {0}
-Leaves bytes (Parsed item position left) = length left < length bytes
-Leaves bytes (Faulty fault) = Unit {0}
-
-at_end-leaves : (A : Type 0) (too_long : Bool) (position : Position) (bytes : List ℕ) → Leaves {A = A} bytes (at_end too_long position)
-at_end-leaves A true position bytes = tt
-at_end-leaves A false position bytes = tt
-
-some-leaves : {A : Type 0} (position suffix : Position) (bytes left : List ℕ) (item : A) (found : Next A) → Leaves bytes found → found ≡ Parsed item suffix left → length left < length bytes
-some-leaves position suffix bytes left item Over h e = cc
-some-leaves position suffix bytes left item (Parsed x p l) h e = let same : l ≡ left = cc in subst (λ (t : List ℕ). length t < length bytes) same h
-some-leaves position suffix bytes left item (Faulty fault) h e = cc
-
--- no bytes have no full lines
-pub none-within : (limit : ℕ) (position : Position) → full_lines_within limit position [] ≡ []
+-- no bytes have no full lines, and others have one within the limit
+none-within : (limit : ℕ) (position : Position) → full_lines_within limit position [] ≡ []
 none-within limit position = at (is_too_long limit position []) (limit - position.bytes) where
   at : (c : Bool) (k : ℕ) → cond c (filter ends_in_newline (full_lines (take k []))) [] ≡ []
-  at true zero = refl
-  at true (suc k) = refl
-  at false k = refl
+  at c k = grind arith
 
-line-leaves : (limit : ℕ) (position : Position) (bytes : List ℕ) → Leaves bytes (next_line limit position bytes)
-line-leaves limit position [] = rw (none-within limit position) (at_end-leaves (List ℕ) (is_too_long limit position []) position [])
-line-leaves limit position (b ∷ bytes) = at (full_lines_within limit position (b ∷ bytes)) where
-  at : (ps : List (List ℕ)) → Leaves (b ∷ bytes) (from_full_lines (is_too_long limit position (b ∷ bytes)) ps position (b ∷ bytes))
-  at [] = at_end-leaves (List ℕ) (is_too_long limit position (b ∷ bytes)) position (b ∷ bytes)
-  at (full_line ∷ ps) = drop-shorter _ (b ∷ bytes) (full_lines-some 1 (b ∷ bytes) (omega arith) (omega arith)) (omega arith)
+some-within : {P : Type 0} (limit : ℕ) (position : Position) (b : ℕ) (bytes : List ℕ) → is_too_long limit position (b ∷ bytes) ≡ false → full_lines_within limit position (b ∷ bytes) ≡ [] → P
+some-within limit position b bytes short none = let bad = sym (full_lines-first (b ∷ bytes) (omega arith)) ∙ rw short at none in cc
 
-item-leaves : (limit : ℕ) (position : Position) (bytes : List ℕ) → Leaves bytes (next_item limit position bytes)
-item-leaves limit position [] = rw (none-within limit position) (at_end-leaves Item (is_too_long limit position []) position [])
-item-leaves limit position (b ∷ bytes) = at (is_too_long limit position (b ∷ bytes)) (first_of lines) refl where
+-- no byte is left
+end-sound : (A : Type 0) (IsFault : Position → FileFault → Type 0) (position : Position) → IsFault position (InputTooLong (position.lines + 1)) → (c : Bool) → IsSound {A = A} IsFault position [] (at_end c position)
+end-sound A IsFault position fault true = (fault, refl)
+end-sound A IsFault position fault false = refl
+
+next_line-sound : (limit : ℕ) (position : Position) (bytes : List ℕ) → IsSound IsLineFault position bytes (next_line limit position bytes)
+next_line-sound limit position [] = rw (none-within limit position) (end-sound (List ℕ) IsLineFault position refl (is_too_long limit position []))
+next_line-sound limit position (b ∷ bytes) = at (is_too_long limit position (b ∷ bytes)) refl (full_lines_within limit position (b ∷ bytes)) refl where
+  at : (c : Bool) → is_too_long limit position (b ∷ bytes) ≡ c → (ps : List (List ℕ)) → full_lines_within limit position (b ∷ bytes) ≡ ps → IsSound IsLineFault position (b ∷ bytes) (from_full_lines c ps position (b ∷ bytes))
+  at true long [] is = (refl, refl)
+  at false short [] is = some-within limit position b bytes short is
+  at c is_c (full_line ∷ ps) is = (drop-shorter _ (b ∷ bytes) (full_lines-some 1 (b ∷ bytes) (omega arith) (omega arith)) (omega arith), omega arith)
+
+next_item-sound : (limit : ℕ) (position : Position) (bytes : List ℕ) → IsSound IsItemFault position bytes (next_item limit position bytes)
+next_item-sound limit position [] = rw (none-within limit position) (end-sound Item IsItemFault position refl (is_too_long limit position []))
+next_item-sound limit position (b ∷ bytes) = at (is_too_long limit position (b ∷ bytes)) refl (first_of lines) refl where
   lines : List (List ℕ)
   lines = map line_of (full_lines_within limit position (b ∷ bytes))
 
-  counted : (count : ℕ) (result : Result Item SyntaxFault) → 0 < count → Leaves (b ∷ bytes) (with_count count result position (b ∷ bytes))
-  counted count (Ok item) some = drop-shorter _ (b ∷ bytes) (full_lines-some count (b ∷ bytes) some (omega arith)) (omega arith)
-  counted count (Err fault) some = tt
+  counted : (count : ℕ) (result : Result Item SyntaxFault) → fewest result ≤ count → IsSound IsItemFault position (b ∷ bytes) (with_count count result position (b ∷ bytes))
+  counted count (Ok item) some = (drop-shorter _ (b ∷ bytes) (full_lines-some count (b ∷ bytes) (omega (arith, some)) (omega arith)) (omega arith), omega (arith, some))
+  counted count (Err BadDirective) some = (refl, refl)
+  counted count (Err UnclosedDouble) some = (refl, refl)
+  counted count (Err AfterDouble) some = (omega (arith, some), refl)
 
-  at : (too_long : Bool) (first : FirstItem) → first_of lines ≡ first → Leaves (b ∷ bytes) (from_first_item too_long (length lines) first position (b ∷ bytes))
-  at too_long NoItem is = at_end-leaves Item too_long position (b ∷ bytes)
-  at too_long (Ended result left) is =
+  no-lines : (ps : List (List ℕ)) → map line_of ps ≡ [] → ps ≡ []
+  no-lines [] none = refl
+  no-lines (p ∷ ps) none = cc
+
+  at : (c : Bool) → is_too_long limit position (b ∷ bytes) ≡ c → (first : FirstItem) → first_of lines ≡ first → IsSound IsItemFault position (b ∷ bytes) (from_first_item c (length lines) first position (b ∷ bytes))
+  at true long NoItem is = (refl, refl)
+  at false short NoItem is = some-within limit position b bytes short (no-lines _ (first_of-none lines (ap result_of is)))
+  at c is_c (Ended result left) is =
       let own = first_of-left lines left result is in
       let some = own.some in
-      let one = fewest-some result in
       let all = ap length own.is in
       let len = length-append own.own left in
-      counted (length lines - length left) result (omega (arith, some, one, all, len))
-  at true (Open result) is = tt
-  at false (Open result) is = let some = first_of-fewest lines result (ap result_of is) in let one = fewest-some result in counted (length lines) result (omega (arith, some, one))
+      counted (length lines - length left) result (omega (arith, some, all, len))
+  at true long (Open result) is = (refl, refl)
+  at false short (Open result) is = counted (length lines) result (first_of-fewest lines result (ap result_of is))
+
+within : (limit : ℕ) (position : Position) → position.bytes ≤ limit → is_too_long limit position [] ≡ false
+within limit position le = search (rules, arith)
+
+line-fault : (position : Position) (fault : FileFault) → IsInterruption fault → IsLineFault position fault
+line-fault position Read i = tt
+line-fault position NoMemory i = tt
+line-fault position (InputTooLong line) i = absurd i
+line-fault position (Syntax line fault) i = absurd i
+
+item-fault : (position : Position) (fault : FileFault) → IsInterruption fault → IsItemFault position fault
+item-fault position Read i = tt
+item-fault position NoMemory i = tt
+item-fault position (InputTooLong line) i = absurd i
+item-fault position (Syntax line fault) i = absurd i
+
+pub next_line-grammar : IsGrammar (next_line longest_input) IsLineFault
+next_line-grammar = record { sound = next_line-sound longest_input; over = λ position fits. rw (within longest_input position fits) refl; interrupted = line-fault }
+
+pub next_item-grammar : IsGrammar (next_item longest_input) IsItemFault
+next_item-grammar = record { sound = next_item-sound longest_input; over = λ position fits. rw (within longest_input position fits) refl; interrupted = item-fault }
 
 pub next_line-takes : (limit : ℕ) → TakesBytes (next_line limit)
-next_line-takes limit position suffix bytes left item e = some-leaves position suffix bytes left item (next_line limit position bytes) (line-leaves limit position bytes) e
+next_line-takes limit position suffix bytes left line e = (subst (IsSound IsLineFault position bytes) e (next_line-sound limit position bytes)).0
 
 pub next_item-takes : (limit : ℕ) → TakesBytes (next_item limit)
-next_item-takes limit position suffix bytes left item e = some-leaves position suffix bytes left item (next_item limit position bytes) (item-leaves limit position bytes) e
+next_item-takes limit position suffix bytes left item e = (subst (IsSound IsItemFault position bytes) e (next_item-sound limit position bytes)).0

@@ -34,8 +34,7 @@ unfinished-step true b bytes e ih h = let bad : true ≡ false = sym e ∙ h in 
 unfinished-step false b [] e ih h = refl
 unfinished-step false b (x ∷ bytes) e ih h = ih (at (x == 10) h) where
   at : (c : Bool) → ends_in_newline (b ∷ take (cond c 1 (suc (first_len bytes))) (x ∷ bytes)) ≡ false → ends_in_newline (take (cond c 1 (suc (first_len bytes))) (x ∷ bytes)) ≡ false
-  at true h = h
-  at false h = h
+  at c h = grind arith
 
 unfinished-none : (bytes : List ℕ) → ends_in_newline (take (first_len bytes) bytes) ≡ false → has_newline bytes ≡ false
 unfinished-none [] h = refl

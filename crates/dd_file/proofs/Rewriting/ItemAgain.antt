@@ -1,5 +1,5 @@
 -- An item that is written is read again as that item.
-use Rattle.std.proofs.Common.{◌≡◌, ℕ, Bool, true, false, not, ◌&&◌, ◌||◌, List, [], ◌∷◌, ◌++◌, map, refl, sym, ◌∙◌, ap, subst}
+use Rattle.std.proofs.Common.{◌≡◌, ℕ, Bool, true, false, not, ◌&&◌, ◌||◌, List, [], ◌∷◌, ◌++◌, map, refl, sym, ◌∙◌, ap, subst, arith}
 use Rattle.std.proofs.lemmas.Bool.{and_parts}
 use Rattle.std.specs.Prelude.{Some, Ok}
 use Rattle.std.specs.List.{list_all, list_any}
@@ -84,8 +84,7 @@ found_as false item more = Open (Ok item)
 output_line-dashes : (line : List ℕ) → is_output_line line ≡ true → is_dashes line ≡ false
 output_line-dashes line h = at (is_dashes line) _ h where
   at : (c r : Bool) → not (c || r) ≡ true → c ≡ false
-  at true r k = cc
-  at false r k = refl
+  at c r k = grind arith
 
 no-pair : (lines : List (List ℕ)) → list_all is_output_line lines ≡ true → has_pair (lines ++ dashes_line ∷ []) ≡ false
 no-pair [] h = refl

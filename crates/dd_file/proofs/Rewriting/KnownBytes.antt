@@ -54,13 +54,13 @@ prefix-more old mid new n k bytes le a b =
 pub prefix-part : (old new : Option (List ℕ)) (n : ℕ) (bytes : List ℕ) → Appends old new (take n bytes) → AppendsPart old new bytes
 prefix-part old new n bytes a = subst (λ t. AppendsPart old new t) (take-append-drop n bytes) (part-append old new (take n bytes) (drop n bytes) a)
 
--- a prefix of what waits that is passed on is a part of it
+-- a prefix of the gathered bytes that is written is a part of them
 pub gathered-part : (old new : Option (List ℕ)) (n k : ℕ) (bytes block : List ℕ) → bytes ≡ block →
     Appends old new (take k (take (length bytes - n) (drop n bytes))) → AppendsPart old new (drop n block)
 gathered-part old new n k bytes block e a =
     subst (λ t. AppendsPart old new (drop n t)) e (prefix-part old new k (drop n bytes) (subst (λ t. Appends old new (take k t)) (rest-whole n bytes) a))
 
--- a prefix of what waits that is passed on leaves all bytes so far as they were
+-- after a prefix of the gathered bytes was written, all bytes so far are the same
 pub gathered-more : (old new : Option (List ℕ)) (n k : ℕ) (bytes block : List ℕ) → bytes ≡ block →
     Appends old new (take k (take (length bytes - n) (drop n bytes))) → Keeps (append_known old (drop n block)) (append_known new (drop (n + k) block))
 gathered-more old new n k bytes block e a =

@@ -1,6 +1,7 @@
 -- A script that is written again, with outputs that were found, is read again item by item.
 use Rattle.std.proofs.Common.{◌≡◌, ℕ, ◌+◌, ◌≤◌, Bool, true, false, not, cond, ◌&&◌, List, [], ◌∷◌, ◌++◌, inl, inr, length, map, refl, sym, ◌∙◌, ap, subst, arith, rules}
 use Rattle.std.proofs.lemmas.Bool.{and_parts}
+use Rattle.std.proofs.lemmas.Bool.Decides.{nat_tests}
 use Rattle.std.specs.Prelude.{◌==◌, nat_eq, Some, None, flat_map}
 use Rattle.std.specs.List.{list_all, list_any}
 use Rattle.std.proofs.lemmas.List.{append_assoc, append-nil}
@@ -15,10 +16,10 @@ use Rattle.dd_file.specs.Grammar.{Script, script_of, with_first}
 use Rattle.dd_file.specs.Rewritten.{Entry, entry, entry_text, has_blank_line, is_output, rewritten_text, without_double_end}
 use Rattle.dd_file.specs.Laws.{is_line, AreWellFormed, IsSameItem, AreReadAgain, AreOver, LastIsRemoved, ReadAgain, ends_in_long_blank}
 use Rattle.dd_file.specs.declared.item.Item.{Item}
-use Rattle.dd_file.specs.declared.item.Item.TheVariants.{Comment, Blank, Directive}
+use Rattle.dd_file.specs.declared.item.Item.TheVariants.{Comment, Blank}
 use Rattle.ascii_text.proofs.Offered.{list-by_last}
 use Rattle.dd_file.proofs.TextLines.LastNewlines.{double_end-pushed}
-use Rattle.dd_file.proofs.TextLines.CutAgain.{lines-lines, full_lines-text_of, text_of-append, output-lines}
+use Rattle.dd_file.proofs.TextLines.CutAgain.{lines-lines, full_lines-text_of, text_of-append, text_of-end, output-lines}
 use Rattle.dd_file.proofs.ScriptGrammar.LinesOfItem.{IsHead, ReadItem, ReadComment, ReadBlank, ReadBlankHead, ReadDirective, given-read}
 use Rattle.dd_file.proofs.ScriptGrammar.AllItems.{items_of, items_of-ended, items_of-open, script_of-lines}
 use Rattle.dd_file.proofs.Rewriting.ItemAgain.{read-again, directive-again, directive-text, lines_of_written, lines_of_written-are, output_after}
@@ -87,15 +88,10 @@ IsRest before entries = (left : List ℕ) × (without_double_end (before ++ text
 all-left : (before : List ℕ) (e : Entry) → ReadItem e.item → is_output e.output ≡ true → without_double_end (before ++ texts_of (e ∷ [])) ≡ before ++ texts_of (e ∷ []) → IsRest before (e ∷ [])
 all-left before e read output same = (texts_of (e ∷ []), same, λ m. again-first m e [] [] read output no-entries)
 
--- a text of lines has a newline at its end
-text-end : (line : List ℕ) (lines : List (List ℕ)) → (part : List ℕ) × (text_of (line ∷ lines) ≡ part ++ newline)
-text-end line [] = (line, append-nil (line ++ newline))
-text-end line (next ∷ lines) = let more = text-end next lines in ((line ++ newline) ++ more.0, ap (λ t. (line ++ newline) ++ t) more.1 ∙ sym (append_assoc (line ++ newline) more.0 newline))
-
 -- the empty line after lines is dropped
 empty-dropped : (before line : List ℕ) (lines : List (List ℕ)) → without_double_end (before ++ (text_of (line ∷ lines) ++ newline)) ≡ before ++ text_of (line ∷ lines)
 empty-dropped before line lines =
-    let part = text-end line lines in
+    let part = text_of-end line lines in
     let end : before ++ text_of (line ∷ lines) ≡ (before ++ part.0) ++ newline = ap (λ t. before ++ t) part.1 ∙ sym (append_assoc before part.0 newline) in
     ap without_double_end (sym (append_assoc before (text_of (line ∷ lines)) newline) ∙ ap (λ t. t ++ newline) end) ∙ double_end-pushed (before ++ part.0) 10 ∙ sym end
 
@@ -110,10 +106,7 @@ line-kept before line are some = elim (list-by_last line) [
       ap without_double_end whole ∙ double_end-pushed (before ++ p.0) p.1 ∙ ap (λ c. cond c ((before ++ p.0) ++ p.1 ∷ []) (((before ++ p.0) ++ p.1 ∷ []) ++ newline)) (no-newline p.1 other) ∙ sym whole
 ] where
   no-newline : (b : ℕ) → (not (b == 10) && true) ≡ true → nat_eq 10 b ≡ false
-  no-newline b h = at (b == 10) refl h where
-    at : (c : Bool) → (b == 10) ≡ c → (not c && true) ≡ true → nat_eq 10 b ≡ false
-    at true e k = cc
-    at false e k = search rules
+  no-newline b h = grind (arith, nat_tests)
 
 -- the text of an entry of one line at the end of a script
 one-line : (line : List ℕ) → (((line ++ newline) ++ []) ++ []) ++ [] ≡ line ++ newline
@@ -175,9 +168,7 @@ last-left before lines item found is (ReadDirective n command line rest input ex
 
 -- the end of a script is decided by its last item
 ends-next : (item next : Item) (items : List Item) → ends_in_long_blank (item ∷ next ∷ items) ≡ ends_in_long_blank (next ∷ items)
-ends-next (Comment lines) next items = refl
-ends-next (Blank lines) next items = refl
-ends-next (Directive directive) next items = refl
+ends-next item next items = grind arith
 
 -- after lines: the rest of a script
 rest-left : (before : List ℕ) (lines : List (List ℕ)) → before ≡ text_of lines → (e : Entry) (entries : List Entry) → AreWritten (e ∷ entries) → ends_in_long_blank (map (λ e. e.item) (e ∷ entries)) ≡ false →

@@ -9,16 +9,15 @@ use Rattle.dd_file.specs.Position.{Position, start, longest_input}
 use Rattle.dd_file.specs.Grammar.{Script, with_first, followed, first_items, next_item, script_of, is_too_long, from_first_item, with_count, fault_between}
 use Rattle.dd_file.specs.Laws.{moved, moved_fault}
 use Rattle.dd_file.specs.declared.item.Item.{Item}
-use Rattle.dd_file.specs.declared.item.Item.TheVariants.{Comment, Blank, Directive}
+use Rattle.dd_file.specs.declared.item.Item.TheVariants.{Directive}
 use Rattle.dd_file.specs.declared.fault.SyntaxFault.{SyntaxFault}
-use Rattle.dd_file.specs.declared.fault.SyntaxFault.TheVariants.{BadDirective, AfterDouble, UnclosedDouble}
 use Rattle.ascii_text.proofs.Offered.{full_lines-first, first_len-bound}
 use Rattle.dd_file.proofs.ScriptGrammar.MoreLines.{first_of-left, left-drop, lines_left-shorter}
 
 abbrev pub no_items : Script Item
 no_items = record { items = []; fault = None }
 
--- an item of count lines after so many others, and the items of the lines after it
+-- an item of `count` lines after `before` others, and the items of the lines after it
 abbrev from_result : (ℕ → List (List ℕ) → Script Item) → ℕ → ℕ → Result Item SyntaxFault → List (List ℕ) → Script Item
 from_result rest before count (Ok item) left = with_first (at_line (before + 1) item) (rest (before + count) left)
 from_result rest before count (Err fault) left = record { items = []; fault = Some (fault_between (before + 1) (before + count) fault) }
@@ -28,7 +27,7 @@ from_first rest before count NoItem = no_items
 from_first rest before count (Ended result left) = from_result rest before (count - length left) result left
 from_first rest before count (Open result) = from_result rest before count result []
 
--- at most this many items of some lines, which have so many lines before them
+-- at most `fuel` items of some lines, which have `before` lines before them
 abbrev pub items_at : ℕ → ℕ → List (List ℕ) → Script Item
 items_at zero before lines = no_items
 items_at (suc fuel) before lines = from_first (items_at fuel) before (length lines) (first_of lines)
@@ -49,8 +48,7 @@ from_first-same rest other before count (Ended result left) same = from_result-s
 from_first-same rest other before count (Open result) same = from_result-same rest other before count result [] same
 
 items_at-none : (k before : ℕ) → items_at k before [] ≡ no_items
-items_at-none zero before = refl
-items_at-none (suc k) before = refl
+items_at-none k before = grind arith
 
 pub items_at-enough : (k j before : ℕ) (lines : List (List ℕ)) → length lines ≤ k → length lines ≤ j → items_at k before lines ≡ items_at j before lines
 items_at-enough k j before [] hk hj = items_at-none k before ∙ sym (items_at-none j before)
@@ -86,14 +84,10 @@ abbrev pub moved_script : ℕ → Script Item → Script Item
 moved_script k script = record { items = map (moved_item k) script.items; fault = option_map (moved_fault k) script.fault }
 
 at_line-moved : (k n : ℕ) (item : Item) → at_line (k + n) item ≡ moved_item k (at_line n item)
-at_line-moved k n (Comment lines) = refl
-at_line-moved k n (Blank lines) = refl
-at_line-moved k n (Directive directive) = refl
+at_line-moved k n item = grind arith
 
 fault-moved : (k first last : ℕ) (fault : SyntaxFault) → fault_between (k + first) (k + last) fault ≡ moved_fault k (fault_between first last fault)
-fault-moved k first last AfterDouble = refl
-fault-moved k first last BadDirective = refl
-fault-moved k first last UnclosedDouble = refl
+fault-moved k first last fault = grind arith
 
 items_at-moved : (fuel k before : ℕ) (lines : List (List ℕ)) → items_at fuel (k + before) lines ≡ moved_script k (items_at fuel before lines)
 items_at-moved zero k before lines = refl
@@ -137,8 +131,7 @@ full_lines-drop (suc count) (b ∷ bytes) =
 
 -- the full lines of a text are the text
 concat-before : (b : ℕ) (ps : List (List ℕ)) → concat (before_first_line b ps) ≡ b ∷ concat ps
-concat-before b [] = refl
-concat-before b (p ∷ ps) = refl
+concat-before b ps = grind arith
 
 pub concat-full_lines : (bytes : List ℕ) → concat (full_lines bytes) ≡ bytes
 concat-full_lines [] = refl

@@ -5,42 +5,35 @@ use Rattle.std.specs.Io.KnownBytes.{Consumes, IsAtEnd}
 use Rattle.std.proofs.lemmas.List.{append_assoc, append_cancel_right}
 use Rattle.dd_file.specs.Position.{Position}
 use Rattle.dd_file.specs.Device.{LosesPrefix}
-use Rattle.dd_file.specs.Grammar.{Next, Over, Parsed, Faulty, followed, with_first, first_items, script_from}
+use Rattle.dd_file.specs.Grammar.{Next, Over, Parsed, Faulty, Script, followed, with_first, first_items, script_from}
 use Rattle.dd_file.specs.ReaderState.{ReaderState}
 use Rattle.dd_file.specs.Answer.{AgreesWith, Agrees}
 use Rattle.dd_file.specs.InOrder.{TakesBytes}
 use Rattle.dd_file.specs.InTurn.{AgreesInTurn}
 
--- the rest is the same at any fuel above the number of bytes
-followed-same : {A : Type 0} (next : Position → List ℕ → Next A) (position : Position) (bytes : List ℕ) (n m : ℕ) (found : Next A) → next position bytes ≡ found → TakesBytes next → length bytes < suc n → length bytes < suc m →
-    ((suffix : Position) (left : List ℕ) → length left < n → length left < m → first_items next n suffix left ≡ first_items next m suffix left) →
-    followed (first_items next n) found ≡ followed (first_items next m) found
-followed-same next position bytes n m Over e takes hn hm same = refl
-followed-same next position bytes n m (Parsed item suffix left) e takes hn hm same =
-    let shorter = takes position suffix bytes left item e in
-    ap (with_first item) (same suffix left (omega (arith, shorter, hn)) (omega (arith, shorter, hm)))
-followed-same next position bytes n m (Faulty fault) e takes hn hm same = refl
+-- the same rest after what comes next
+followed-same : {A : Type 0} (rest other : Position → List ℕ → Script A) (found : Next A) → ((item : A) (suffix : Position) (left : List ℕ) → found ≡ Parsed item suffix left → rest suffix left ≡ other suffix left) →
+    followed rest found ≡ followed other found
+followed-same rest other Over same = refl
+followed-same rest other (Parsed item suffix left) same = ap (with_first item) (same item suffix left refl)
+followed-same rest other (Faulty fault) same = refl
 
+-- the items are the same at any fuel above the number of bytes
 pub first_items-fuel : {A : Type 0} (next : Position → List ℕ → Next A) → TakesBytes next → (n m : ℕ) (position : Position) (bytes : List ℕ) → length bytes < n → length bytes < m →
     first_items next n position bytes ≡ first_items next m position bytes
 first_items-fuel next takes zero m position bytes hn hm = absurd (omega (arith, hn))
 first_items-fuel next takes (suc n) zero position bytes hn hm = absurd (omega (arith, hm))
-first_items-fuel next takes (suc n) (suc m) position bytes hn hm = followed-same next position bytes n m (next position bytes) refl takes hn hm (first_items-fuel next takes n m)
+first_items-fuel next takes (suc n) (suc m) position bytes hn hm =
+    followed-same (first_items next n) (first_items next m) (next position bytes) (λ item suffix left e.
+    let shorter = takes position suffix bytes left item e in first_items-fuel next takes n m suffix left (omega (arith, shorter, hn)) (omega (arith, shorter, hm)))
 
 -- what is read from a position on is what comes next, and then what is read after it
-script_from-at : {A : Type 0} (next : Position → List ℕ → Next A) → TakesBytes next → (position : Position) (bytes : List ℕ) (found : Next A) → next position bytes ≡ found →
-    followed (first_items next (length bytes)) found ≡ followed (script_from next) found
-script_from-at next takes position bytes Over e = refl
-script_from-at next takes position bytes (Parsed item suffix left) e =
-    let shorter = takes position suffix bytes left item e in
-    ap (with_first item) (first_items-fuel next takes (length bytes) (length left + 1) suffix left shorter (omega arith))
-script_from-at next takes position bytes (Faulty fault) e = refl
-
 pub script_from-followed : {A : Type 0} (next : Position → List ℕ → Next A) → TakesBytes next → (position : Position) (bytes : List ℕ) →
     script_from next position bytes ≡ followed (script_from next) (next position bytes)
 script_from-followed next takes position bytes =
     let one : length bytes + 1 ≡ suc (length bytes) = omega arith in
-    ap (λ n. first_items next n position bytes) one ∙ script_from-at next takes position bytes (next position bytes) refl
+    ap (λ n. first_items next n position bytes) one ∙ followed-same (first_items next (length bytes)) (script_from next) (next position bytes) (λ item suffix left e.
+    first_items-fuel next takes (length bytes) (length left + 1) suffix left (takes position suffix bytes left item e) (omega arith))
 
 -- what is consumed in two steps
 pub consumes-append : (old mid new : Option (List ℕ)) (xs ys : List ℕ) → Consumes old mid xs → Consumes mid new ys → Consumes old new (xs ++ ys)

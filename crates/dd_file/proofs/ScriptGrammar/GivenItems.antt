@@ -1,5 +1,5 @@
 -- Each item of a script is given by the grammar for some lines.
-use Rattle.std.proofs.Common.{◌≡◌, ℕ, zero, suc, Bool, true, false, not, cond, ◌&&◌, ◌+◌, ◌-◌, List, [], ◌∷◌, length, take, map, refl, ◌∙◌, ap}
+use Rattle.std.proofs.Common.{◌≡◌, ℕ, zero, suc, Bool, true, false, not, cond, ◌&&◌, ◌+◌, ◌-◌, List, [], ◌∷◌, length, take, map, refl, ◌∙◌, ap, arith}
 use Rattle.std.proofs.lemmas.Bool.{and_parts}
 use Rattle.std.specs.Prelude.{◌==◌, Some, Result, Ok, Err, filter}
 use Rattle.std.specs.List.{list_all}
@@ -12,7 +12,7 @@ use Rattle.dd_file.specs.declared.item.Item.{Item}
 use Rattle.dd_file.specs.declared.fault.SyntaxFault.{SyntaxFault}
 
 -- what all elements are, those of a part are
-all-filter : {X : Type 0} (test kept : X → Bool) (xs : List X) → list_all test xs ≡ true → list_all test (filter kept xs) ≡ true
+pub all-filter : {X : Type 0} (test kept : X → Bool) (xs : List X) → list_all test xs ≡ true → list_all test (filter kept xs) ≡ true
 all-filter test kept [] h = refl
 all-filter test kept (x ∷ xs) h = let k = and_parts (test x) (list_all test xs) h in at (kept x) k.0 (all-filter test kept xs k.1) where
   at : (c : Bool) → test x ≡ true → list_all test (filter kept xs) ≡ true → list_all test (cond c (x ∷ filter kept xs) (filter kept xs)) ≡ true
@@ -23,8 +23,7 @@ all-without_last : (test : ℕ → Bool) (b : ℕ) (xs : List ℕ) → list_all 
 all-without_last test b [] h = refl
 all-without_last test b (x ∷ []) h = at (x == b) where
   at : (c : Bool) → list_all test (cond c [] (x ∷ [])) ≡ true
-  at true = refl
-  at false = h
+  at c = grind arith
 all-without_last test b (x ∷ y ∷ xs) h = let k = and_parts (test x) (list_all test (y ∷ xs)) h in ap (λ c. c && list_all test (without_last b (y ∷ xs))) k.0 ∙ all-without_last test b (y ∷ xs) k.1
 
 -- a full line has no newline but at its end

@@ -1,11 +1,11 @@
 -- The items of a complete script, two newlines and any text.
-use Rattle.std.proofs.Common.{◌≡◌, ℕ, ◌+◌, ◌-◌, ◌≤◌, Bool, true, false, not, cond, ◌&&◌, List, [], ◌∷◌, ◌++◌, ◌⊎◌, inl, inr, length, map, refl, sym, ◌∙◌, ap, subst, length-append, arith, rules}
-use Rattle.std.proofs.lemmas.Bool.{and_parts}
+use Rattle.std.proofs.Common.{◌≡◌, ℕ, ◌+◌, ◌-◌, ◌≤◌, Bool, true, false, not, cond, ◌&&◌, ◌||◌, List, [], ◌∷◌, ◌++◌, ◌⊎◌, inl, inr, length, map, refl, sym, ◌∙◌, ap, subst, length-append, arith, rules}
+use Rattle.std.proofs.lemmas.Bool.{and_parts, not-true}
 use Rattle.std.specs.Prelude.{◌==◌, Some, option_map, Ok}
-use Rattle.std.specs.List.{list_all}
+use Rattle.std.specs.List.{list_all, list_any}
 use Rattle.std.proofs.lemmas.List.{append_assoc, append-nil, map-append}
 use Rattle.std.proofs.lemmas.List.Folds.{list_all-append}
-use Rattle.ascii_text.specs.Lines.{newline, full_lines, before_first_line, line_of, lines_of, text_of, without_last}
+use Rattle.ascii_text.specs.Lines.{newline, full_lines, line_of, lines_of, text_of, without_last}
 use Rattle.dd_file.specs.Script.{FirstItem, NoItem, Ended, Open, result_of, lines_left, first_of, at_line}
 use Rattle.dd_file.specs.Position.{longest_input}
 use Rattle.dd_file.specs.Grammar.{Script, script_of, with_first}
@@ -15,6 +15,7 @@ use Rattle.dd_file.specs.declared.item.Item.TheVariants.{Comment, Blank, Directi
 use Rattle.dd_file.proofs.TextLines.CarriageReturns.{without_return}
 use Rattle.dd_file.proofs.TextLines.CutAgain.{ended, lines-lines, text_of-append}
 use Rattle.ascii_text.proofs.Offered.{without_last-push}
+use Rattle.dd_file.proofs.LineReading.NoNewline.{full_lines-one, first_len-none}
 use Rattle.dd_file.proofs.ScriptGrammar.MoreLines.{first_of-local, first_of-left, first_of-closes}
 use Rattle.dd_file.proofs.ScriptGrammar.AllItems.{no_items, items_of, items_of-ended, items_of-open, moved_item, items_of-moved, moved_script, script_of-lines}
 
@@ -40,25 +41,17 @@ cut_of [] = record { lines = []; last = []; is = refl; are_lines = refl; is_last
 cut_of (b ∷ text) = cut-byte (b == 10) b text refl (cut_of text)
 
 -- a last line without its newline
+no-newline : (line : List ℕ) → is_line line ≡ true → list_any (λ b. b == 10) line ≡ false
+no-newline [] h = refl
+no-newline (b ∷ line) h = let k = and_parts (not (b == 10)) (is_line line) h in ap (λ c. c || list_any (λ b. b == 10) line) (not-true (b == 10) k.0) ∙ no-newline line k.1
+
 full_lines-last : (b : ℕ) (line : List ℕ) → is_line (b ∷ line) ≡ true → full_lines (b ∷ line) ≡ (b ∷ line) ∷ []
-full_lines-last b [] h = at (b == 10) h where
-  at : (c : Bool) → (not c && true) ≡ true → cond c (newline ∷ []) ((b ∷ []) ∷ []) ≡ (b ∷ []) ∷ []
-  at true k = cc
-  at false k = refl
-full_lines-last b (x ∷ line) h = at (b == 10) h (full_lines-last x line) where
-  at : (c : Bool) → (not c && is_line (x ∷ line)) ≡ true → (is_line (x ∷ line) ≡ true → full_lines (x ∷ line) ≡ (x ∷ line) ∷ []) →
-      cond c (newline ∷ full_lines (x ∷ line)) (before_first_line b (full_lines (x ∷ line))) ≡ (b ∷ x ∷ line) ∷ []
-  at true k ih = cc
-  at false k ih = ap (before_first_line b) (ih k)
+full_lines-last b line h = full_lines-one (b ∷ line) (first_len-none (b ∷ line) (no-newline (b ∷ line) h)) (omega arith)
 
 line_of-last : (b : ℕ) (line : List ℕ) → is_line (b ∷ line) ≡ true → line_of (b ∷ line) ≡ line_of ((b ∷ line) ++ newline)
 line_of-last b line h = ap without_return (none b line h ∙ sym (without_last-push 10 10 (b ∷ line))) where
-  single : (b : ℕ) (c : Bool) → (not c && true) ≡ true → cond c [] (b ∷ []) ≡ b ∷ []
-  single b true k = cc
-  single b false k = refl
-
   none : (b : ℕ) (line : List ℕ) → is_line (b ∷ line) ≡ true → without_last 10 (b ∷ line) ≡ b ∷ line
-  none b [] k = single b (b == 10) k
+  none b [] k = ap (λ c. cond c [] (b ∷ [])) (not-true (b == 10) (and_parts (not (b == 10)) true k).0)
   none b (x ∷ line) k = ap (λ t. b ∷ t) (none x line (and_parts (not (b == 10)) (is_line (x ∷ line)) k).1)
 
 -- the lines of a script and two newlines are its lines, an empty one, and perhaps another

@@ -1,5 +1,5 @@
 -- What an item that lines begin with was read from.
-use Rattle.std.proofs.Common.{◌≡◌, ℕ, Bool, true, false, cond, ◌&&◌, List, [], ◌∷◌, ◌++◌, refl, sym, ◌∙◌, ap, subst}
+use Rattle.std.proofs.Common.{◌≡◌, ℕ, Bool, true, false, cond, ◌&&◌, List, [], ◌∷◌, ◌++◌, refl, sym, ◌∙◌, ap, subst, arith}
 use Rattle.std.proofs.lemmas.Bool.{and_parts}
 use Rattle.std.specs.Prelude.{Option, Some, None, Ok, Err}
 use Rattle.std.specs.List.{list_all, list_any}
@@ -56,8 +56,7 @@ module _ (item : Item) where
   after_pair-item found [] is = cc
   after_pair-item found (line ∷ lines) is = at (is_blank line) is where
     at : (c : Bool) → result_of (cond c (Ended (Ok found) lines) (Ended (Err AfterDouble) lines)) ≡ Some (Ok item) → found ≡ item
-    at true k = cc
-    at false k = cc
+    at c k = grind arith
 
   module _ (command : CommandText) (directive_lines : List (List ℕ)) where
     -- the directive with these parts is the item

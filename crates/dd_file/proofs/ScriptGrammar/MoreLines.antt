@@ -20,7 +20,7 @@ abbrev pub fewest : Result Item SyntaxFault → ℕ
 fewest (Err AfterDouble) = 2
 fewest result = 1
 
--- of these lines those are left, after an item of so many lines at least
+-- these lines are left after an item of `least` lines or more
 pub record IsLeft (least : ℕ) (lines left : List (List ℕ)) : Type 0 where
   pub own : List (List ℕ)
   pub is : lines ≡ own ++ left
@@ -143,8 +143,7 @@ first_of-none lines is = at (first_of lines) (first_of-grows [] lines) is where
 
 -- .. which has one of them at least
 pub fewest-some : (result : Result Item SyntaxFault) → 1 ≤ fewest result
-fewest-some (Err AfterDouble) = omega arith
-fewest-some result = omega arith
+fewest-some result = grind arith
 
 pub first_of-fewest : (lines : List (List ℕ)) (result : Result Item SyntaxFault) → result_of (first_of lines) ≡ Some result → fewest result ≤ length lines
 first_of-fewest lines result is = at (first_of lines) (first_of-grows [] lines) is where

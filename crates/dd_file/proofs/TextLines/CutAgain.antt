@@ -1,10 +1,11 @@
 -- Lines that are written and cut again, and the lines of an output.
-use Rattle.std.proofs.Common.{◌≡◌, ℕ, Bool, true, false, not, cond, ◌&&◌, ◌||◌, List, [], ◌∷◌, ◌++◌, inl, inr, length, map, refl, sym, ◌∙◌, ap, subst, rules}
+use Rattle.std.proofs.Common.{◌≡◌, ℕ, Bool, true, false, not, cond, ◌&&◌, ◌||◌, List, [], ◌∷◌, ◌++◌, inl, inr, ◌<◌, length, map, refl, sym, ◌∙◌, ap, arith, rules}
 use Rattle.std.proofs.lemmas.Bool.{and_parts}
+use Rattle.std.proofs.lemmas.Bool.Decides.{nat_tests}
 use Rattle.std.proofs.lemmas.List.Concat.{flat_map-append}
 use Rattle.std.specs.Prelude.{◌==◌, nat_eq}
 use Rattle.std.specs.List.{list_all, list_any, ends_with}
-use Rattle.std.proofs.lemmas.List.{append_assoc, append-nil, map-append}
+use Rattle.std.proofs.lemmas.List.{append_assoc, append-nil, length-append, map-append}
 use Rattle.ascii_text.specs.Lines.{newline, full_lines, before_first_line, line_of, lines_of, text_of, without_last}
 use Rattle.ascii_text.specs.WhiteSpace.{is_blank}
 use Rattle.dd_file.specs.Script.{is_dashes}
@@ -52,6 +53,11 @@ lines_of-text_of lines h = ap (map line_of) (full_lines-text_of lines h) ∙ eac
 pub text_of-append : (xs ys : List (List ℕ)) → text_of (xs ++ ys) ≡ text_of xs ++ text_of ys
 text_of-append xs ys = flat_map-append (λ line. line ++ newline) xs ys
 
+-- a text of lines has a newline at its end
+pub text_of-end : (line : List ℕ) (lines : List (List ℕ)) → (part : List ℕ) × (text_of (line ∷ lines) ≡ part ++ newline)
+text_of-end line [] = (line, append-nil (line ++ newline))
+text_of-end line (next ∷ lines) = let more = text_of-end next lines in ((line ++ newline) ++ more.0, ap (λ t. (line ++ newline) ++ t) more.1 ∙ sym (append_assoc (line ++ newline) more.0 newline))
+
 -- a text that ends in a newline is lines, each with its newline
 abbrev LinesOf : List ℕ → Type 0
 LinesOf text = (line : List ℕ) × (lines : List (List ℕ)) × (text ≡ text_of (line ∷ lines)) × (list_all is_line (line ∷ lines) ≡ true)
@@ -70,11 +76,14 @@ pub record IsOutputOf (lines : List (List ℕ)) (found : List ℕ) : Type 0 wher
   pub are_lines : list_all is_line lines ≡ true
   pub are_output : list_all is_output_line lines ≡ true
 
-output-full_lines : (lines : List (List ℕ)) → list_all is_line lines ≡ true → list_all (λ full_line. is_output_line (without_last 10 full_line)) (full_lines (text_of lines)) ≡ true → list_all is_output_line lines ≡ true
-output-full_lines lines h k = sym (ap (list_all (λ full_line. is_output_line (without_last 10 full_line))) (full_lines-text_of lines h) ∙ each lines) ∙ k where
+pub full_lines-output : (lines : List (List ℕ)) → list_all is_line lines ≡ true → list_all (λ full_line. is_output_line (without_last 10 full_line)) (full_lines (text_of lines)) ≡ list_all is_output_line lines
+full_lines-output lines h = ap (list_all (λ full_line. is_output_line (without_last 10 full_line))) (full_lines-text_of lines h) ∙ each lines where
   each : (ls : List (List ℕ)) → list_all (λ full_line. is_output_line (without_last 10 full_line)) (map (λ line. line ++ newline) ls) ≡ list_all is_output_line ls
   each [] = refl
   each (line ∷ ls) = ap (λ t. is_output_line t && list_all (λ full_line. is_output_line (without_last 10 full_line)) (map (λ l. l ++ newline) ls)) (without_last-newline line) ∙ ap (λ b. is_output_line line && b) (each ls)
+
+last-newline : (n b : ℕ) → 0 < n → ((n == 0) || (nat_eq 10 b && true)) ≡ true → b ≡ 10
+last-newline n b some h = grind (arith, nat_tests)
 
 pub output-lines : (found : List ℕ) → is_output found ≡ true → (lines : List (List ℕ)) × IsOutputOf lines found
 output-lines found h = elim (list-by_last found) [
@@ -83,28 +92,17 @@ output-lines found h = elim (list-by_last found) [
       let k = and_parts (length found == 0 || ends_with nat_eq found newline) _ h in
       let ended : ((length found == 0) || (nat_eq 10 p.1 && true)) ≡ true =
       ap (λ b. (length found == 0) || b) (sym (ap (λ t. ends_with nat_eq t newline) p.2 ∙ ends_with-append p.0 (p.1 ∷ []) newline refl)) ∙ k.0 in
-      let whole : found ≡ p.0 ++ newline = p.2 ∙ ap (λ b. p.0 ++ b ∷ []) (is_newline p.0 p.1 found p.2 ended) in
+      let whole : found ≡ p.0 ++ newline = p.2 ∙ ap (λ b. p.0 ++ b ∷ []) (last-newline (length found) p.1 (omega (arith, ap length p.2, length-append p.0 (p.1 ∷ []))) ended) in
       let ls = lines-text p.0 in
       let text : found ≡ text_of (ls.0 ∷ ls.1) = whole ∙ ls.2 in (
         ls.0 ∷ ls.1,
         record {
           text = text;
           are_lines = ls.3;
-          are_output = output-full_lines (ls.0 ∷ ls.1) ls.3 (subst (λ t. list_all (λ full_line. is_output_line (without_last 10 full_line)) (full_lines t) ≡ true) text k.1);
+          are_output = sym (ap (λ t. list_all (λ full_line. is_output_line (without_last 10 full_line)) (full_lines t)) text ∙ full_lines-output (ls.0 ∷ ls.1) ls.3) ∙ k.1;
         },
       )
-] where
-  some : (prefix : List ℕ) (b : ℕ) → (length (prefix ++ b ∷ []) == 0) ≡ false
-  some [] b = refl
-  some (x ∷ prefix) b = search rules
-
-  newline_is : (b : ℕ) (q : Bool) → nat_eq 10 b ≡ q → (q && true) ≡ true → b ≡ 10
-  newline_is b true e k = search rules
-  newline_is b false e k = cc
-
-  is_newline : (prefix : List ℕ) (b : ℕ) (text : List ℕ) → text ≡ prefix ++ b ∷ [] → ((length text == 0) || (nat_eq 10 b && true)) ≡ true → b ≡ 10
-  is_newline prefix b text e k =
-      newline_is b (nat_eq 10 b) refl (ap (λ z. z || (nat_eq 10 b && true)) (sym (ap (λ t. length t == 0) e ∙ some prefix b)) ∙ k)
+]
 
 -- no carriage return ends a line of an output
 output_line-return : (line : List ℕ) → is_output_line line ≡ true → without_return line ≡ line
@@ -115,13 +113,9 @@ output_line-return line h = elim (list-by_last line) [
       let k : not (is_dashes line || (nat_eq 13 p.1 && true)) ≡ true = ap (λ b. not (is_dashes line || b)) (sym last) ∙ h in
       ap without_return p.2 ∙ without_last-push 13 p.1 p.0 ∙ ap (λ c. cond c p.0 (p.0 ++ p.1 ∷ [])) (other p.1 (is_dashes line) k) ∙ sym p.2
 ] where
-  not_return : (b : ℕ) (q : Bool) → nat_eq 13 b ≡ q → not (q && true) ≡ true → (b == 13) ≡ false
-  not_return b true e k = cc
-  not_return b false e k = search rules
-
   other : (b : ℕ) (d : Bool) → not (d || (nat_eq 13 b && true)) ≡ true → (b == 13) ≡ false
   other b true k = cc
-  other b false k = not_return b (nat_eq 13 b) refl k
+  other b false k = grind (arith, nat_tests)
 
 pub output-returns : (lines : List (List ℕ)) → list_all is_output_line lines ≡ true → without_returns lines ≡ lines
 output-returns [] h = refl

@@ -29,21 +29,15 @@ without_leading_space-same s t (Return s' t' same) = without_leading_space-same 
 
 without_trailing_space-same : (s t : List ℕ) → SameText s t → SameText (without_trailing_space s) (without_trailing_space t)
 without_trailing_space-same s t Empty = Empty
-without_trailing_space-same s t (Byte b s' t' same) = at (is_space b) (is_blank s') (is_blank t') (is_blank-same s' t' same) (without_trailing_space-same s' t' same) where
-  at : (c d e : Bool) → d ≡ e → SameText (without_trailing_space s') (without_trailing_space t') →
-      SameText (cond (c && d) [] (b ∷ without_trailing_space s')) (cond (c && e) [] (b ∷ without_trailing_space t'))
-  at true true true h ih = Empty
-  at true false false h ih = Byte b _ _ ih
-  at true true false h ih = cc
-  at true false true h ih = cc
-  at false d e h ih = Byte b _ _ ih
-without_trailing_space-same s t (Return s' t' same) = at (is_blank s') (is_blank t') (is_blank-same s' t' same) (without_trailing_space-same s' t' same) where
-  at : (d e : Bool) → d ≡ e → SameText (without_trailing_space s') (without_trailing_space t') →
-      SameText (cond d [] (10 ∷ without_trailing_space s')) (cond e [] (13 ∷ cond e [] (10 ∷ without_trailing_space t')))
-  at true true h ih = Empty
-  at false false h ih = Return _ _ ih
-  at true false h ih = cc
-  at false true h ih = cc
+without_trailing_space-same s t (Byte b s' t' same) = rw (is_blank-same s' t' same) (at (is_space b) (is_blank t') (without_trailing_space-same s' t' same)) where
+  at : (c d : Bool) → SameText (without_trailing_space s') (without_trailing_space t') → SameText (cond (c && d) [] (b ∷ without_trailing_space s')) (cond (c && d) [] (b ∷ without_trailing_space t'))
+  at true true ih = Empty
+  at true false ih = Byte b _ _ ih
+  at false d ih = Byte b _ _ ih
+without_trailing_space-same s t (Return s' t' same) = rw (is_blank-same s' t' same) (at (is_blank t') (without_trailing_space-same s' t' same)) where
+  at : (d : Bool) → SameText (without_trailing_space s') (without_trailing_space t') → SameText (cond d [] (10 ∷ without_trailing_space s')) (cond d [] (13 ∷ cond d [] (10 ∷ without_trailing_space t')))
+  at true ih = Empty
+  at false ih = Return _ _ ih
 
 trimmed-same : (s t : List ℕ) → SameText s t → SameText (trimmed s) (trimmed t)
 trimmed-same s t same = without_leading_space-same _ _ (without_trailing_space-same s t same)

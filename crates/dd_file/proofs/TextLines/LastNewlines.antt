@@ -17,15 +17,12 @@ ends_with-append xs ys needle e =
 
 -- the count where the last byte is a newline or not, and the one before it
 abbrev counted : Bool → Bool → ℕ
-counted false before = 0
-counted true false = 1
-counted true true = 2
+counted last before = if before && (last && true) then 2 else (if last && true then 1 else 0)
 
 newlines_at_end-one : (b : ℕ) → newlines_at_end (b ∷ []) ≡ counted (nat_eq 10 b) false
 newlines_at_end-one b = at (nat_eq 10 b) where
   at : (q : Bool) → (if q && false then 2 else (if q && true then 1 else 0)) ≡ counted q false
-  at true = refl
-  at false = refl
+  at q = grind arith
 
 -- the last two bytes tell whether a text ends in two newlines
 ends_with-two : (xs : List ℕ) (a b : ℕ) → ends_with nat_eq ((xs ++ a ∷ []) ++ b ∷ []) (newline ++ newline) ≡ (nat_eq 10 a && (nat_eq 10 b && true))
@@ -37,21 +34,14 @@ newlines_at_end-two xs a b =
     let two = ends_with-two xs a b in
     let one : ends_with nat_eq ((xs ++ a ∷ []) ++ b ∷ []) newline ≡ (nat_eq 10 b && true) = ends_with-append (xs ++ a ∷ []) (b ∷ []) newline refl in
     ap (λ p. if p then 2 else (if ends_with nat_eq ((xs ++ a ∷ []) ++ b ∷ []) newline then 1 else 0)) two
-    ∙ ap (λ q. if nat_eq 10 a && (nat_eq 10 b && true) then 2 else (if q then 1 else 0)) one ∙ at (nat_eq 10 a) (nat_eq 10 b) where
-      at : (p q : Bool) → (if p && (q && true) then 2 else (if q && true then 1 else 0)) ≡ counted q p
-      at true true = refl
-      at true false = refl
-      at false true = refl
-      at false false = refl
+    ∙ ap (λ q. if nat_eq 10 a && (nat_eq 10 b && true) then 2 else (if q then 1 else 0)) one
 
 -- .. and no byte before them
 pub newlines_at_end-last : (xs : List ℕ) (a b : ℕ) → newlines_at_end ((xs ++ a ∷ []) ++ b ∷ []) ≡ newlines_at_end (a ∷ b ∷ [])
 newlines_at_end-last xs a b = newlines_at_end-two xs a b ∙ sym (newlines_at_end-two [] a b)
 
 counted-zero : (q p : Bool) → (counted q p == 0) ≡ not q
-counted-zero false p = refl
-counted-zero true false = refl
-counted-zero true true = refl
+counted-zero q p = grind arith
 
 -- the last byte decides whether a newline ends the text
 newlines_at_end-zero : (text : List ℕ) (b : ℕ) → (newlines_at_end (text ++ b ∷ []) == 0) ≡ not (nat_eq 10 b)
@@ -68,8 +58,7 @@ newlines_at_end-push text b = elim (list-by_last text) [
       ∙ ap (λ z. counted (nat_eq 10 b) (not z)) (sym (newlines_at_end-zero p.0 p.1)) ∙ ap (λ t. counted (nat_eq 10 b) (not (newlines_at_end t == 0))) (sym p.2)
 ] where
   not_not : (q : Bool) → not (not q) ≡ q
-  not_not true = refl
-  not_not false = refl
+  not_not q = grind arith
 
 pub newlines_at_end-second : (b n : ℕ) (text : List ℕ) → b ≡ 10 → (n ≡ 0 → ⊥) → n ≡ newlines_at_end text → 2 ≡ newlines_at_end (text ++ b ∷ [])
 newlines_at_end-second b n text newline some e =
@@ -147,5 +136,4 @@ double_end-pushed xs a =
     let text = (xs ++ a ∷ []) ++ newline in
     ap (λ p. if p then without_last 10 text else text) (ends_with-two xs a 10) ∙ ap (λ t. if nat_eq 10 a && true then t else text) (without_last-push 10 10 (xs ++ a ∷ [])) ∙ at (nat_eq 10 a) (xs ++ a ∷ []) text where
       at : (p : Bool) (prefix whole : List ℕ) → (if p && true then prefix else whole) ≡ cond p prefix whole
-      at true prefix whole = refl
-      at false prefix whole = refl
+      at p prefix whole = grind arith

@@ -16,17 +16,13 @@ has_some [] = false
 has_some (full_line ∷ ps) = true
 
 some-step : (c : Bool) (b : ℕ) (ps : List (List ℕ)) → has_some (cond c (newline ∷ ps) (before_first_line b ps)) ≡ true
-some-step true b ps = refl
-some-step false b [] = refl
-some-step false b (full_line ∷ ps) = refl
+some-step c b ps = grind arith
 
 before-append : (b : ℕ) (ps qs : List (List ℕ)) → has_some ps ≡ true → before_first_line b (ps ++ qs) ≡ before_first_line b ps ++ qs
-before-append b [] qs h = cc
-before-append b (full_line ∷ ps) qs h = refl
+before-append b ps qs h = grind arith
 
 append-last : (c : Bool) (b : ℕ) (ys : List ℕ) → c ≡ true → cond c (newline ∷ full_lines ys) (before_first_line b (full_lines ys)) ≡ cond c (newline ∷ []) (before_first_line b []) ++ full_lines ys
-append-last true b ys h = refl
-append-last false b ys h = cc
+append-last c b ys h = grind arith
 
 append-more : (c : Bool) (b : ℕ) (ps qs rs : List (List ℕ)) → has_some ps ≡ true → rs ≡ ps ++ qs →
     cond c (newline ∷ rs) (before_first_line b rs) ≡ cond c (newline ∷ ps) (before_first_line b ps) ++ qs
@@ -41,8 +37,7 @@ full_lines-append (b ∷ c ∷ xs) ys h = append-more (b == 10) b (full_lines (c
 
 -- each full line of a whole text is whole
 whole-more : (b : ℕ) (full_line : List ℕ) → ends_in_newline full_line ≡ true → ends_in_newline (b ∷ full_line) ≡ true
-whole-more b [] h = cc
-whole-more b (c ∷ full_line) h = h
+whole-more b full_line h = grind arith
 
 whole-first : (b : ℕ) (ps : List (List ℕ)) → has_some ps ≡ true → list_all ends_in_newline ps ≡ true → list_all ends_in_newline (before_first_line b ps) ≡ true
 whole-first b [] s h = cc
@@ -53,8 +48,7 @@ whole-step true b ps s h = h
 whole-step false b ps s h = whole-first b ps s h
 
 whole-last : (c : Bool) (b : ℕ) → c ≡ true → list_all ends_in_newline (cond c (newline ∷ []) (before_first_line b [])) ≡ true
-whole-last true b h = refl
-whole-last false b h = cc
+whole-last c b h = grind arith
 
 pub full_lines-whole : (xs : List ℕ) → is_whole_text xs ≡ true → list_all ends_in_newline (full_lines xs) ≡ true
 full_lines-whole [] h = refl

@@ -1,4 +1,4 @@
-use Rattle.std.proofs.Common.{◌≡◌, ℕ, ◌+◌, ◌<◌, ◌≤◌, List, [], ◌∷◌, ◌++◌, length, drop, refl, vec_items, sym, ap, ◌∙◌, arith}
+use Rattle.std.proofs.Common.{◌≡◌, ℕ, ◌+◌, ◌<◌, ◌≤◌, List, [], ◌∷◌, ◌++◌, length, drop, vec_items, sym, ap, ◌∙◌, arith}
 use Rattle.std.specs.Prelude.{Some, slice_get}
 use Rattle.std.proofs.lemmas.List.{append_assoc, append-nil, drop_more, drop_all, length-drop}
 use Rattle.std.proofs.lemmas.Option.{slice_get_within, get_or_from_slice_get}
@@ -13,8 +13,7 @@ at-line : (lines : List (List ℕ)) (i : ℕ) (line : List ℕ) → slice_get li
 at-line lines i line is = drop_more lines i [] (slice_get_within lines i line is) ∙ ap (λ l. l ∷ drop (i + 1) lines) (get_or_from_slice_get lines i line [] is)
 
 joined-more : (line : List ℕ) (rest : List (List ℕ)) → 0 < length rest → joined (line ∷ rest) ≡ (without_last 92 (trimmed line) ++ 32 ∷ []) ++ joined rest
-joined-more line [] some = absurd (omega arith)
-joined-more line (next ∷ rest) some = refl
+joined-more line rest some = grind arith
 
 -- a line that another follows
 prefix-line : (lines : List (List ℕ)) (i : ℕ) (line before text : List ℕ) → before ++ joined (drop i lines) ≡ joined lines → slice_get lines i ≡ Some line → i + 1 < length lines →

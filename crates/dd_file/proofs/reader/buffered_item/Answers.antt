@@ -1,13 +1,11 @@
 use Rattle.std.proofs.Common.{◌≡◌, ◌-◌, length, refl, sym, ap, subst, ◌∙◌, arith}
 use Rattle.std.proofs.lemmas.List.{take_all}
 use Rattle.dd_file.specs.Position.{longest_input}
-use Rattle.dd_file.specs.Grammar.{next_item}
-use Rattle.dd_file.specs.Answer.{IsItemFault}
-use Rattle.dd_file.specs.Draft.{result_in}
 use Rattle.dd_file.specs.DraftOf.{DraftOf}
 use Rattle.dd_file.proofs.LineReading.BufferFilled.{filled-none, no-memory}
 use Rattle.dd_file.proofs.ItemReading.LinesOfDraft.{draft-bound}
-use Rattle.dd_file.proofs.ItemReading.ItemBuffered.{done-reads, open-buffered, item-kind, result-at}
+use Rattle.dd_file.proofs.ItemReading.ItemBuffered.{item-reads, open-buffered}
+use Rattle.dd_file.proofs.ItemReading.BytesTaken.{next_item-grammar}
 use Rattle.dd_file.proofs.reader.buffered_item.Goals as goal
 
 pub pass-requires-clause-some : goal.pass-requires-clause-some
@@ -23,9 +21,8 @@ returns-in-Ok-true-clause-read g c =
     let lines : DraftOf draft scan input.buffered = subst (DraftOf draft scan) buffered c.in-Ok-true.ensures.lines in
     let bound = draft-bound draft scan input.buffered lines in
     let ahead = c.requires.bounded c.requires.can_read.faultless in
-    done-reads g.R.Source.remaining g.R.Source.has_failed input input c.args.reader.now c.args.reader.now draft (filled-none g.R.Source.remaining g.R.Source.has_failed input c.args.reader.now)
-    c.requires.can_read.faultless c.requires.can_read.unended scan c.pass.new.self c.finish.result lines (sym c.in-Ok-true.ensures.done ∙ c.in-Ok-true.field-0-test) (omega (arith, bound.1, limit)) (omega (arith, ahead))
-    c.pass.ensures.passed c.pass.ensures.counted (c.finish.ensures ∙ result-at _ _ _ _ (result_in draft.state draft.parts) c.count-first.ensures.count c.count.ensures.count)
+    item-reads input input c.pass.new.self c.args.reader.now _ draft scan c.finish.result c.count-first.result c.count.result (filled-none input c.args.reader.now) c.requires.can_read.faultless c.requires.can_read.unended lines
+    (sym c.in-Ok-true.ensures.done ∙ c.in-Ok-true.field-0-test) (omega (arith, bound.1, limit)) (omega (arith, ahead)) c.pass.ensures.passed c.pass.ensures.counted c.finish.ensures c.count-first.ensures.count c.count.ensures.count
 
 pub returns-in-Ok-false-clause-unread : goal.returns-in-Ok-false-clause-unread
 returns-in-Ok-false-clause-unread g c _ =
@@ -38,5 +35,4 @@ returns-in-Ok-false-clause-unread g c _ =
 
 pub returns-in-Err-clause-read : goal.returns-in-Err-clause-read
 returns-in-Err-clause-read g c =
-    no-memory g.R.Source.remaining g.R.Source.has_failed (next_item longest_input) IsItemFault c.args.input.now c.args.input.now c.args.reader.now c.args.reader.now c.requires.can_read.faultless c.requires.can_read.unended
-    c.args.input.now (filled-none g.R.Source.remaining g.R.Source.has_failed c.args.input.now c.args.reader.now) c.requires.can_read.unended (item-kind c.args.input.now.position)
+    no-memory next_item-grammar c.args.input.now c.requires.can_read.faultless c.requires.can_read.unended c.args.input.now c.args.reader.now _ c.args.input.now (filled-none c.args.input.now c.args.reader.now) refl

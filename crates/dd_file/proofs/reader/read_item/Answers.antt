@@ -1,15 +1,13 @@
-use Rattle.std.proofs.Common.{◌≡◌, ◌+◌, ◌-◌, ◌≤◌, true, length, take, subst, sym, ap, ◌∙◌, arith}
+use Rattle.std.proofs.Common.{◌≡◌, ◌+◌, ◌-◌, true, length, take, subst, sym, ap, ◌∙◌, arith}
 use Rattle.std.proofs.lemmas.List.{length-append, length-take, take_all}
-use Rattle.dd_file.specs.Position.{Position, longest_input}
-use Rattle.dd_file.specs.Grammar.{next_item}
-use Rattle.dd_file.specs.Answer.{IsItemFault}
+use Rattle.dd_file.specs.Position.{longest_input}
 use Rattle.dd_file.specs.Buffered.{ended, within_limit}
-use Rattle.dd_file.specs.Draft.{result_in}
 use Rattle.dd_file.specs.DraftOf.{DraftOf, DraftOfAll}
 use Rattle.dd_file.specs.ReaderState.{ReaderState}
-use Rattle.dd_file.proofs.LineReading.BufferFilled.{filled-more, filled-last, interrupted, no-memory}
+use Rattle.dd_file.proofs.LineReading.BufferFilled.{filled-more, filled-last, answer-too_long, interrupted, no-memory}
 use Rattle.dd_file.proofs.ItemReading.LinesOfDraft.{draft-bound, draft-cut, draft-more, draft-uncut}
-use Rattle.dd_file.proofs.ItemReading.ItemBuffered.{done-reads, last-reads, long-reads, item-kind, result-at}
+use Rattle.dd_file.proofs.ItemReading.ItemBuffered.{item-reads, last-reads, item-too_long}
+use Rattle.dd_file.proofs.ItemReading.BytesTaken.{next_item-grammar}
 use Rattle.dd_file.proofs.reader.read_item.Goals as goal
 
 pub add_lines-requires-clause-so_far : goal.add_lines-requires-clause-so_far
@@ -33,21 +31,23 @@ returns-in-Ok-true g c =
     let fits = loop.fits in
     let ahead = loop.ahead in
     let some = c.in-Ok-true.ensures.some c.in-Ok-true.field-0-test in
-    done-reads g.R.Source.remaining g.R.Source.has_failed c.args.input.now now c.args.reader.now c.read.reader draft loop.filled c.requires.faultless c.requires.unended scan c.pass.new.self c.finish.result
+    item-reads c.args.input.now now c.pass.new.self c.args.reader.now c.read.reader draft scan c.finish.result c.count-first.result c.count.result loop.filled c.requires.faultless c.requires.unended
     (draft-uncut draft scan n now.buffered lines) (sym c.in-Ok-true.ensures.done ∙ c.in-Ok-true.field-0-test) (omega (arith, bound.1, size, fits)) (omega (arith, ahead, some)) c.pass.ensures.passed c.pass.ensures.counted
-    (c.finish.ensures ∙ result-at _ _ _ _ (result_in draft.state draft.parts) c.count-first.ensures.count c.count.ensures.count)
+    c.finish.ensures c.count-first.ensures.count c.count.ensures.count
 
 pub returns-then-is_beyond_limit : goal.returns-then-is_beyond_limit
 returns-then-is_beyond_limit g c =
     let loop = c.read.invariant in
+    let old = c.args.input.now in
     let now = c.read.input in
-    let n = longest_input - now.position.bytes in
     let scan = c.add_lines.new.scan in
     let draft = c.add_lines.new.draft in
-    let fits = loop.fits in
-    rw c.count-first.ensures.count (long-reads g.R.Source.remaining g.R.Source.has_failed c.args.input.now now c.args.reader.now c.read.reader draft loop.filled c.requires.faultless c.requires.unended scan
-    (subst (DraftOf draft scan) c.within_limit.ensures c.in-Ok-false.ensures.lines) (sym c.in-Ok-false.ensures.done ∙ c.in-Ok-false.field-0-test)
-    (c.in-Ok-false.ensures.none c.in-Ok-false.field-0-test ∙ ap length c.within_limit.ensures) (c.is_beyond_limit.ensures.beyond c.if-is_beyond_limit.true) (omega (arith, fits)))
+    let passes = c.is_beyond_limit.ensures.beyond c.if-is_beyond_limit.true in
+    let same = ap (λ (s : ReaderState). s.position.bytes) loop.filled.same in
+    let within : c.within_limit.result.now ≡ take (longest_input - old.position.bytes) now.buffered = c.within_limit.ensures ∙ ap (λ m. take (longest_input - m) now.buffered) same in
+    rw c.count-first.ensures.count (answer-too_long next_item-grammar old c.requires.faultless c.requires.unended now c.args.reader.now c.read.reader (old.position.lines + 1) loop.filled
+    (λ more. item-too_long longest_input old.position now.buffered more draft scan (subst (DraftOf draft scan) within c.in-Ok-false.ensures.lines) (sym c.in-Ok-false.ensures.done ∙ c.in-Ok-false.field-0-test)
+    (c.in-Ok-false.ensures.none c.in-Ok-false.field-0-test ∙ ap length within) (omega (arith, passes, same))))
 
 pub read-preserved : goal.read-preserved
 read-preserved g c =
@@ -64,37 +64,34 @@ read-preserved g c =
     let filled = rw c.in-Ok-true-fill.field-0-test at c.in-Ok-true-fill.ensures.filled in
     let total : length c.fill.new.self.buffered ≡ length now.buffered + length filled.bytes_read = ap length filled.buffered ∙ length-append now.buffered filled.bytes_read in
     let ahead = filled.ahead in
-    let position : c.fill.new.self.position ≡ now.position = ap (λ (s : ReaderState). s.position) c.in-Ok-true-fill.ensures.same in
+    let position = ap (λ (s : ReaderState). s.position.bytes) c.in-Ok-true-fill.ensures.same in
     record {
-      filled = filled-more g.R.Source.remaining g.R.Source.has_failed c.args.input.now now c.fill.new.self c.args.reader.now c.read.reader c.fill.new.reader true loop.filled c.in-Ok-true-fill.ensures.same filled c.in-Ok-true-fill.ensures.failed;
+      filled = filled-more _ now _ _ c.read.reader _ true loop.filled c.in-Ok-true-fill.ensures.same filled c.in-Ok-true-fill.ensures.failed;
       so_far = subst (DraftOf draft scan) (sym filled.buffered) (draft-more draft scan now.buffered (draft-uncut draft scan n now.buffered lines) filled.bytes_read);
       open_end = sym c.in-Ok-false.ensures.done ∙ c.in-Ok-false.field-0-test;
-      fits = subst (λ (p : Position). p.bytes + (scan.bytes + scan.searched) ≤ longest_input) (sym position) (omega (arith, searched, size, fits));
+      fits = omega (arith, searched, size, fits, position);
       ahead = omega (arith, total, ahead, searched, size, within);
     }
 
 pub returns-in-Err-fill : goal.returns-in-Err-fill
 returns-in-Err-fill g c =
-    interrupted g.R.Source.remaining g.R.Source.has_failed (next_item longest_input) IsItemFault c.args.input.now c.fill.new.self c.args.reader.now c.fill.new.reader c.requires.faultless c.requires.unended c.read.input c.read.reader c.in-Err-fill.fault c.read.invariant.filled
-    c.in-Err-fill.ensures.lost (ap (λ (s : ReaderState). s.is_ended) (c.in-Err-fill.ensures.same ∙ ap (λ (s : ReaderState). record s { buffered = c.fill.new.self.buffered }) c.read.invariant.filled.is) ∙ c.requires.unended) c.in-Err-fill.ensures.failed
-    c.in-Err-fill.ensures.interrupted (item-kind c.args.input.now.position)
+    interrupted next_item-grammar c.args.input.now c.requires.faultless c.requires.unended c.read.input c.args.reader.now c.read.reader c.fill.new.reader c.fill.new.self c.in-Err-fill.fault c.read.invariant.filled
+    c.in-Err-fill.ensures.lost c.in-Err-fill.ensures.same c.in-Err-fill.ensures.failed c.in-Err-fill.ensures.interrupted
 
 pub returns-in-Ok : goal.returns-in-Ok
 returns-in-Ok g c =
     let now = c.read.input in
-    let draft = c.add_last_line.new.draft in
     let within = c.is_beyond_limit.ensures.within c.if-is_beyond_limit.false in
     let whole : within_limit now ≡ now.buffered = take_all (longest_input - now.position.bytes) now.buffered (omega (arith, within)) in
-    let last = filled-last g.R.Source.remaining g.R.Source.has_failed c.args.input.now now c.fill.new.self c.args.reader.now c.read.reader c.fill.new.reader c.read.invariant.filled c.in-Ok-false-fill.ensures.same
-    (rw c.in-Ok-false-fill.field-0-test at c.in-Ok-false-fill.ensures.filled) c.in-Ok-false-fill.ensures.failed in
-    last-reads g.R.Source.remaining g.R.Source.has_failed c.args.input.now now c.args.reader.now c.fill.new.reader draft last.1 c.requires.faultless c.requires.unended c.in-Ok.count c.end.new.self c.finish-in-Ok.result
-    (subst (DraftOfAll draft c.in-Ok.count) (c.within_limit-2.ensures ∙ ap within_limit last.0 ∙ whole) c.in-Ok.ensures.all) last.2 within
-    (c.end.ensures.ended ∙ ap (λ (s : ReaderState). ended s c.in-Ok.count) last.0) c.end.ensures.counted
-    (c.finish-in-Ok.ensures ∙ result-at _ _ _ _ (result_in draft.state draft.parts) c.count-first.ensures.count c.count-in-Ok.ensures.count)
+    let last = filled-last _ now c.fill.new.self _ c.read.reader _ c.read.invariant.filled c.in-Ok-false-fill.ensures.same (rw c.in-Ok-false-fill.field-0-test at c.in-Ok-false-fill.ensures.filled) c.in-Ok-false-fill.ensures.failed in
+    let all : c.within_limit-2.result.now ≡ now.buffered = c.within_limit-2.ensures ∙ ap within_limit last.0 ∙ whole in
+    let few = c.in-Ok.ensures.few in
+    let size = ap length all in
+    last-reads c.args.input.now now c.end.new.self c.args.reader.now c.fill.new.reader c.add_last_line.new.draft c.in-Ok.count c.finish-in-Ok.result c.count-first.result c.count-in-Ok.result last.1 c.requires.faultless c.requires.unended
+    (subst (DraftOfAll c.add_last_line.new.draft c.in-Ok.count) all c.in-Ok.ensures.all) (omega (arith, few, size)) last.2 within (c.end.ensures.ended ∙ ap (λ (s : ReaderState). ended s c.in-Ok.count) last.0) c.end.ensures.counted
+    c.finish-in-Ok.ensures c.count-first.ensures.count c.count-in-Ok.ensures.count
 
 pub returns-in-Err-add_last_line : goal.returns-in-Err-add_last_line
 returns-in-Err-add_last_line g c =
-    let last = filled-last g.R.Source.remaining g.R.Source.has_failed c.args.input.now c.read.input c.fill.new.self c.args.reader.now c.read.reader c.fill.new.reader c.read.invariant.filled c.in-Ok-false-fill.ensures.same
-    (rw c.in-Ok-false-fill.field-0-test at c.in-Ok-false-fill.ensures.filled) c.in-Ok-false-fill.ensures.failed in
-    no-memory g.R.Source.remaining g.R.Source.has_failed (next_item longest_input) IsItemFault c.args.input.now c.fill.new.self c.args.reader.now c.fill.new.reader c.requires.faultless c.requires.unended c.read.input
-    last.1 (ap (λ (s : ReaderState). s.is_ended) (last.0 ∙ c.read.invariant.filled.is) ∙ c.requires.unended) (item-kind c.args.input.now.position)
+    let last = filled-last _ c.read.input c.fill.new.self _ c.read.reader _ c.read.invariant.filled c.in-Ok-false-fill.ensures.same (rw c.in-Ok-false-fill.field-0-test at c.in-Ok-false-fill.ensures.filled) c.in-Ok-false-fill.ensures.failed in
+    no-memory next_item-grammar c.args.input.now c.requires.faultless c.requires.unended c.read.input c.args.reader.now c.fill.new.reader c.fill.new.self last.1 c.in-Ok-false-fill.ensures.same

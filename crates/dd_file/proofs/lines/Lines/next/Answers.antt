@@ -1,18 +1,12 @@
-use Rattle.std.proofs.Common.{◌≡◌, true, sym, subst, ◌∙◌, rules}
-use Rattle.std.specs.Prelude.{None, Ok}
-use Rattle.dd_file.specs.Position.{longest_input}
-use Rattle.dd_file.specs.Grammar.{next_line}
-use Rattle.dd_file.specs.ReaderState.{ReaderState}
-use Rattle.dd_file.specs.Answer.{ReadsOn, IsLineFault}
+use Rattle.std.proofs.Common.{◌≡◌, true, sym, ◌∙◌, rules}
+use Rattle.std.specs.Prelude.{None}
 use Rattle.dd_file.proofs.LineReading.BufferFilled.{over-stays}
-use Rattle.dd_file.proofs.LineReading.FirstFullLine.{next_line-over}
+use Rattle.dd_file.proofs.ItemReading.BytesTaken.{next_line-grammar}
 use Rattle.dd_file.proofs.lines.Lines.next.Goals as goal
 
 pub returns-then-is_over : goal.returns-then-is_over
 returns-then-is_over g c =
-    let input = c.self.inside.input in
     let over = c.is_over.ensures in
-    let ended : input.is_ended ≡ true = sym over.ended ∙ c.if-is_over.true in
-    let faultless : input.fault ≡ None = search rules in
-    subst (λ (s : ReaderState). ReadsOn g.R.Source.remaining g.R.Source.has_failed (next_line longest_input) IsLineFault s s c.args.reader.now c.args.reader.now (Ok None)) c.self.view_is
-    (over-stays g.R.Source.remaining g.R.Source.has_failed (next_line longest_input) IsLineFault input c.args.reader.now faultless ended (over.empty ended) over.counted (next_line-over longest_input input.position over.limit))
+    let ended : c.self.inside.input.is_ended ≡ true = sym over.ended ∙ c.if-is_over.true in
+    let faultless : c.self.inside.input.fault ≡ None = search rules in
+    rw (← c.self.view_is) (over-stays next_line-grammar c.self.inside.input faultless c.args.reader.now ended (over.empty ended) over.counted over.limit)
