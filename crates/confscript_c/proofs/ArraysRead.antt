@@ -44,8 +44,7 @@ part numbers mine after from to is ends =
     }
 
 flag_is : (b : Bool) → (flag_number b == 1) ≡ b
-flag_is true = refl
-flag_is false = refl
+flag_is b = grind arith
 
 pub lists_in-array_of : (saved : ConfStateLists) (fresh : List ℕ) → lists_in (array_of saved fresh) ≡ saved
 lists_in-array_of saved fresh =
@@ -65,8 +64,7 @@ lists_in-array_of saved fresh =
     }
 
 small_flag : (b : Bool) → nat_le (flag_number b) 1 ≡ true
-small_flag true = refl
-small_flag false = refl
+small_flag b = grind arith
 
 pub has_form-array_of : (saved : ConfStateLists) (fresh : List ℕ) → has_form (array_of saved fresh) ≡ true
 has_form-array_of saved fresh =

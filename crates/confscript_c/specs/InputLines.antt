@@ -1,5 +1,5 @@
 -- What the ConfState line of a call denotes. If it is wrong, the answer has its number, counted from 1.
-use Rattle.std.specs.Prelude.{ℕ, List, Option, Some, None, Result, Ok, Err}
+use Rattle.std.specs.Prelude.{ℕ, Option, Some, None, Result, Ok, Err}
 use Rattle.conf_change.specs.ConfState.{ConfStateLists}
 use Rattle.confscript_c.specs.Answer.{status_answer}
 use Rattle.confscript_c.specs.declared.answer.Answer.{Answer}

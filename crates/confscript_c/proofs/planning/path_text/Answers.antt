@@ -1,5 +1,5 @@
-use Rattle.std.proofs.Common.{◌≡◌, ◌∙◌, ◌++◌, List, ℕ, refl, sym, ap}
-use Rattle.std.specs.Prelude.{Option, Some, None, option_map}
+use Rattle.std.proofs.Common.{◌≡◌, ◌∙◌, ◌++◌, List, ℕ, sym, ap, arith}
+use Rattle.std.specs.Prelude.{Option, option_map}
 use Rattle.quorum_sets.specs.Ids.{Ids}
 use Rattle.plan_output.specs.Json.{json_text}
 use Rattle.plan_output.specs.Steps.{steps_text}
@@ -11,8 +11,7 @@ use Rattle.confscript_c.proofs.planning.path_text.Goals.{in-Steps+in_ok-add_note
 
 -- a set is its ids
 same-ids : (down : Option Ids) → option_map (λ set. set) down ≡ down
-same-ids None = refl
-same-ids (Some set) = refl
+same-ids down = grind arith
 
 pub returns-clause-text : goal.returns-clause-text
 returns-clause-text c =
@@ -23,21 +22,9 @@ returns-clause-text c =
     let text : Output → List ℕ = λ output. text_as output request.down now steps in
     elim c.match-request.branch [
       | in-Steps+in_ok-add_noted_steps-in-Steps w ↦
-          rw w.text-is (
-          w.in_ok-add_noted_steps-in-Steps.ensures.ok
-          ∙ ap (λ xs. xs ++ steps_text (option_map (λ set. set) (option_map (λ x. x.now) c.as_ref-down.result)) now steps) c.new-text.ensures.items
-          ∙ ap (λ d. steps_text d now steps) down ∙ sym (ap text w.in-Steps.is)
-          )
+          rw w.text-is (w.in_ok-add_noted_steps-in-Steps.ensures.ok ∙ (λ i. c.new-text.ensures.items i ++ steps_text (down i) now steps) ∙ sym (ap text w.in-Steps.is))
       | in-Table+in_ok-add_table-in-Table w ↦
-          rw w.text-is (
-          w.in_ok-add_table-in-Table.ensures.ok
-          ∙ ap (λ xs. xs ++ table_text now steps (option_map (λ set. set) (option_map (λ x. x.now) c.as_ref-down.result))) c.new-text.ensures.items
-          ∙ ap (table_text now steps) down ∙ sym (ap text w.in-Table.is)
-          )
+          rw w.text-is (w.in_ok-add_table-in-Table.ensures.ok ∙ (λ i. c.new-text.ensures.items i ++ table_text now steps (down i)) ∙ sym (ap text w.in-Table.is))
       | in-Json+in_ok-add_json_lines-in-Json w ↦
-          rw w.text-is (
-          w.in_ok-add_json_lines-in-Json.ensures.ok
-          ∙ ap (λ xs. xs ++ json_text 1 now steps (option_map (λ set. set) (option_map (λ x. x.now) c.as_ref-down.result))) c.new-text.ensures.items
-          ∙ ap (json_text 1 now steps) down ∙ sym (ap text w.in-Json.is)
-          )
+          rw w.text-is (w.in_ok-add_json_lines-in-Json.ensures.ok ∙ (λ i. c.new-text.ensures.items i ++ json_text 1 now steps (down i)) ∙ sym (ap text w.in-Json.is))
     ]

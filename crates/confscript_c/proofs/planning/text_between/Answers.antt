@@ -1,8 +1,7 @@
-use Rattle.std.proofs.Common.{◌≡◌, Bool, true, false, ◌||◌, ◌&&◌, refl, ap, ◌∙◌}
+use Rattle.std.proofs.Common.{◌≡◌, true, refl, ap, ◌∙◌}
 use Rattle.std.specs.Prelude.{Some, Ok}
-use Rattle.std.proofs.lemmas.Bool.{and_from}
-use Rattle.quorum_sets.specs.Ids.{is_empty}
-use Rattle.conf_change.specs.Configuration.{Configuration, is_valid, has_voter, is_restorable, has_voter_or_is_empty}
+use Rattle.std.proofs.lemmas.Bool.{true_from_ne_false}
+use Rattle.conf_change.specs.Configuration.{Configuration, is_valid, has_voter, is_restorable}
 use Rattle.conf_change.specs.ConfState.{ConfStateLists, restored}
 use Rattle.conf_change.specs.ConfStateLine.{conf_state_in}
 use Rattle.conf_change.specs.Violation.{valid_of}
@@ -13,15 +12,9 @@ use Rattle.confscript_c.specs.Applied.{applied}
 use Rattle.confscript_c.proofs.PlanLeads.{steps_result-run, IsRun-by, restored_of-from_line}
 use Rattle.confscript_c.proofs.planning.text_between.Goals as goal
 
-not_false : (b : Bool) → (b ≡ false → ⊥) → b ≡ true
-not_false true none = refl
-not_false false none = absurd (none refl)
-
 -- a valid configuration with a voter can be restored
 restorable : (c : Configuration) → is_valid c ≡ true → has_voter c ≡ true → is_restorable c ≡ true
-restorable c valid votes =
-    and_from (is_valid c) (has_voter_or_is_empty c) valid
-    (ap (λ b. b || (is_empty c.incoming && is_empty c.outgoing && is_empty c.learners && is_empty c.learners_next)) votes)
+restorable c valid votes = rw (valid, votes) refl
 
 pub returns-in_ok-path_text-in-Ok-clause-path : goal.returns-in_ok-path_text-in-Ok-clause-path
 returns-in_ok-path_text-in-Ok-clause-path c =
@@ -31,7 +24,7 @@ returns-in_ok-path_text-in-Ok-clause-path c =
     let target = c.args.target.now in
     let promises = c.in-Ok.ensures.promises in
     let taken = steps_result-run 1 now target steps (IsRun-by request.strategy (ids_down request.down) now target steps promises) in
-    let voter = not_false _ (λ e. let refused = c.path_between.ensures.no_voter_now.1 e in cc) in
+    let voter = true_from_ne_false _ (λ e. let refused = c.path_between.ensures.no_voter_now.1 e in cc) in
     let restores : (saved : ConfStateLists) → valid_of saved ≡ Ok now → restored saved ≡ Some now = λ saved is. (c.restored_is_described.ensures saved now).1
     (((c.valid_is_described.ensures saved now).0 is).0, restorable now c.requires.valid_now voter) in
     record {
