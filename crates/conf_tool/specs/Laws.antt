@@ -21,7 +21,7 @@ use Rattle.conf_session.specs.Undo.{undo_plan_of}
 use Rattle.plan_output.specs.CarriedOut.{LinesLead}
 use Rattle.plan_output.specs.Json.{path_json}
 use Rattle.plan_output.specs.Stages.{AreOnTheWay, stages}
-use Rattle.conf_tool.specs.Pairs.{NumberedLine, numbered, configuration_lines, current_at, target_at, pair_at}
+use Rattle.conf_tool.specs.Pairs.{NumberedLine, numbered, configuration_lines, current_at, target_at, pair_at, pair_of_texts}
 use Rattle.conf_tool.specs.declared.plan_input_fault.PlanInputFault.{PlanInputFault}
 use Rattle.conf_tool.specs.PlanScript.{default_session}
 use Rattle.plan_output.specs.Steps.{ids_down}
@@ -31,7 +31,7 @@ use Rattle.conf_tool.specs.declared.plan_options.PlanOutput.TheVariants.{Script 
 use Rattle.conf_plan.specs.declared.strategy.Strategy.TheVariants.{Shortest}
 use Rattle.std.specs.List.{All}
 use Rattle.conf_tool.specs.Reports.{session_after_all}
-use Rattle.conf_tool.specs.Outputs.{checked, rewritten, undone_output, planned_output, separator}
+use Rattle.conf_tool.specs.Outputs.{checked, rewritten, undone_output, planned_output, planned_texts, separator}
 use Rattle.conf_tool.specs.UndoScript.{TakesSteps}
 use Rattle.conf_tool.specs.declared.status.Status.TheVariants.{Clean}
 
@@ -108,15 +108,20 @@ abbrev pub PrintsEach : PlanOptions → List ℕ → (SessionState → ℕ → C
 PrintsEach options input Holds =
     (texts : List (List ℕ)) × ((planned_output options input).text ≡ separated_by (separator options.output) texts) × EachInTurn options Holds default_session 1 (pairs_in input) texts
 
+-- If the values of --from and --to denote a pair, Holds is true of it and of the text that `plan` prints for them.
+abbrev pub PrintsPair : PlanOptions → List ℕ → List ℕ → (SessionState → ℕ → Configuration × Configuration → List ℕ → Type 0) → Type 0
+PrintsPair options from to Holds = (pair : Configuration × Configuration) → pair_of_texts from to ≡ Ok pair → Holds default_session 1 pair (planned_texts options from to).text
+
 -- the text is that of the best plan from the first configuration of a pair to the second, if both have a voter
 abbrev pub IsBestPlan : PlanOptions → SessionState → ℕ → Configuration × Configuration → List ℕ → Type 0
 IsBestPlan options session number pair text =
     has_voter pair.0 ≡ true → has_voter pair.1 ≡ true → (steps : List Step) × (text ≡ path_text options session number pair.0 steps) × IsBest pair.0 steps pair.1
 
--- In each form of the output, `plan` prints the best plan of each pair. For an input of one pair nothing else is
--- printed, and the run ends clean if no ids are down.
+-- In each form of the output, `plan` prints the best plan of each pair, those of an input and that of --from and --to.
+-- For an input of one pair nothing else is printed, and the run ends clean if no ids are down.
 pub record PrintedPlanIsBest : Type 0 where
   pub each : (options : PlanOptions) (input : List ℕ) → options.strategy ≡ Shortest → PrintsEach options input (IsBestPlan options)
+  pub texts : (options : PlanOptions) (from to : List ℕ) → options.strategy ≡ Shortest → PrintsPair options from to (IsBestPlan options)
   pub alone : (options : PlanOptions) (input : List ℕ) (first second : NumberedLine) (now target : Configuration) → options.strategy ≡ Shortest → options.down ≡ None →
       (listing_of input).fault ≡ None → configuration_lines (numbered 1 (listing_of input).items) ≡ first ∷ second ∷ [] → current_at first ≡ Ok now → target_at second now ≡ Ok target →
       has_voter now ≡ true → has_voter target ≡ true → (steps : List Step) × (planned_output options input ≡ record { text = path_text options default_session 1 now steps; outcome = Ok Clean }) × IsBest now steps target
@@ -137,10 +142,11 @@ IsPromisedPath options session number pair text =
     has_voter pair.0 ≡ true → has_voter pair.1 ≡ true → has_path options.strategy pair.0 pair.1 ≡ true →
     (steps : List Step) × (path_between options pair.0 pair.1 ≡ Ok steps) × (text ≡ path_text options session number pair.0 steps) × LeadsAsPromised options number pair.0 steps pair.1
 
--- By each strategy and in each form of the output, `plan` prints for each pair a path that keeps what the strategy
--- promises.
-abbrev pub PrintedPathKeepsPromises : Type 0
-PrintedPathKeepsPromises = (options : PlanOptions) (input : List ℕ) → PrintsEach options input (IsPromisedPath options)
+-- By each strategy and in each form of the output, `plan` prints for each pair, those of an input and that of --from and
+-- --to, a path that keeps what the strategy promises.
+pub record PrintedPathKeepsPromises : Type 0 where
+  pub each : (options : PlanOptions) (input : List ℕ) → PrintsEach options input (IsPromisedPath options)
+  pub texts : (options : PlanOptions) (from to : List ℕ) → PrintsPair options from to (IsPromisedPath options)
 
 -- A session that runs these directives restores a configuration by the first, takes steps by the others, one by each,
 -- and is in another configuration then.

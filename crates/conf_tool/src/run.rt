@@ -139,7 +139,7 @@ pub fn run_pair_and_flush<W: Sink>(
     ensures read { is_read_failure result ≡ false }
     ensures write { ReportsWrite (W.has_failed (buffered_writer writer.old)) (W.has_failed (buffered_writer writer.new)) result }
 {
-    let outcome = answer_texts(alloc, options, texts, writer);
+    let outcome = answer_texts(alloc, &options, texts, writer);
     nothing_waits::<W>();
     flush_after(outcome, writer)
 }

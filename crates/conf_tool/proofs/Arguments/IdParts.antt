@@ -1,5 +1,5 @@
 -- The parts of a list of ids, one by one.
-use Rattle.std.proofs.Common.{ℕ, ◌+◌, List, ◌++◌}
+use Rattle.std.proofs.Common.{ℕ, List, ◌++◌}
 use Rattle.std.specs.Prelude.{Option, Some, None}
 
 -- ids that were read, before those of the parts that are left

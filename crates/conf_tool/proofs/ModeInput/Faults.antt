@@ -1,5 +1,5 @@
 -- Faults that end a run.
-use Rattle.std.proofs.Common.{◌≡◌, ℕ, Bool, true, false, ◌||◌, List, refl, sym, ◌∙◌, ap, subst, inl, inr}
+use Rattle.std.proofs.Common.{◌≡◌, ℕ, Bool, false, ◌||◌, List, sym, ◌∙◌, ap, subst, inl, inr, arith}
 use Rattle.std.specs.Prelude.{Option, Err}
 use Rattle.dd_file.specs.Device.{AppendsPart}
 use Rattle.dd_file.specs.Answer.{IsInterrupted}
@@ -46,12 +46,10 @@ reader-means fault converted CutByRead output before after part = part
 reader-means fault converted CutByMemory output before after part = part
 
 pub reader-read : (fault : FileFault) (converted : ToolFault) → IsOfReader fault converted → is_read_failure {X = Status} (Err converted) ≡ reader.is_read_fault {X = Status} (Err fault)
-reader-read fault converted CutByRead = refl
-reader-read fault converted CutByMemory = refl
+reader-read fault converted x2 = grind arith
 
 pub reader-unwritten : (fault : FileFault) (converted : ToolFault) → IsOfReader fault converted → is_write_failure {X = Status} (Err converted) ≡ false
-reader-unwritten fault converted CutByRead = refl
-reader-unwritten fault converted CutByMemory = refl
+reader-unwritten fault converted x2 = grind arith
 
 -- a fault of what answers an input
 pub answer-means : (converted : ToolFault) → IsAnswerFault converted → (output : Output) (before after : Option (List ℕ)) → AppendsPart before after output.text → Means output (Err converted) before after
@@ -69,11 +67,6 @@ stop-means mode (Configurations f) total read found before after All same is all
 stop-means mode CannotRead total read found before after All same is all part = absurd is
 stop-means mode CannotWrite total read found before after All same is all part = subst (λ s. AppendsPart before after (total s).text) (sym same) part
 stop-means mode OutOfMemory total read found before after All same is all part = subst (λ s. AppendsPart before after (total s).text) (sym same) part
-
--- marks of failure
-pub or-false : (mark : Bool) → (mark || false) ≡ mark
-or-false true = refl
-or-false false = refl
 
 -- a call that fails so, after none did
 pub or-fault : (start now later fault converted : Bool) → later ≡ (now || fault) → converted ≡ fault → now ≡ start → later ≡ (start || converted)

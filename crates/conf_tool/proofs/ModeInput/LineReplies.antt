@@ -1,5 +1,5 @@
 -- Answers to a line.
-use Rattle.std.proofs.Common.{◌≡◌, [], ◌∷◌, sym, ◌∙◌, ap}
+use Rattle.std.proofs.Common.{◌≡◌, [], ◌∷◌, sym, ◌∙◌, ap, arith}
 use Rattle.std.specs.Prelude.{◌≢◌, Result, Ok, Err, OnOk}
 use Rattle.conf_change.specs.Changer.{ChangerState, Makes}
 use Rattle.conf_change.specs.Text.{config_text, refused_text}
@@ -21,5 +21,4 @@ reply-refused before after change refused makes known =
     ap (reply_to_outcome before.tracker.config) (makes.refused known) ∙ ap (λ (s : ChangerState). text_alone s.tracker.config (refused_text refused)) (sym makes.unchanged)
 
 pub ok-of : {T E P : Type 0} (r : Result T E) → P → OnOk r P
-ok-of (Ok x) p = p
-ok-of (Err e) p = tt
+ok-of r p = grind arith

@@ -60,13 +60,11 @@ reached-answer next remaining has_failed IsFault begin state after now later par
     reached.read input turn.suffix turn.first
     ∙ ap (prepended parts) (in_turn state.position (state.buffered ++ turn.suffix) ∙ ap (followed (script_from next)) converted) where
       whole : {P : Type 0} → IsInterrupted result ⊎ P → P
-      whole (inl cut) = absurd (uncut cut)
-      whole (inr is) = is
+      whole x0 = grind arith
 
 -- an answer is not cut short
 pub ok-uncut : {X : Type 0} (found : X) → IsInterrupted (Ok found) → ⊥
-ok-uncut found (inl e) = cc
-ok-uncut found (inr e) = cc
+ok-uncut found x1 = grind arith
 
 -- the end of the input
 pub reached-end : {A R : Type 0} (next : Position → List ℕ → Next A) (remaining : R → Option (List ℕ)) (has_failed : R → Bool) (IsFault : Position → FileFault → Type 0)

@@ -17,14 +17,13 @@ use Rattle.conf_tool.specs.Outputs.{Output, check_status, checked_entries, check
 use Rattle.conf_tool.specs.Answered.{script, prepended, with_prefix, rest_checked, check_left, HasChecked}
 use Rattle.conf_tool.specs.Run.{Wrote}
 use Rattle.conf_tool.proofs.ModeOutput.FirstParts.{appends-nothing, wrote-part, wrote-broken, wrote-end, wrote-end_part}
-use Rattle.conf_tool.proofs.ModeInput.Faults.{or-false}
+use Rattle.std.proofs.Math.Bool.{or-false}
 
 -- one mismatch more
 positive : (mismatches : ℕ) (c d : Bool) → (nat_lt 0 mismatches || (c || d)) ≡ (nat_lt 0 (mismatches + cond c 1 0) || d)
 positive mismatches true d = let some : nat_lt 0 (mismatches + 1) ≡ true = search (rules, arith) in rw some (at (nat_lt 0 mismatches)) where
   at : (b : Bool) → (b || true) ≡ true
-  at true = refl
-  at false = refl
+  at b = grind arith
 positive mismatches false d = let same : mismatches + 0 ≡ mismatches = omega arith in rw same refl
 
 -- an entry before the others

@@ -1,7 +1,8 @@
 -- Of the mode `plan`: what each line leaves of its output.
 use Rattle.std.proofs.Common.{◌≡◌, ℕ, Bool, ◌||◌, ◌+◌, ◌<◌, ◌≤◌, true, false, List, [], ◌∷◌, ◌++◌, length-append, refl, sym, ◌∙◌, ap, subst, arith, inl, inr, lt-ltb, le-ltb}
-use Rattle.std.specs.Prelude.{Option, Some, None, Result, Ok, Err, IfSome, OnOk, OnErr, is_some, nat_lt}
+use Rattle.std.specs.Prelude.{Option, Some, None, Result, Ok, Err, IfSome, IfErr, IsOkUnless, OnOk, OnErr, is_some, nat_lt}
 use Rattle.std.specs.Io.KnownBytes.{Appends}
+use Rattle.std.proofs.Math.Bool.{or-false}
 use Rattle.std.proofs.lemmas.List.{append-nil}
 use Rattle.dd_file.specs.Device.{AppendsPart}
 use Rattle.dd_file.specs.Grammar.{Script}
@@ -24,8 +25,7 @@ use Rattle.conf_tool.specs.declared.plan_options.PlanOptions.{PlanOptions}
 use Rattle.conf_tool.specs.declared.status.Status.{Status}
 use Rattle.conf_tool.specs.declared.status.Status.TheVariants.{Clean, Different}
 use Rattle.conf_tool.specs.declared.tool_fault.ToolFault.{ToolFault}
-use Rattle.conf_tool.specs.declared.tool_fault.ToolFault.TheVariants.{Script as ScriptFault, Configurations, NoMemory, Write as CannotWrite}
-use Rattle.conf_tool.proofs.ModeInput.Faults.{or-false}
+use Rattle.conf_tool.specs.declared.tool_fault.ToolFault.TheVariants.{Script as ScriptFault, Configurations, NoMemory}
 use Rattle.conf_tool.proofs.ModeOutput.FirstParts.{appends-nothing, wrote-part, wrote-broken, wrote-all}
 
 -- ---- what holds after a call
@@ -40,30 +40,23 @@ on-err (Err fault) A P a gives = gives a
 -- ---- statuses
 worse_of-twice : (a b c : Status) (outcome : Result Status ToolFault) → ◌≡◌ {A = Result Status ToolFault} (Ok c) (worse_of a (Ok b)) → worse_of a (worse_of b outcome) ≡ worse_of c outcome
 worse_of-twice a b c (Err fault) e = refl
-worse_of-twice Clean Clean Clean (Ok later) e = refl
-worse_of-twice Clean Clean Different (Ok later) e = cc
-worse_of-twice Clean Different Clean (Ok later) e = cc
-worse_of-twice Clean Different Different (Ok later) e = refl
-worse_of-twice Different Clean Clean (Ok later) e = cc
-worse_of-twice Different Clean Different (Ok later) e = refl
-worse_of-twice Different Different Clean (Ok later) e = cc
-worse_of-twice Different Different Different (Ok later) e = refl
+worse_of-twice Clean Clean c (Ok later) e = let same : Clean ≡ c = cc in ap (λ s. worse_of s (Ok later)) same
+worse_of-twice Clean Different c (Ok later) e = let same : Different ≡ c = cc in ap (λ s. worse_of s (Ok later)) same
+worse_of-twice Different Clean c (Ok later) e = let same : Different ≡ c = cc in ap (λ s. worse_of s (Ok later)) same
+worse_of-twice Different Different c (Ok later) e = let same : Different ≡ c = cc in ap (λ s. worse_of s (Ok later)) same
 
 abbrev worse : Status → Status → Status
 worse Clean later = later
 worse Different later = Different
 
 worse-is : (a b : Status) → ◌≡◌ {A = Result Status ToolFault} (Ok (worse a b)) (worse_of a (Ok b))
-worse-is Clean b = refl
-worse-is Different b = refl
+worse-is a b = grind arith
 
 worse_of-begin : (outcome : Result Status ToolFault) → worse_of Clean outcome ≡ outcome
-worse_of-begin (Ok status) = refl
-worse_of-begin (Err fault) = refl
+worse_of-begin outcome = grind arith
 
 worse_of-clean : (status : Status) → worse_of status (Ok Clean) ≡ Ok status
-worse_of-clean Clean = refl
-worse_of-clean Different = refl
+worse_of-clean status = grind arith
 
 -- ---- the lines that are not passed over
 configuration_lines-passed : (line : NumberedLine) (lines : List NumberedLine) → is_skipped line.text ≡ true → configuration_lines (line ∷ lines) ≡ configuration_lines lines
@@ -88,8 +81,7 @@ pairs-first options session number line first [] fault is = ap (λ actual. ends_
 pairs-first options session number line first (second ∷ lines) fault is = ap (λ actual. pairs_within options session number actual (second ∷ lines) fault) is
 
 pairs_within-bad : (options : PlanOptions) (session : SessionState) (number : ℕ) (bad : PlanInputFault) (lines : List NumberedLine) (fault : Option FileFault) → pairs_within options session number (Err bad) lines fault ≡ ends (Err (Configurations bad))
-pairs_within-bad options session number bad [] fault = refl
-pairs_within-bad options session number bad (second ∷ lines) fault = refl
+pairs_within-bad options session number bad lines fault = grind arith
 
 -- the first line of a pair
 pub plan_left-first : (options : PlanOptions) (session : SessionState) (count number : ℕ) (status : Status) (line : List ℕ) (first : Configuration) →
@@ -136,13 +128,11 @@ plan_left-bad options session count number (Some now) status line bad kept is re
 -- the end of the input
 pub plan_left-fault : (options : PlanOptions) (session : SessionState) (count number : ℕ) (now : Option Configuration) (status : Status) (fault : FileFault) →
     plan_left options session count number now status (script [] (Some fault)) ≡ ends (Err (ScriptFault fault))
-plan_left-fault options session count number None status fault = refl
-plan_left-fault options session count number (Some now) status fault = refl
+plan_left-fault options session count number now status fault = grind arith
 
 pub plan_left-within : (options : PlanOptions) (session : SessionState) (count number : ℕ) (now : Option Configuration) (status : Status) → is_some now ≡ true →
     plan_left options session count number now status (script [] None) ≡ ends (Err (Configurations NotTwoLines))
-plan_left-within options session count number None status there = cc
-plan_left-within options session count number (Some now) status there = refl
+plan_left-within options session count number now status there = grind arith
 
 pub plan_left-no_pair : (options : PlanOptions) (session : SessionState) (count number : ℕ) (now : Option Configuration) (status : Status) → is_some now ≡ false → number ≤ 1 →
     plan_left options session count number now status (script [] None) ≡ ends (Err (Configurations NotTwoLines))
@@ -218,42 +208,26 @@ planned-broken options session count number now status line first second total p
     (pair_text options session number first second) (pair_text options session number first second) before mid new (subst (λ n. HasPlanned options session count number n status total parts before mid) there planned).prefix
     (plan_left-second options session count number first second status (worse status (plan_status options first second)) line kept is (worse-is status (plan_status options first second))) refl cut more fault
 
--- a line with an error stops the run
-planned-stop : (options : PlanOptions) (session : SessionState) (count number : ℕ) (now : Option Configuration) (status : Status) (line : List ℕ) (stop : ToolFault) (mid : Option (List ℕ)) →
-    is_skipped line ≡ false → IsFaultOf (read_at now (record { number = count + 1; text = line })) stop →
+-- a line with an error stops the run, by what was read before it
+pub planned-stop : (options : PlanOptions) (session : SessionState) (count number : ℕ) (now was : Option Configuration) (status : Status) (line : List ℕ) (stop : ToolFault) (mid : Option (List ℕ)) →
+    now ≡ was → is_skipped line ≡ false → IsFaultOf (read_at was (record { number = count + 1; text = line })) stop →
     IsStop OfPlan stop ((total : Script (List ℕ) → Output) (parts more : List (List ℕ)) (fault : Option FileFault) (before : Option (List ℕ)) →
     HasPlanned options session count number now status total parts before mid → Wrote (total (script (parts ++ line ∷ more) fault)) (Err stop) before mid)
-planned-stop options session count number now status line stop mid kept (inl memory) = subst (λ s. IsStop OfPlan s (Whole s)) (sym memory) tt
-  where
-    Whole : ToolFault → Type 0
-    Whole s = (total : Script (List ℕ) → Output) (parts more : List (List ℕ)) (fault : Option FileFault) (before : Option (List ℕ)) →
-        HasPlanned options session count number now status total parts before mid → Wrote (total (script (parts ++ line ∷ more) fault)) (Err s) before mid
-planned-stop options session count number now status line stop mid kept (inr bad) =
-    subst (λ s. IsStop OfPlan s (Whole s)) (sym bad.1) (
-      tt,
-      λ total parts more fault before planned.
-          wrote-all total (plan_left options session count number now status) parts line (Err (Configurations bad.0)) before mid planned.prefix (plan_left-bad options session count number now status line bad.0 kept bad.2) more fault,
-    )
+planned-stop options session count number now was status line stop mid is kept = by
   where
     Whole : ToolFault → Type 0
     Whole s = (total : Script (List ℕ) → Output) (parts more : List (List ℕ)) (fault : Option FileFault) (before : Option (List ℕ)) →
         HasPlanned options session count number now status total parts before mid → Wrote (total (script (parts ++ line ∷ more) fault)) (Err s) before mid
 
--- .. the first line of a pair
-pub planned-stop_first : (options : PlanOptions) (session : SessionState) (count number : ℕ) (now : Option Configuration) (status : Status) (line : List ℕ) (stop : ToolFault) (mid : Option (List ℕ)) →
-    now ≡ None → is_skipped line ≡ false → IsFaultOf (current_at (record { number = count + 1; text = line })) stop →
-    IsStop OfPlan stop ((total : Script (List ℕ) → Output) (parts more : List (List ℕ)) (fault : Option FileFault) (before : Option (List ℕ)) →
-    HasPlanned options session count number now status total parts before mid → Wrote (total (script (parts ++ line ∷ more) fault)) (Err stop) before mid)
-planned-stop_first options session count number now status line stop mid none kept fault =
-    planned-stop options session count number now status line stop mid kept (subst (λ n. IsFaultOf (read_at n (record { number = count + 1; text = line })) stop) (sym none) fault)
-
--- .. the second line
-pub planned-stop_second : (options : PlanOptions) (session : SessionState) (count number : ℕ) (now : Option Configuration) (status : Status) (line : List ℕ) (first : Configuration) (stop : ToolFault) (mid : Option (List ℕ)) →
-    now ≡ Some first → is_skipped line ≡ false → IsFaultOf (target_at (record { number = count + 1; text = line }) first) stop →
-    IsStop OfPlan stop ((total : Script (List ℕ) → Output) (parts more : List (List ℕ)) (fault : Option FileFault) (before : Option (List ℕ)) →
-    HasPlanned options session count number now status total parts before mid → Wrote (total (script (parts ++ line ∷ more) fault)) (Err stop) before mid)
-planned-stop_second options session count number now status line first stop mid there kept fault =
-    planned-stop options session count number now status line stop mid kept (subst (λ n. IsFaultOf (read_at n (record { number = count + 1; text = line })) stop) (sym there) fault)
+    by : IsFaultOf (read_at was (record { number = count + 1; text = line })) stop → IsStop OfPlan stop (Whole stop)
+    by (inl memory) = subst (λ s. IsStop OfPlan s (Whole s)) (sym memory) tt
+    by (inr bad) =
+        let read = subst (λ n. read_at n (record { number = count + 1; text = line }) ≡ Err bad.0) (sym is) bad.2 in
+        subst (λ s. IsStop OfPlan s (Whole s)) (sym bad.1) (
+          tt,
+          λ total parts more fault before planned.
+              wrote-all total (plan_left options session count number now status) parts line (Err (Configurations bad.0)) before mid planned.prefix (plan_left-bad options session count number now status line bad.0 kept read) more fault,
+        )
 
 -- .. and no write has failed
 pub stop-unwritten : (X : Type 0) {A : Type 0} (read : Result A PlanInputFault) (stop : ToolFault) (mark : Bool) → IsFaultOf read stop → mark ≡ (mark || is_write_failure {X = X} (Err stop))
@@ -296,33 +270,7 @@ pub texts-unread : (read : Result (Configuration × Configuration) PlanInputFaul
 texts-unread read stop (inl memory) = subst (λ s. is_read_failure {X = Status} (Err s) ≡ false) (sym memory) refl
 texts-unread read stop (inr bad) = subst (λ s. is_read_failure {X = Status} (Err s) ≡ false) (sym bad.1) refl
 
--- the output for two texts by the reply to their pair
-pub texts-answered : (options : PlanOptions) (from to : List ℕ) (now target : Configuration) (text : List ℕ) (status : Status) →
-    ◌≡◌ {A = Result (Configuration × Configuration) PlanInputFault} (pair_of_texts from to) (Ok (now, target)) →
-    text ≡ pair_text options default_session 1 now target → status ≡ plan_status options now target → planned_texts options from to ≡ record { text = text; outcome = Ok status }
-texts-answered options from to now target text status is a b = texts-planned options from to now target is ∙ (λ i. record { text = sym a i; outcome = Ok (sym b i) })
-
--- the whole reply was written
-pub texts-written : (output : Output) (text : List ℕ) (status : Status) (before after : Option (List ℕ)) → output ≡ record { text = text; outcome = Ok status } → Appends before after text → Means output (Ok status) before after
-texts-written output text status before after is all = subst (λ (out : Output). Means out (Ok status) before after) (sym is) (refl, all)
-
--- .. or a part of it
-pub texts-cut : (output : Output) (text : List ℕ) (status : Status) (fault : ToolFault) (before after : Option (List ℕ)) → output ≡ record { text = text; outcome = Ok status } → fault ≡ CannotWrite → AppendsPart before after text →
-    Means output (Err fault) before after
-texts-cut output text status fault before after is kind part = subst (λ f. Means output (Err f) before after) (sym kind) (subst (λ (t : List ℕ). AppendsPart before after t) (sym (ap (λ (out : Output). out.text) is)) part)
-
--- .. or memory ran out before
-pub texts-not_begun : (output : Output) (fault : ToolFault) (buffered : Option (List ℕ)) → fault ≡ NoMemory → Means output (Err fault) buffered buffered
-texts-not_begun output fault buffered memory = subst (λ f. Means output (Err f) buffered buffered) (sym memory) (part-nothing buffered output.text)
-
--- .. and no write has failed
-pub memory-unwritten : (fault : ToolFault) (mark : Bool) → fault ≡ NoMemory → mark ≡ (mark || is_write_failure {X = Status} (Err fault))
-memory-unwritten fault mark memory = subst (λ s. mark ≡ (mark || is_write_failure {X = Status} (Err s))) (sym memory) (sym (or-false mark))
-
-or-true : (mark : Bool) → (mark || true) ≡ true
-or-true true = refl
-or-true false = refl
-
--- a write failed
-pub write-failed : (fault : ToolFault) (before after : Bool) → fault ≡ CannotWrite → after ≡ true → after ≡ (before || is_write_failure {X = Status} (Err fault))
-write-failed fault before after kind failed = subst (λ s. after ≡ (before || is_write_failure {X = Status} (Err s))) (sym kind) (failed ∙ sym (or-true before))
+-- a reply fails only if memory runs out
+pub texts-memory : {X : Type 0} (result : Result X ToolFault) (read : Result (Configuration × Configuration) PlanInputFault) → IsOkUnless result NoMemory → IfErr result (IsFaultOf read)
+texts-memory (Ok x) read memory = tt
+texts-memory (Err fault) read memory = inl memory

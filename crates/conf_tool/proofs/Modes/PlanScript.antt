@@ -1,6 +1,6 @@
 -- The script of a path, while it is written.
-use Rattle.std.proofs.Common.{◌≡◌, ℕ, List, [], ◌∷◌, ◌++◌, refl, sym, ◌∙◌, ap, subst}
-use Rattle.std.specs.Prelude.{Option, Some, None}
+use Rattle.std.proofs.Common.{◌≡◌, ℕ, List, [], ◌∷◌, ◌++◌, sym, ◌∙◌, ap, subst, arith}
+use Rattle.std.specs.Prelude.{Option}
 use Rattle.std.proofs.lemmas.List.{append_assoc}
 use Rattle.std.specs.Io.KnownBytes.{Appends}
 use Rattle.dd_file.specs.Rewritten.{entry_text, rewritten_text, without_double_end}
@@ -16,8 +16,7 @@ use Rattle.conf_tool.proofs.Modes.Undo.{session-append, text-append}
 
 -- a note changes no session
 pub after-note : (s : SessionState) (note : Option (List ℕ)) → session_after_all s (note_items note) ≡ s
-after-note s None = refl
-after-note s (Some note) = refl
+after-note s note = grind arith
 
 -- a note was written, and then an item, and then the others, and then the end
 pub items-written : (n a b d : ℕ) (old noted first mid new : Option (List ℕ)) (s t u : SessionState) (note : Option (List ℕ)) (item : Item) (items : List Item) → ((start : Option (List ℕ)) → HasWritten n start start []) →

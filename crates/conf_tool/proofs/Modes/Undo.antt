@@ -107,16 +107,14 @@ text-rest s plan index = record {
 
 -- a plan with a step has no comment
 some-steps : (plan : List Step) → (length plan ≡ 0 → ⊥) → step_items plan ≡ map step_directive plan
-some-steps [] some = absurd (some refl)
-some-steps (first ∷ plan) some = refl
+some-steps plan some = grind arith
 
 has-step : (plan : List Step) (index : ℕ) (step : Step) → slice_get plan index ≡ Some step → length plan ≡ 0 → ⊥
 has-step [] index step here none = cc
 has-step (first ∷ plan) index step here none = omega (arith, none)
 
 pub no-steps : (plan : List Step) → length plan ≡ 0 → step_items plan ≡ comment (codes "nothing to do") ∷ []
-no-steps [] none = refl
-no-steps (first ∷ plan) none = absurd (omega (arith, none))
+no-steps plan none = grind arith
 
 -- no step more was written, or a part of one
 pub steps-stopped : (s now : SessionState) (a b : ℕ) (old mid : Option (List ℕ)) (plan : List Step) (index : ℕ) (step : Step) → slice_get plan index ≡ Some step →

@@ -14,12 +14,13 @@ use Rattle.conf_tool.specs.Outputs.{Output, worse_of, pair_then, session_after_p
 use Rattle.conf_tool.specs.Pairs.{paired, target_at, with_target}
 use Rattle.conf_tool.specs.PlanAnswer.{path_status, path_text, path_between, reply_text, plan_text_between, status_with, plan_status}
 use Rattle.conf_tool.specs.PlanScript.{default_session}
+use Rattle.conf_tool.specs.declared.origin.Origin.TheVariants.{Line}
 use Rattle.conf_tool.specs.declared.plan_input_fault.PlanInputFault.{PlanInputFault}
 use Rattle.conf_tool.specs.declared.plan_options.PlanOptions.{PlanOptions}
 use Rattle.conf_plan.specs.declared.strategy.Strategy.TheVariants.{Shortest}
 use Rattle.conf_tool.specs.declared.status.Status.TheVariants.{Clean}
 use Rattle.conf_tool.proofs.Theorems.PromisedPaths.{path_between-path}
-use Rattle.conf_tool.proofs.Theorems.PairByPair.{HoldsOfText, Pair, current_at-valid, target_at-valid, each-printed}
+use Rattle.conf_tool.proofs.Theorems.PairByPair.{HoldsOfText, Pair, pair-valid, each-printed, pair-printed}
 
 abbrev AreBest : Type 0
 AreBest = (now target : Configuration) → IsValidWithVoter now → IsValidWithVoter target → IsBest now (planned now target) target
@@ -58,9 +59,11 @@ one-pair options now target shortest none a b =
 pub printed-best : AreBest → PrintedPlanIsBest
 printed-best best = record {
   each = λ options input shortest. (each-printed options (IsBestPlan options) (pair-best best options shortest) input);
+  texts = λ options from to shortest. (pair-printed options (IsBestPlan options) (pair-best best options shortest) from to);
   alone = λ options input first second now target shortest none whole lines first_is second_is voter_now voter_target. (
     planned now target,
     (λ i. planned_pairs options default_session 1 (lines i) (whole i)) ∙ (λ i. pair_with options (with_target (target_at second) (first_is i))) ∙ (λ i. pair_with options (paired now (second_is i))) ∙ one-pair options now target shortest none voter_now voter_target,
-    best now target (record { valid = current_at-valid first now first_is; voter = voter_now }) (record { valid = target_at-valid second now target (current_at-valid first now first_is) second_is; voter = voter_target }),
+    let both = pair-valid (Line first.number) (Line second.number) first.text second.text (now, target) (ap (with_target (target_at second)) first_is ∙ ap (paired now) second_is) in
+        best now target (record { valid = both.now; voter = voter_now }) (record { valid = both.target; voter = voter_target }),
   );
 }

@@ -2,6 +2,7 @@
 use Rattle.std.proofs.Common.{◌≡◌, ℕ, ◌≤◌, Bool, true, false, not, ◌||◌, List, [], ◌∷◌, ◌++◌, map, length, refl, sym, ap, ◌∙◌, subst, arith}
 use Rattle.std.specs.Prelude.{Option, Some, None, Result, Ok, Err, option_map, bytes_eq, codes, decimal}
 use Rattle.std.specs.List.{list_all, list_any, join_with_byte}
+use Rattle.std.proofs.Math.Bool.{or_assoc}
 use Rattle.std.proofs.lemmas.List.{length-append}
 use Rattle.ascii_text.specs.Lines.{newline, lines_of}
 use Rattle.dd_file.specs.DirectiveText.{DirectiveText}
@@ -9,13 +10,12 @@ use Rattle.dd_file.specs.Position.{longest_input}
 use Rattle.dd_file.specs.Grammar.{script_of}
 use Rattle.dd_file.specs.Rewritten.{Entry, rewritten_text}
 use Rattle.dd_file.specs.Script.{is_separator}
-use Rattle.dd_file.specs.Laws.{is_line, IsWellFormed, AreWellFormed, AreReadAgain, DirectiveIsWellFormed, WrittenScript, ends_in_long_blank, item_has_keys, IsComplete, moved, directives_of, moved_fault, JoinedItems}
+use Rattle.dd_file.specs.Laws.{is_line, IsWellFormed, DirectiveIsWellFormed, WrittenScript, item_has_keys, IsComplete, moved, directives_of, moved_fault, JoinedItems}
 use Rattle.dd_file.specs.declared.item.Item.{Item}
 use Rattle.dd_file.specs.declared.item.Item.TheVariants.{Comment, Blank, Directive}
 use Rattle.dd_file.specs.declared.fault.FileFault.{FileFault}
 use Rattle.conf_change.specs.declared.change.Change.{Change}
 use Rattle.conf_change.specs.declared.change.Kind.{Kind}
-use Rattle.conf_change.specs.declared.change.Kind.TheVariants.{Voter, Learner, Remove, Update}
 use Rattle.conf_change.specs.declared.step.Step.{Step}
 use Rattle.conf_change.specs.declared.step.Step.TheVariants.{Simple, EnterJoint, LeaveJoint}
 use Rattle.conf_change.specs.ChangeList.{letter_of}
@@ -25,7 +25,7 @@ use Rattle.conf_session.specs.SessionState.{SessionState, new_session}
 use Rattle.conf_session.specs.Commands.{answer, after_answers}
 use Rattle.conf_tool.specs.Reports.{session_after_all, answered_entries, differs}
 use Rattle.conf_session.specs.Undo.{undo_plan_of, undo_fault_text}
-use Rattle.conf_tool.specs.UndoScript.{step_command, change_lines, step_directive, comment, undo_items}
+use Rattle.conf_tool.specs.UndoScript.{step_command, change_lines, step_directive, comment, step_items, undo_items}
 use Rattle.conf_tool.specs.Outputs.{checked, checked_entries, check_status, undone_unless}
 use Rattle.conf_session.specs.ReplyLines.{is_line_byte}
 use Rattle.conf_tool.specs.Laws.{JoinedClean}
@@ -34,20 +34,10 @@ use Rattle.conf_tool.specs.declared.tool_fault.ToolFault.{ToolFault}
 use Rattle.conf_tool.specs.declared.status.Status.TheVariants.{Clean}
 use Rattle.conf_session.specs.declared.undo_fault.UndoFault.{UndoFault}
 use Rattle.conf_session.proofs.Offered.{and-first, and-second, and-both, reply_line-bytes, undo_fault-in_lines, spaced-tokens_in, changes-tokens_in}
-use Rattle.conf_tool.proofs.Theorems.RewrittenScript.{ActualIsValid, actual-outputs, items-of, clean-items}
+use Rattle.conf_tool.proofs.Theorems.RewrittenScript.{ActualIsValid, CanBeRead, again-clean, any_differs, differs-by, read-again, read-append}
 
--- ---- whether a script is clean is decided by its directives
--- one of the directives in turn differs
-abbrev any_differs : SessionState → List DirectiveText → Bool
-any_differs session [] = false
-any_differs session (directive ∷ directives) = not (bytes_eq (answer session directive).actual directive.expected) || any_differs (answer session directive).session directives
-
-differs-by : (session : SessionState) (items : List Item) → list_any differs (answered_entries session items) ≡ any_differs session (directives_of items)
-differs-by session [] = refl
-differs-by session (Comment lines ∷ items) = differs-by session items
-differs-by session (Blank lines ∷ items) = differs-by session items
-differs-by session (Directive directive ∷ items) = ap (λ more. not (bytes_eq (answer session directive).actual directive.expected) || more) (differs-by (answer session directive).session items)
-
+-- ---- the directives of a script
+-- the session after it
 pub left-by : (session : SessionState) (items : List Item) → session_after_all session items ≡ after_answers session (directives_of items)
 left-by session [] = refl
 left-by session (Comment lines ∷ items) = left-by session items
@@ -60,16 +50,12 @@ differs-moved lines session [] = refl
 differs-moved lines session (directive ∷ directives) =
     ap (λ more. not (bytes_eq (answer session directive).actual directive.expected) || more) (differs-moved lines (answer session directive).session directives)
 
-or-assoc : (a b c : Bool) → (a || (b || c)) ≡ ((a || b) || c)
-or-assoc true b c = refl
-or-assoc false b c = refl
-
 differs-append : (session : SessionState) (xs ys : List DirectiveText) → any_differs session (xs ++ ys) ≡ (any_differs session xs || any_differs (after_answers session xs) ys)
 differs-append session [] ys = refl
 differs-append session (x ∷ xs) ys =
     let this = not (bytes_eq (answer session x).actual x.expected) in
     let after = (answer session x).session in
-    ap (λ more. this || more) (differs-append after xs ys) ∙ or-assoc this (any_differs after xs) (any_differs (after_answers after xs) ys)
+    ap (λ more. this || more) (differs-append after xs ys) ∙ sym (or_assoc this (any_differs after xs) (any_differs (after_answers after xs) ys))
 
 -- a script that is clean
 record IsCleanScript (entries : List Entry) (fault : Option FileFault) : Type 0 where
@@ -80,8 +66,7 @@ abbrev ended : Status → Result Status ToolFault
 ended status = Ok status
 
 status-clean : (b : Bool) → ended (check_status b) ≡ ended Clean → b ≡ false
-status-clean true e = let bad : ⊥ = cc in absurd bad
-status-clean false e = refl
+status-clean b e = grind arith
 
 clean-script : (entries : List Entry) (fault : Option FileFault) → (checked_entries entries fault).outcome ≡ Ok Clean → IsCleanScript entries fault
 clean-script entries None e = record { same = status-clean (list_any differs entries) e; whole = refl }
@@ -92,22 +77,16 @@ pub bytes-line : (text : List ℕ) → list_all is_line_byte text ≡ true → i
 bytes-line [] h = refl
 bytes-line (b ∷ text) h = and-both _ _ (and-first _ _ (and-first _ _ h)) (bytes-line text (and-second _ _ h))
 
-pub comment-given : (text : List ℕ) → list_all is_line_byte text ≡ true → IsWellFormed (comment text)
-comment-given text h = record {
-  number = 1;
-  lines = (codes "# " ++ text) ∷ [];
-  are_lines = and-both _ _ (bytes-line text h) refl;
-  first = comment text;
-  is_first = refl;
-  is = refl;
+pub comment-read : (text : List ℕ) → list_all is_line_byte text ≡ true → CanBeRead (comment text ∷ [])
+comment-read text h = record {
+  given = (record { number = 1; lines = (codes "# " ++ text) ∷ []; are_lines = and-both _ _ (bytes-line text h) refl; first = comment text; is_first = refl; is = refl }, tt);
+  keys = refl;
+  short = refl;
 }
 
 -- a line of changes is no separator
 letter-apart : (kind : Kind) (rest : List ℕ) → is_separator (letter_of kind ∷ rest) ≡ false
-letter-apart Voter rest = refl
-letter-apart Learner rest = refl
-letter-apart Remove rest = refl
-letter-apart Update rest = refl
+letter-apart kind rest = grind arith
 
 lines-apart : (changes : List Change) → list_any is_separator (change_lines changes) ≡ false
 lines-apart [] = refl
@@ -126,60 +105,23 @@ step-given given (EnterJoint false changes) =
     given 1 (codes "enter-joint autoleave=false") (change_lines changes) (step_command (EnterJoint false changes)) refl refl refl refl (lines-apart changes) (lines-whole changes)
 step-given given LeaveJoint = given 1 (codes "leave-joint") [] (step_command LeaveJoint) refl refl refl refl refl refl
 
-steps-given : DirectiveIsWellFormed → (steps : List Step) → AreWellFormed (map step_directive steps)
-steps-given given [] = tt
-steps-given given (step ∷ steps) = (step-given given step, steps-given given steps)
-
-pub undo-given : DirectiveIsWellFormed → (plan : Result (List Step) UndoFault) → AreWellFormed (undo_items plan)
-undo-given given (Ok []) = (comment-given (codes "nothing to do") refl, tt)
-undo-given given (Ok (step ∷ steps)) = steps-given given (step ∷ steps)
-undo-given given (Err fault) = (comment-given (undo_fault_text fault) (reply_line-bytes (undo_fault_text fault) (undo_fault-in_lines fault)), tt)
-
--- their arguments have keys, and the last is no long blank
 pub step-keys : (step : Step) → item_has_keys (step_directive step) ≡ true
-step-keys (Simple changes) = refl
-step-keys (EnterJoint auto_leave changes) = refl
-step-keys LeaveJoint = refl
+step-keys step = grind arith
 
-steps-keys : (steps : List Step) → list_all item_has_keys (map step_directive steps) ≡ true
-steps-keys [] = refl
-steps-keys (step ∷ steps) = and-both _ _ (step-keys step) (steps-keys steps)
+directives-read : DirectiveIsWellFormed → (steps : List Step) → CanBeRead (map step_directive steps)
+directives-read given [] = record { given = tt; keys = refl; short = refl }
+directives-read given (step ∷ steps) =
+    read-append (step_directive step ∷ []) (map step_directive steps) (record { given = (step-given given step, tt); keys = and-both _ _ (step-keys step) refl; short = refl }) (directives-read given steps)
 
-pub undo-keys : (plan : Result (List Step) UndoFault) → list_all item_has_keys (undo_items plan) ≡ true
-undo-keys (Ok []) = refl
-undo-keys (Ok (step ∷ steps)) = steps-keys (step ∷ steps)
-undo-keys (Err fault) = refl
+pub steps-read : DirectiveIsWellFormed → (steps : List Step) → CanBeRead (step_items steps)
+steps-read given [] = comment-read (codes "nothing to do") refl
+steps-read given (step ∷ steps) = directives-read given (step ∷ steps)
 
-steps-short : (steps : List Step) → ends_in_long_blank (map step_directive steps) ≡ false
-steps-short [] = refl
-steps-short (step ∷ []) = refl
-steps-short (step ∷ next ∷ steps) = steps-short (next ∷ steps)
+undo-read : DirectiveIsWellFormed → (plan : Result (List Step) UndoFault) → CanBeRead (undo_items plan)
+undo-read given (Ok steps) = steps-read given steps
+undo-read given (Err fault) = comment-read (undo_fault_text fault) (reply_line-bytes (undo_fault_text fault) (undo_fault-in_lines fault))
 
-pub undo-short : (plan : Result (List Step) UndoFault) → ends_in_long_blank (undo_items plan) ≡ false
-undo-short (Ok []) = refl
-undo-short (Ok (step ∷ steps)) = steps-short (step ∷ steps)
-undo-short (Err fault) = refl
-
--- ---- so what undoes changes is read again, and is clean
-pub undo-read : WrittenScript → DirectiveIsWellFormed → ActualIsValid → (session : SessionState) (plan : Result (List Step) UndoFault) →
-    let entries = answered_entries session (undo_items plan) in
-    length (rewritten_text entries) ≤ longest_input →
-    let again = script_of (rewritten_text entries) in (again.fault ≡ None) × AreReadAgain entries again.items
-undo-read written given holds session plan fits =
-    let items = undo_items plan in
-    let entries = answered_entries session items in
-    let same = items-of session items in
-    written entries (subst AreWellFormed (sym same) (undo-given given plan)) (actual-outputs holds session items (undo-keys plan)) (ap ends_in_long_blank same ∙ undo-short plan) fits
-
-undo-clean : WrittenScript → DirectiveIsWellFormed → ActualIsValid → (session : SessionState) (plan : Result (List Step) UndoFault) →
-    let again = script_of (rewritten_text (answered_entries session (undo_items plan))) in
-    length (rewritten_text (answered_entries session (undo_items plan))) ≤ longest_input → IsCleanScript (answered_entries session again.items) again.fault
-undo-clean written given holds session plan fits =
-    let items = undo_items plan in
-    let entries = answered_entries session items in
-    let read = undo-read written given holds session plan fits in
-    record { same = clean-items session items entries (script_of (rewritten_text entries)).items refl read.1; whole = read.0 }
-
+-- ---- so the joined script is clean
 joined-text : WrittenScript → DirectiveIsWellFormed → JoinedItems → ActualIsValid → (script : List ℕ) (history : ℕ) (floor : Floor) (count : ℕ) →
     let session = session_after_all (new_session history floor) (script_of script).items in
     let text = rewritten_text (answered_entries session (undo_items (undo_plan_of session count))) in
@@ -195,14 +137,14 @@ joined-text written given joined_items holds script history floor count complete
     let before = length (lines_of prefix) in
     let again = (script_of text).items in
     let sum = length-append prefix text in
-    let read = undo-clean written given holds session plan (omega (arith, sum, fits)) in
+    let read = read-again written holds session (undo_items plan) (undo-read given plan) (omega (arith, sum, fits)) in
     let joined = joined_items script text complete fits in
     let none : list_any differs (answered_entries begin (script_of (prefix ++ text)).items) ≡ false =
     differs-by begin (script_of (prefix ++ text)).items ∙ ap (any_differs begin) joined.0 ∙ differs-append begin (directives_of items) (map (moved before) (directives_of again))
     ∙ ap (λ b. b || any_differs (after_answers begin (directives_of items)) (map (moved before) (directives_of again))) (sym (differs-by begin items) ∙ clean.same)
     ∙ differs-moved before (after_answers begin (directives_of items)) (directives_of again)
-    ∙ ap (λ s. any_differs s (directives_of again)) (sym (left-by begin items)) ∙ sym (differs-by session again) ∙ read.same in
-    ap (λ fault. (checked_entries (answered_entries begin (script_of (prefix ++ text)).items) fault).outcome) (joined.1 ∙ ap (option_map (moved_fault before)) read.whole)
+    ∙ ap (λ s. any_differs s (directives_of again)) (sym (left-by begin items)) ∙ again-clean session (directives_of (undo_items plan)) (directives_of again) read.1 in
+    ap (λ fault. (checked_entries (answered_entries begin (script_of (prefix ++ text)).items) fault).outcome) (joined.1 ∙ ap (option_map (moved_fault before)) read.0)
     ∙ ap (λ b. Ok (check_status b)) none
 
 pub joined-clean : WrittenScript → DirectiveIsWellFormed → JoinedItems → ActualIsValid → JoinedClean

@@ -1,5 +1,5 @@
 -- That `plan` prints the texts of its pairs in turn, and that each pair is of valid configurations.
-use Rattle.std.proofs.Common.{◌≡◌, ℕ, ◌+◌, ◌≤◌, Bool, true, false, cond, List, [], ◌∷◌, ◌++◌, refl, ◌∙◌, ap, subst, arith, lt-ltb}
+use Rattle.std.proofs.Common.{◌≡◌, ℕ, ◌+◌, ◌≤◌, true, cond, List, [], ◌∷◌, ◌++◌, refl, sym, ◌∙◌, ap, subst, arith, lt-ltb}
 use Rattle.std.specs.Prelude.{Option, Some, None, Result, Ok, Err, nat_lt, if◌then◌else◌}
 use Rattle.std.specs.List.{All}
 use Rattle.std.proofs.lemmas.List.Elements.{All-nil, All-cons, All-head, All-tail}
@@ -11,15 +11,16 @@ use Rattle.conf_session.specs.SessionState.{SessionState}
 use Rattle.plan_input.specs.Input.{current_in, target_in}
 use Rattle.plan_input.specs.declared.text_fault.TextFault.{TextFault}
 use Rattle.plan_input.proofs.Offered.{current_in-valid, target_in-valid}
-use Rattle.conf_tool.specs.Laws.{EachInTurn, PrintsEach, pair_before, named_pairs, pairs_in, texts_from, separated_by}
-use Rattle.conf_tool.specs.Outputs.{separator, pair_text, pair_then, session_after_pair, ends_within, planned_pairs, planned_output}
-use Rattle.conf_tool.specs.Pairs.{NumberedLine, numbered, configuration_lines, current_at, pair_at, paired, target_at, with_target, written_at}
+use Rattle.conf_tool.specs.Laws.{EachInTurn, PrintsEach, PrintsPair, pair_before, named_pairs, pairs_in, texts_from, separated_by}
+use Rattle.conf_tool.specs.Outputs.{Output, separator, pair_text, pair_then, session_after_pair, ends_within, planned_pairs, planned_output}
+use Rattle.conf_tool.specs.Pairs.{NumberedLine, numbered, configuration_lines, current_at, pair_at, paired, with_target, written_at}
 use Rattle.conf_tool.specs.PlanAnswer.{plan_text_between, session_between}
 use Rattle.conf_tool.specs.PlanScript.{default_session}
 use Rattle.conf_tool.specs.declared.origin.Origin.{Origin}
-use Rattle.conf_tool.specs.declared.origin.Origin.TheVariants.{Line}
+use Rattle.conf_tool.specs.declared.origin.Origin.TheVariants.{Line, From, To}
 use Rattle.conf_tool.specs.declared.plan_input_fault.PlanInputFault.{PlanInputFault}
 use Rattle.conf_tool.specs.declared.plan_options.PlanOptions.{PlanOptions}
+use Rattle.conf_tool.proofs.Modes.Plan.{texts-planned}
 
 abbrev Found : Type 0
 Found = Result Configuration PlanInputFault
@@ -27,31 +28,25 @@ Found = Result Configuration PlanInputFault
 abbrev pub Pair : Type 0
 Pair = Configuration × Configuration
 
--- ---- what lines name is valid
-written-ok : (origin : Origin) (read : Result Configuration TextFault) (c : Configuration) → ◌≡◌ {A = Found} (written_at origin read) (Ok c) → read ≡ Ok c
-written-ok origin (Ok d) c e = let same : d ≡ c = cc in ap Ok same
-written-ok origin (Err fault) c e = cc
-
-pub current_at-valid : (line : NumberedLine) (c : Configuration) → current_at line ≡ Ok c → is_valid c ≡ true
-current_at-valid line c e = current_in-valid line.text c (written-ok (Line line.number) (current_in line.text) c e)
-
-pub target_at-valid : (line : NumberedLine) (now c : Configuration) → is_valid now ≡ true → target_at line now ≡ Ok c → is_valid c ≡ true
-target_at-valid line now c valid e = target_in-valid now line.text c valid (written-ok (Line line.number) (target_in now line.text) c e)
-
--- both configurations of a pair are valid
+-- ---- what a pair of texts denotes is valid
 pub record AreValid (pair : Pair) : Type 0 where
   pub now : is_valid pair.0 ≡ true
   pub target : is_valid pair.1 ≡ true
 
-paired-valid : (second : NumberedLine) (now : Configuration) (read : Found) (pair : Pair) → is_valid now ≡ true → target_at second now ≡ read → ◌≡◌ {A = Result Pair PlanInputFault} (paired now read) (Ok pair) → AreValid pair
-paired-valid second now (Err bad) pair valid is e = let wrong : ⊥ = cc in absurd wrong
-paired-valid second now (Ok target) pair valid is e =
-    let same : ◌≡◌ {A = Pair} (now, target) pair = cc in
-    subst AreValid same (record { now = valid; target = target_at-valid second now target valid is })
+pub pair-valid : (from to : Origin) (first second : List ℕ) (pair : Pair) → with_target (λ now. written_at to (target_in now second)) (written_at from (current_in first)) ≡ Ok pair → AreValid pair
+pair-valid from to first second pair e = by_first (current_in first) refl e
+  where
+    by_second : (now : Configuration) → is_valid now ≡ true → (read : Result Configuration TextFault) → target_in now second ≡ read →
+        ◌≡◌ {A = Result Pair PlanInputFault} (paired now (written_at to read)) (Ok pair) → AreValid pair
+    by_second now valid (Err bad) is e = let wrong : ⊥ = cc in absurd wrong
+    by_second now valid (Ok target) is e =
+        let same : ◌≡◌ {A = Pair} (now, target) pair = cc in
+        subst AreValid same (record { now = valid; target = target_in-valid now second target valid is })
 
-both-valid : (first second : NumberedLine) (read : Found) (pair : Pair) → current_at first ≡ read → ◌≡◌ {A = Result Pair PlanInputFault} (with_target (target_at second) read) (Ok pair) → AreValid pair
-both-valid first second (Err bad) pair is e = let wrong : ⊥ = cc in absurd wrong
-both-valid first second (Ok now) pair is e = paired-valid second now (target_at second now) pair (current_at-valid first now is) refl e
+    by_first : (read : Result Configuration TextFault) → current_in first ≡ read →
+        ◌≡◌ {A = Result Pair PlanInputFault} (with_target (λ now. written_at to (target_in now second)) (written_at from read)) (Ok pair) → AreValid pair
+    by_first (Err bad) is e = let wrong : ⊥ = cc in absurd wrong
+    by_first (Ok now) is e = by_second now (current_in-valid first now is) (target_in now second) refl e
 
 named-valid_pairs : (lines : List NumberedLine) → All AreValid (named_pairs lines)
 named-valid_pairs [] = All-nil AreValid
@@ -60,7 +55,7 @@ named-valid_pairs (first ∷ second ∷ lines) = by_pair (pair_at first second) 
   where
     by_pair : (read : Result Pair PlanInputFault) → pair_at first second ≡ read → All AreValid (named_pairs lines) → All AreValid (pair_before read (named_pairs lines))
     by_pair (Err bad) is rest = All-nil AreValid
-    by_pair (Ok pair) is rest = All-cons AreValid pair (named_pairs lines) (both-valid first second (current_at first) pair refl is) rest
+    by_pair (Ok pair) is rest = All-cons AreValid pair (named_pairs lines) (pair-valid (Line first.number) (Line second.number) first.text second.text pair is) rest
 
 -- each pair that an input denotes is of valid configurations
 pub all-valid : (input : List ℕ) → All AreValid (pairs_in input)
@@ -92,9 +87,7 @@ then-suffix part prefix text number (next ∷ texts) some =
     ap (λ b. (prefix ++ text) ++ (cond b part [] ++ separated_by part (next ∷ texts))) second ∙ append_assoc prefix text (part ++ separated_by part (next ∷ texts))
 
 half-text : (first : Found) (fault : Option FileFault) → (ends_within first fault).text ≡ []
-half-text (Err bad) fault = refl
-half-text (Ok now) None = refl
-half-text (Ok now) (Some fault) = refl
+half-text first fault = grind arith
 
 pairs-text : (options : PlanOptions) (session : SessionState) (number : ℕ) (lines : List NumberedLine) (fault : Option FileFault) → 1 ≤ number →
     (planned_pairs options session number lines fault).text ≡ suffix (separator options.output) number (texts_from options session number (named_pairs lines))
@@ -115,8 +108,7 @@ pairs-text options session number (first ∷ second ∷ lines) fault some =
         (texts_from options (session_between options session pair.0 pair.1) (number + 1) (named_pairs lines)) some
 
 from-first : (part : List ℕ) (texts : List (List ℕ)) → suffix part 1 texts ≡ separated_by part texts
-from-first part [] = refl
-from-first part (text ∷ texts) = refl
+from-first part texts = grind arith
 
 pub planned-text : (options : PlanOptions) (input : List ℕ) → (planned_output options input).text ≡ separated_by (separator options.output) (texts_from options default_session 1 (pairs_in input))
 planned-text options input =
@@ -127,3 +119,8 @@ planned-text options input =
 pub each-printed : (options : PlanOptions) (Holds : SessionState → ℕ → Pair → List ℕ → Type 0) → HoldsOfText options Holds → (input : List ℕ) → PrintsEach options input Holds
 each-printed options Holds holds input =
     (texts_from options default_session 1 (pairs_in input), planned-text options input, each-in_turn options Holds holds default_session 1 (pairs_in input) (all-valid input))
+
+-- .. and of the text for the values of --from and --to
+pub pair-printed : (options : PlanOptions) (Holds : SessionState → ℕ → Pair → List ℕ → Type 0) → HoldsOfText options Holds → (from to : List ℕ) → PrintsPair options from to Holds
+pair-printed options Holds holds from to pair is =
+    subst (λ (output : Output). Holds default_session 1 pair output.text) (sym (texts-planned options from to pair.0 pair.1 is)) (holds default_session 1 pair (pair-valid From To from to pair is))

@@ -1,6 +1,6 @@
 -- That the scripts of the pairs of an input are one script, which checks clean.
-use Rattle.std.proofs.Common.{◌≡◌, ◌≤◌, ◌⊎◌, ℕ, ◌+◌, Bool, true, false, not, cond, ◌&&◌, List, [], ◌∷◌, ◌++◌, map, length, refl, sym, ◌∙◌, ap, subst, arith, inl, inr, rules}
-use Rattle.std.specs.Prelude.{⊤, Option, Some, None, Result, Ok, Err, codes, nat_lt, nat_eq, if◌then◌else◌}
+use Rattle.std.proofs.Common.{◌≡◌, ◌≤◌, ◌⊎◌, ℕ, ◌+◌, Bool, true, false, cond, ◌&&◌, List, [], ◌∷◌, ◌++◌, map, length, refl, sym, ◌∙◌, ap, subst, arith, inl, inr, rules}
+use Rattle.std.specs.Prelude.{⊤, Option, Some, None, Result, Ok, Err, codes, nat_eq, if◌then◌else◌}
 use Rattle.std.specs.List.{list_all, ends_with}
 use Rattle.std.proofs.lemmas.List.{append_assoc, append-nil}
 use Rattle.quorum_sets.specs.Ids.{Ids, ascending}
@@ -8,11 +8,10 @@ use Rattle.ascii_text.specs.Lines.{newline}
 use Rattle.ascii_text.proofs.Offered.{list-by_last}
 use Rattle.dd_file.specs.DirectiveText.{DirectiveText}
 use Rattle.dd_file.specs.Position.{longest_input}
-use Rattle.dd_file.specs.Grammar.{script_of}
 use Rattle.dd_file.specs.Rewritten.{entry_text, kept_text, output_text, has_blank_line, opening, closing, rewritten_text, without_double_end}
-use Rattle.dd_file.specs.Laws.{is_line, IsWellFormed, AreWellFormed, DirectiveIsWellFormed, WrittenScript, AreReadAgain, ends_in_long_blank, item_has_keys}
+use Rattle.dd_file.specs.Laws.{is_line, IsWellFormed, DirectiveIsWellFormed, WrittenScript, item_has_keys}
 use Rattle.dd_file.specs.declared.item.Item.{Item}
-use Rattle.dd_file.specs.declared.item.Item.TheVariants.{Comment, Blank, Directive}
+use Rattle.dd_file.specs.declared.item.Item.TheVariants.{Blank, Directive}
 use Rattle.dd_file.proofs.Offered.{double_end-after, double_end-pushed, ends_with-append}
 use Rattle.conf_change.specs.Configuration.{Configuration, has_voter}
 use Rattle.conf_change.specs.ConfState.{lists_of}
@@ -24,7 +23,7 @@ use Rattle.conf_plan.specs.PathBy.{has_path, path_by}
 use Rattle.conf_session.specs.SessionState.{SessionState}
 use Rattle.conf_session.specs.Commands.{answer}
 use Rattle.conf_session.specs.ReplyLines.{is_line_byte}
-use Rattle.conf_session.proofs.Offered.{all-append, and-both, and-first, and-second, conf_state-in_lines, reply_line-bytes, spaced-bytes}
+use Rattle.conf_session.proofs.Offered.{all-append, and-both, conf_state-in_lines, reply_line-bytes, spaced-bytes}
 use Rattle.plan_output.specs.Stages.{stalls}
 use Rattle.conf_tool.specs.Laws.{pairs_in, texts_from, separated_by}
 use Rattle.conf_tool.specs.Outputs.{separator, checked, planned_output}
@@ -37,9 +36,9 @@ use Rattle.conf_tool.specs.declared.plan_options.PlanOptions.{PlanOptions}
 use Rattle.conf_tool.specs.declared.plan_options.PlanOutput.TheVariants.{Script}
 use Rattle.conf_tool.specs.declared.status.Status.TheVariants.{Clean}
 use Rattle.conf_tool.proofs.Modes.Undo.{session-append, text-append}
-use Rattle.conf_tool.proofs.Theorems.JoinedScript.{bytes-line, comment-given, step-keys, undo-given, undo-keys}
+use Rattle.conf_tool.proofs.Theorems.JoinedScript.{bytes-line, comment-read, step-keys, steps-read}
 use Rattle.conf_tool.proofs.Theorems.PairByPair.{Pair, planned-text}
-use Rattle.conf_tool.proofs.Theorems.RewrittenScript.{ActualIsValid, actual-outputs, items-of, written-clean}
+use Rattle.conf_tool.proofs.Theorems.RewrittenScript.{ActualIsValid, CanBeRead, read-append, written-clean}
 
 abbrev pub Answered : Type 0
 Answered = Result (List Step) (List ℕ)
@@ -84,40 +83,6 @@ path_between-cases options now target P path no_now no_target joint = by (has_vo
     by true true true = path steps
 
 -- ---- they can be written and read again
-abbrev is_short : Item → Bool
-is_short (Comment lines) = true
-is_short (Blank lines) = not (nat_lt 1 (length lines))
-is_short (Directive directive) = true
-
-record CanBeRead (items : List Item) : Type 0 where
-  given : AreWellFormed items
-  keys : list_all item_has_keys items ≡ true
-  short : list_all is_short items ≡ true
-
-given-append : (xs ys : List Item) → AreWellFormed xs → AreWellFormed ys → AreWellFormed (xs ++ ys)
-given-append [] ys a b = b
-given-append (x ∷ xs) ys a b = (a.0, given-append xs ys a.1 b)
-
-read-append : (xs ys : List Item) → CanBeRead xs → CanBeRead ys → CanBeRead (xs ++ ys)
-read-append xs ys a b = record {
-  given = given-append xs ys a.given b.given;
-  keys = all-append item_has_keys xs ys a.keys b.keys;
-  short = all-append is_short xs ys a.short b.short;
-}
-
-short-ends : (items : List Item) → list_all is_short items ≡ true → ends_in_long_blank items ≡ false
-short-ends [] h = refl
-short-ends (Comment lines ∷ []) h = refl
-short-ends (Blank lines ∷ []) h = by (nat_lt 1 (length lines)) (and-first _ _ h)
-  where
-    by : (b : Bool) → not b ≡ true → b ≡ false
-    by true e = cc
-    by false e = refl
-short-ends (Directive directive ∷ []) h = refl
-short-ends (Comment lines ∷ next ∷ items) h = short-ends (next ∷ items) h
-short-ends (Blank lines ∷ next ∷ items) h = short-ends (next ∷ items) (and-second _ _ h)
-short-ends (Directive directive ∷ next ∷ items) h = short-ends (next ∷ items) h
-
 restore-line : (c : Configuration) → is_line (conf_state_text (lists_of c)) ≡ true
 restore-line c = bytes-line (conf_state_text (lists_of c)) (reply_line-bytes (conf_state_text (lists_of c)) (conf_state-in_lines (lists_of c)))
 
@@ -136,9 +101,6 @@ stall_text-bytes down =
     all-append is_line_byte (codes "stalls with ") (spaced_numbers (ascending down) ++ codes " down") refl
     (all-append is_line_byte (spaced_numbers (ascending down)) (codes " down") (spaced-bytes (ascending down)) refl)
 
-comment-read : (text : List ℕ) → list_all is_line_byte text ≡ true → CanBeRead (comment text ∷ [])
-comment-read text h = record { given = (comment-given text h, tt); keys = refl; short = refl }
-
 note-read : (down : Option Ids) (now : Configuration) (steps : List Step) → CanBeRead (note_items (stall_note down now steps))
 note-read None now steps = record { given = tt; keys = refl; short = refl }
 note-read (Some down) now steps = by (stalls now steps down)
@@ -146,17 +108,6 @@ note-read (Some down) now steps = by (stalls now steps down)
     by : (b : Bool) → CanBeRead (note_items (if b then Some (stall_text down) else None))
     by true = comment-read (stall_text down) (stall_text-bytes down)
     by false = record { given = tt; keys = refl; short = refl }
-
-steps-short : (steps : List Step) → list_all is_short (map step_directive steps) ≡ true
-steps-short [] = refl
-steps-short (step ∷ steps) = steps-short steps
-
-items-short : (steps : List Step) → list_all is_short (step_items steps) ≡ true
-items-short [] = refl
-items-short (step ∷ steps) = steps-short (step ∷ steps)
-
-steps-read : DirectiveIsWellFormed → (steps : List Step) → CanBeRead (step_items steps)
-steps-read given steps = record { given = undo-given given (Ok steps); keys = undo-keys (Ok steps); short = items-short steps }
 
 script-read : DirectiveIsWellFormed → (down : Option Ids) (now : Configuration) (steps : List Step) → CanBeRead (script_items (stall_note down now steps) now steps)
 script-read given down now steps =
@@ -175,7 +126,7 @@ gap-read (Err why) = blank-read
 gap-read (Ok []) = blank-read
 gap-read (Ok (step ∷ steps)) = record { given = tt; keys = refl; short = refl }
 
-all-read : DirectiveIsWellFormed → (options : PlanOptions) (pairs : List Pair) → CanBeRead (all_items options pairs)
+pub all-read : DirectiveIsWellFormed → (options : PlanOptions) (pairs : List Pair) → CanBeRead (all_items options pairs)
 all-read given options [] = record { given = tt; keys = refl; short = refl }
 all-read given options (pair ∷ []) = pair-read given options pair
 all-read given options (pair ∷ next ∷ pairs) =
@@ -332,9 +283,7 @@ all-long options session pair (next ∷ pairs) =
     (pair-long options session pair (gap options pair ++ all_items options (next ∷ pairs)))
 
 gap-after : (session : SessionState) (path : Answered) → session_after_all session (gap_with path) ≡ session
-gap-after session (Err why) = refl
-gap-after session (Ok []) = refl
-gap-after session (Ok (step ∷ steps)) = refl
+gap-after session path = grind arith
 
 texts-script : ActualIsValid → (options : PlanOptions) → options.output ≡ Script → (session : SessionState) (number : ℕ) (pairs : List Pair) →
     separated_by newline (texts_from options session number pairs) ≡ own_text session (all_items options pairs)
@@ -361,23 +310,10 @@ planned-script holds options input script =
     planned-text options input ∙ ap (λ output. separated_by (separator output) (texts_from options default_session 1 (pairs_in input))) script
     ∙ texts-script holds options script default_session 1 (pairs_in input)
 
--- ---- it is read again, and is clean
-pub again-read : WrittenScript → DirectiveIsWellFormed → ActualIsValid → (options : PlanOptions) (pairs : List Pair) →
-    let entries = answered_entries default_session (all_items options pairs) in
-    length (rewritten_text entries) ≤ longest_input → let again = script_of (rewritten_text entries) in (again.fault ≡ None) × AreReadAgain entries again.items
-again-read written given holds options pairs fits =
-    let items = all_items options pairs in
-    let entries = answered_entries default_session items in
-    let same = items-of default_session items in
-    let read = all-read given options pairs in
-    written entries (subst AreWellFormed (sym same) read.given) (actual-outputs holds default_session items read.keys) (ap ends_in_long_blank same ∙ short-ends items read.short) fits
-
+-- ---- it checks clean
 pub script-clean : WrittenScript → DirectiveIsWellFormed → ActualIsValid → (options : PlanOptions) (input : List ℕ) → options.output ≡ Script →
     length (planned_output options input).text ≤ longest_input → (checked (planned_output options input).text 100 One).outcome ≡ Ok Clean
 unfolding default_session
 script-clean written given holds options input script fits =
-    let items = all_items options (pairs_in input) in
-    let text = planned-script holds options input script in
-    let read = all-read given options (pairs_in input) in
-    subst (λ t. length t ≤ longest_input → (checked t 100 One).outcome ≡ Ok Clean) (sym text)
-    (written-clean written holds 100 One items read.given read.keys (short-ends items read.short)) fits
+    subst (λ t. length t ≤ longest_input → (checked t 100 One).outcome ≡ Ok Clean) (sym (planned-script holds options input script))
+    (written-clean written holds 100 One (all_items options (pairs_in input)) (all-read given options (pairs_in input))) fits

@@ -1,7 +1,7 @@
 -- That a session which runs the script of the pairs takes the steps of each path.
-use Rattle.std.proofs.Common.{◌≡◌, ◌≤◌, ℕ, Bool, true, false, List, [], ◌∷◌, ◌++◌, map, length, refl, sym, ◌∙◌, ap, subst}
-use Rattle.std.specs.Prelude.{Option, Some, None, Ok, Err, codes, if◌then◌else◌, ◌↔◌}
-use Rattle.std.specs.List.{All, AllZip}
+use Rattle.std.proofs.Common.{◌≡◌, ◌≤◌, ℕ, Bool, true, false, List, [], ◌∷◌, ◌++◌, map, length, refl, sym, ◌∙◌, ap, subst, arith}
+use Rattle.std.specs.Prelude.{Option, Some, Ok, Err, codes, if◌then◌else◌, ◌↔◌}
+use Rattle.std.specs.List.{All}
 use Rattle.std.proofs.lemmas.List.{append-nil}
 use Rattle.std.proofs.lemmas.List.Elements.{All-nil, All-cons, All-head, All-tail}
 use Rattle.quorum_sets.specs.Ids.{Ids}
@@ -11,8 +11,8 @@ use Rattle.ascii_text.proofs.Offered.{ends-before_blank}
 use Rattle.dd_file.specs.DirectiveText.{DirectiveText}
 use Rattle.dd_file.specs.Position.{longest_input}
 use Rattle.dd_file.specs.Grammar.{script_of}
-use Rattle.dd_file.specs.Rewritten.{Entry, rewritten_text}
-use Rattle.dd_file.specs.Laws.{DirectiveIsWellFormed, WrittenScript, IsSameItem, AreReadAgain, AreOver, LastIsRemoved, ReadAgain, directives_of}
+use Rattle.dd_file.specs.Rewritten.{rewritten_text}
+use Rattle.dd_file.specs.Laws.{DirectiveIsWellFormed, WrittenScript, directives_of}
 use Rattle.dd_file.specs.declared.item.Item.{Item}
 use Rattle.dd_file.specs.declared.item.Item.TheVariants.{Comment, Blank, Directive}
 use Rattle.conf_change.specs.Changer.{begun_with}
@@ -29,20 +29,19 @@ use Rattle.conf_session.specs.Commands.{Answer, answer, answered, after_answers,
 use Rattle.conf_session.specs.Input.{conf_state_read}
 use Rattle.conf_session.specs.Reply.{restored_with}
 use Rattle.conf_session.specs.Values.{read_arguments}
-use Rattle.conf_session.proofs.Offered.{same-answer}
 use Rattle.conf_change.specs.U64Lists.{HasU64Lists}
 use Rattle.plan_output.specs.Steps.{ids_down, stall_note}
 use Rattle.conf_tool.specs.Laws.{HasU64Pair, LeadsThrough, NoPair, WithPath, WithoutPath, PlanScriptLeads, pairs_in}
 use Rattle.conf_tool.specs.PlanAnswer.{path_between}
 use Rattle.conf_tool.specs.PlanScript.{note_items, restore_directive, script_items, default_session}
-use Rattle.conf_tool.specs.Reports.{session_after, answered_entries}
-use Rattle.conf_tool.specs.UndoScript.{step_directive, step_items, TakesSteps}
+use Rattle.conf_tool.specs.Reports.{answered_entries}
+use Rattle.conf_tool.specs.UndoScript.{step_items, TakesSteps}
 use Rattle.conf_tool.specs.declared.plan_options.PlanOptions.{PlanOptions}
 use Rattle.conf_tool.proofs.Theorems.PairByPair.{Pair, AreValid, all-valid}
-use Rattle.conf_tool.proofs.Theorems.PlanScript.{Answered, items_with, gap_with, all_items, planned-script, again-read, script-clean}
-use Rattle.conf_tool.proofs.Theorems.RewrittenScript.{ActualIsValid}
+use Rattle.conf_tool.proofs.Theorems.PlanScript.{Answered, items_with, gap_with, all_items, all-read, planned-script, script-clean}
+use Rattle.conf_tool.proofs.Theorems.RewrittenScript.{ActualIsValid, AreAgain, read-again}
 use Rattle.conf_tool.proofs.Theorems.PromisedPaths.{PathsAreRuns}
-use Rattle.conf_tool.proofs.Theorems.UndoneScript.{ChangesAreRead, directive_for, run-comes}
+use Rattle.conf_tool.proofs.Theorems.UndoneScript.{ChangesAreRead, directive_for, directives-items, run-comes, takes-again}
 
 -- ---- the directive that restores a configuration
 abbrev restore_for : Configuration → DirectiveText
@@ -109,17 +108,8 @@ directives-append (Comment lines ∷ xs) ys = directives-append xs ys
 directives-append (Blank lines ∷ xs) ys = directives-append xs ys
 directives-append (Directive directive ∷ xs) ys = ap (λ ds. directive ∷ ds) (directives-append xs ys)
 
-directives-steps : (steps : List Step) → directives_of (map step_directive steps) ≡ map directive_for steps
-directives-steps [] = refl
-directives-steps (step ∷ steps) = ap (λ ds. directive_for step ∷ ds) (directives-steps steps)
-
-directives-items : (steps : List Step) → directives_of (step_items steps) ≡ map directive_for steps
-directives-items [] = refl
-directives-items (step ∷ steps) = directives-steps (step ∷ steps)
-
 directives-note : (note : Option (List ℕ)) → directives_of (note_items note) ≡ []
-directives-note None = refl
-directives-note (Some note) = refl
+directives-note note = grind arith
 
 directives-script : (note : Option (List ℕ)) (now : Configuration) (steps : List Step) → directives_of (script_items note now steps) ≡ restore_for now ∷ map directive_for steps
 directives-script note now steps =
@@ -133,9 +123,7 @@ directives-pair down now (Err why) = refl
 directives-pair down now (Ok steps) = directives-script (stall_note down now steps) now steps
 
 directives-gap : (path : Answered) → directives_of (gap_with path) ≡ []
-directives-gap (Err why) = refl
-directives-gap (Ok []) = refl
-directives-gap (Ok (step ∷ steps)) = refl
+directives-gap path = grind arith
 
 directives-all : (options : PlanOptions) (pairs : List Pair) → directives_of (all_items options pairs) ≡ own_directives options pairs
 directives-all options [] = refl
@@ -179,83 +167,28 @@ own-leads restored_is own read runs options session (pair ∷ pairs) known =
         (rest (after_answers session (first ∷ map directive_for steps)))
 
 -- ---- and so do those that are read again
--- a directive of the same command, which each session answers alike
-record IsSame (directive again : DirectiveText) : Type 0 where
-  command : again.command ≡ directive.command
-  answers : (session : SessionState) → answer session again ≡ answer session directive
-
-none-left : (session : SessionState) (items : List Item) → [] ≡ answered_entries session items → items ≡ []
-none-left session [] e = refl
-none-left session (item ∷ items) e = cc
-
--- the item of the first entry, and the entries after it
-abbrev first_item : Item → List Entry → Item
-first_item default [] = default
-first_item default (entry ∷ entries) = entry.item
-
-abbrev after_first : List Entry → List Entry
-after_first [] = []
-after_first (entry ∷ entries) = entries
-
-again-same : (session : SessionState) (items : List Item) (entries : List Entry) (again : List Item) → entries ≡ answered_entries session items → AreReadAgain entries again →
-    AllZip IsSame (directives_of items) (directives_of again)
-again-same session [] entries again e AreOver = tt
-again-same session (one ∷ items) entries again e AreOver = cc
-again-same session [] entries again e (LastIsRemoved actual) = cc
-again-same session (one ∷ items) entries again e (LastIsRemoved actual) =
-    let item_is : Blank ([] ∷ []) ≡ one = ap (first_item one) e in
-    let ended : items ≡ [] = none-left (session_after session one) items (ap after_first e) in
-    rw (sym item_is, ended) tt
-again-same session [] entries again e (ReadAgain n item other actual more others is read) = cc
-again-same session (one ∷ items) entries again e (ReadAgain n item other actual more others is read) =
-    by_item one (subst (λ i. IsSameItem n actual i other) (ap (first_item one) e) is) (again-same (session_after session one) items more others (ap after_first e) read)
-  where
-    by_item : (one : Item) → IsSameItem n actual one other → AllZip IsSame (directives_of items) (directives_of others) → AllZip IsSame (directives_of (one ∷ items)) (directives_of (other ∷ others))
-    by_item (Comment lines) same rest = rw same.1 rest
-    by_item (Blank lines) same rest = rw same.1 rest
-    by_item (Directive directive) same rest =
-        rw same.1 (record { command = same.2.command; answers = λ session. same-answer n actual directive same.0 session same.2 }, rest)
-
--- directives that are read again take the steps
-record TakesAgain (session : SessionState) (directives again : List DirectiveText) (steps : List Step) : Type 0 where
-  taken : TakesSteps session again steps
-  after : after_answers session again ≡ after_answers session directives
-
-takes-again : (session : SessionState) (directives again : List DirectiveText) (steps : List Step) → AllZip IsSame directives again → TakesSteps session directives steps → TakesAgain session directives again steps
-takes-again session [] [] [] same taken = record { taken = tt; after = refl }
-takes-again session [] [] (step ∷ steps) same taken = absurd taken
-takes-again session [] (other ∷ again) steps same taken = absurd same
-takes-again session (directive ∷ directives) [] steps same taken = absurd same
-takes-again session (directive ∷ directives) (other ∷ again) [] same taken = absurd taken
-takes-again session (directive ∷ directives) (other ∷ again) (step ∷ steps) same taken =
-    let answers = same.0.answers session in
-    let after = ap (λ (a : Answer). a.session) answers in
-    let rest = takes-again (answer session directive).session directives again steps same.1 taken.1 in
-    let moved = subst (λ s. TakesSteps s again steps × (after_answers s again ≡ after_answers (answer session directive).session directives)) (sym after) (rest.taken, rest.after) in
-    record { taken = ((taken.0.0, taken.0.1, answers ∙ taken.0.2), moved.0); after = moved.1 }
-
 -- directives that are read again, in two parts
-record AreParts (xs ys again : List DirectiveText) : Type 0 where
+record AreParts (session : SessionState) (xs ys again : List DirectiveText) : Type 0 where
   first : List DirectiveText
   second : List DirectiveText
   whole : again ≡ first ++ second
-  same_first : AllZip IsSame xs first
-  same_second : AllZip IsSame ys second
+  same_first : AreAgain session xs first
+  same_second : AreAgain (after_answers session xs) ys second
 
-parts-of : (xs ys again : List DirectiveText) → AllZip IsSame (xs ++ ys) again → AreParts xs ys again
-parts-of [] ys again same = record { first = []; second = again; whole = refl; same_first = tt; same_second = same }
-parts-of (x ∷ xs) ys [] same = absurd same
-parts-of (x ∷ xs) ys (z ∷ again) same =
-    let rest = parts-of xs ys again same.1 in
+parts-of : (session : SessionState) (xs ys again : List DirectiveText) → AreAgain session (xs ++ ys) again → AreParts session xs ys again
+parts-of session [] ys again same = record { first = []; second = again; whole = refl; same_first = tt; same_second = same }
+parts-of session (x ∷ xs) ys [] same = absurd same
+parts-of session (x ∷ xs) ys (z ∷ again) same =
+    let rest = parts-of (answer session x).session xs ys again same.1 in
     record { first = z ∷ rest.first; second = rest.second; whole = ap (λ ds. z ∷ ds) rest.whole; same_first = (same.0, rest.same_first); same_second = rest.same_second }
 
-leads-again : (options : PlanOptions) (session : SessionState) (directives again : List DirectiveText) (pairs : List Pair) → AllZip IsSame directives again →
+leads-again : (options : PlanOptions) (session : SessionState) (directives again : List DirectiveText) (pairs : List Pair) → AreAgain session directives again →
     LeadsThrough options session directives pairs → LeadsThrough options session again pairs
 leads-again options session [] [] pairs same (NoPair at) = NoPair session
 leads-again options session [] (other ∷ again) pairs same (NoPair at) = absurd same
 leads-again options session directives [] pairs same (WithPath at first others more pair rest steps path takes leads) = absurd same
 leads-again options session directives (other ∷ again) pairs same (WithPath at first others more pair rest steps path takes leads) =
-    let parts = parts-of others more again same.1 in
+    let parts = parts-of (answer session first).session others more again same.1 in
     let answers = same.0.answers session in
     let after = ap (λ (a : Answer). a.session) answers in
     let taken = takes-again (answer session first).session others parts.first steps parts.same_first takes.taken in
@@ -296,9 +229,10 @@ script-leads written given holds restored_is own read runs = record {
   leads = λ options input script small fits.
       let pairs = pairs_in input in
       let text = planned-script holds options input script in
-      let again = again-read written given holds options pairs (subst (λ t. length t ≤ longest_input) text fits) in
-      let same = again-same default_session (all_items options pairs) _ _ refl again.1 in
+      let items = all_items options pairs in
+      let again = directives_of (script_of (rewritten_text (answered_entries default_session items))).items in
+      let back = read-again written holds default_session items (all-read given options pairs) (subst (λ t. length t ≤ longest_input) text fits) in
       let leads = own-leads restored_is own read (between-runs runs) options default_session pairs (known-pairs options pairs (all-valid input) small) in
       subst (λ t. LeadsThrough options default_session (directives_of (script_of t).items) pairs) (sym text)
-      (leads-again options default_session (own_directives options pairs) _ pairs (subst (λ ds. AllZip IsSame ds (directives_of (script_of (rewritten_text (answered_entries default_session (all_items options pairs)))).items)) (directives-all options pairs) same) leads);
+      (leads-again options default_session (own_directives options pairs) again pairs (subst (λ ds. AreAgain default_session ds again) (directives-all options pairs) back.1) leads);
 }

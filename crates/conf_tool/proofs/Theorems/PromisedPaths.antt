@@ -17,7 +17,7 @@ use Rattle.plan_output.specs.Steps.{ids_down}
 use Rattle.conf_tool.specs.Laws.{IsPromisedPath, LeadsAsPromised, PrintedPathKeepsPromises}
 use Rattle.conf_tool.specs.PlanAnswer.{path_between, reply_text}
 use Rattle.conf_tool.specs.declared.plan_options.PlanOptions.{PlanOptions}
-use Rattle.conf_tool.proofs.Theorems.PairByPair.{HoldsOfText, each-printed}
+use Rattle.conf_tool.proofs.Theorems.PairByPair.{HoldsOfText, each-printed, pair-printed}
 
 -- where there is a path, its text is printed
 pub path_between-path : (options : PlanOptions) (now target : Configuration) → has_voter now ≡ true → has_voter target ≡ true → has_path options.strategy now target ≡ true →
@@ -75,4 +75,7 @@ pair-keeps_promises given options session number pair valid = λ voter_now voter
 )
 
 pub printed-keeps_promises : IsGiven → PrintedPathKeepsPromises
-printed-keeps_promises given options input = each-printed options (IsPromisedPath options) (pair-keeps_promises given options) input
+printed-keeps_promises given = record {
+  each = λ options. (each-printed options (IsPromisedPath options) (pair-keeps_promises given options));
+  texts = λ options. (pair-printed options (IsPromisedPath options) (pair-keeps_promises given options));
+}

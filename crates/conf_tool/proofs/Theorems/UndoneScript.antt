@@ -1,8 +1,7 @@
 -- A session that runs the script which undoes its last changes takes the steps of the plan, and comes to the configuration of before them.
-use Rattle.std.proofs.Common.{◌≡◌, ℕ, ◌≤◌, Bool, true, false, List, [], ◌∷◌, ◌++◌, map, length, refl, sym, ap, ◌∙◌, subst}
+use Rattle.std.proofs.Common.{◌≡◌, ℕ, ◌≤◌, true, false, List, [], ◌∷◌, ◌++◌, map, length, refl, sym, ap, ◌∙◌, subst, arith}
 use Rattle.std.specs.Prelude.{Some, Result, Ok, codes, decimal}
 use Rattle.std.specs.List.{All, join_with_byte}
-use Rattle.std.proofs.lemmas.Bool.{true≢false}
 use Rattle.std.proofs.lemmas.List.{append-nil}
 use Rattle.std.proofs.lemmas.List.Elements.{All-head, All-tail}
 use Rattle.ascii_text.specs.Lines.{newline, text_of}
@@ -10,20 +9,17 @@ use Rattle.ascii_text.specs.WhiteSpace.{trimmed, without_trailing_space}
 use Rattle.ascii_text.specs.Tokens.{tokens_in}
 use Rattle.ascii_text.proofs.Offered.{tokens_in-at_space, tokens_in-ends}
 use Rattle.dd_file.specs.DirectiveText.{DirectiveText}
-use Rattle.dd_file.specs.Laws.{AreReadAgain, AreOver, LastIsRemoved, ReadAgain, DirectiveIsWellFormed, IsSameItem, WrittenScript, directives_of}
+use Rattle.dd_file.specs.Laws.{DirectiveIsWellFormed, WrittenScript, directives_of}
 use Rattle.dd_file.specs.Position.{longest_input}
 use Rattle.dd_file.specs.Grammar.{script_of}
 use Rattle.dd_file.specs.DirectiveLine.{ArgumentText}
-use Rattle.dd_file.specs.Rewritten.{Entry, entry, rewritten_text}
-use Rattle.dd_file.specs.declared.item.Item.{Item}
-use Rattle.dd_file.specs.declared.item.Item.TheVariants.{Comment, Blank, Directive}
+use Rattle.dd_file.specs.Rewritten.{rewritten_text}
 use Rattle.conf_change.specs.ChangeList.{BadToken, letter_of, changes_in, changes_in_tokens}
 use Rattle.conf_change.specs.Changer.{ChangerState, Accepts, moved_to, moved_by, changer_after}
 use Rattle.conf_change.specs.Configuration.{Configuration}
 use Rattle.conf_change.specs.Step.{changes_of}
 use Rattle.conf_change.specs.declared.change.Change.{Change}
 use Rattle.conf_change.specs.declared.change.Kind.{Kind}
-use Rattle.conf_change.specs.declared.change.Kind.TheVariants.{Voter, Learner, Remove, Update}
 use Rattle.conf_change.specs.declared.floor.Floor.{Floor}
 use Rattle.conf_change.specs.declared.refused.Refused.{Refused}
 use Rattle.conf_change.specs.declared.step.Step.{Step}
@@ -38,13 +34,12 @@ use Rattle.conf_session.specs.SessionState.{SessionState, IsSession, new_session
 use Rattle.conf_session.specs.Undo.{LeadsBack, undo_plan_of}
 use Rattle.conf_session.specs.Values.{read_arguments}
 use Rattle.conf_session.specs.declared.undo_fault.UndoFault.{UndoFault}
-use Rattle.conf_session.proofs.Offered.{same-answer}
 use Rattle.conf_tool.specs.Laws.{LeadsBackBy, UndoScriptLeadsBack}
 use Rattle.conf_tool.specs.Outputs.{undone_unless}
-use Rattle.conf_tool.specs.Reports.{session_after_all, answered_entries, actual_for}
-use Rattle.conf_tool.specs.UndoScript.{step_command, step_line, change_lines, comment, step_directive, undo_items, TakesSteps}
-use Rattle.conf_tool.proofs.Theorems.JoinedScript.{left-by, undo-read}
-use Rattle.conf_tool.proofs.Theorems.RewrittenScript.{ActualIsValid}
+use Rattle.conf_tool.specs.Reports.{session_after_all, answered_entries}
+use Rattle.conf_tool.specs.UndoScript.{step_command, step_line, change_lines, step_directive, step_items, undo_items, TakesSteps}
+use Rattle.conf_tool.proofs.Theorems.JoinedScript.{left-by, steps-read}
+use Rattle.conf_tool.proofs.Theorems.RewrittenScript.{ActualIsValid, AreAgain, read-again}
 
 -- ---- the input of a step's directive is read as the step's changes
 -- the printed changes of a step are read as they are
@@ -56,10 +51,7 @@ input_of changes = trimmed (text_of (change_lines changes))
 
 -- a letter is no white space
 trimmed-letter : (kind : Kind) (rest : List ℕ) → trimmed (letter_of kind ∷ rest) ≡ without_trailing_space (letter_of kind ∷ rest)
-trimmed-letter Voter rest = refl
-trimmed-letter Learner rest = refl
-trimmed-letter Remove rest = refl
-trimmed-letter Update rest = refl
+trimmed-letter kind rest = grind arith
 
 -- what follows the first letter
 abbrev after_letter : Change → List Change → List ℕ
@@ -67,8 +59,7 @@ after_letter change [] = decimal change.id
 after_letter change (next ∷ changes) = decimal change.id ++ 32 ∷ join_with_byte 32 (map change_text (next ∷ changes))
 
 begins-letter : (change : Change) (changes : List Change) → join_with_byte 32 (map change_text (change ∷ changes)) ≡ letter_of change.kind ∷ after_letter change changes
-begins-letter change [] = refl
-begins-letter change (next ∷ changes) = refl
+begins-letter change changes = grind arith
 
 -- a line of input has the tokens of its text
 tokens_in-of_input : (change : Change) (changes : List Change) → tokens_in (input_of (change ∷ changes)) ≡ tokens_in (join_with_byte 32 (map change_text (change ∷ changes)))
@@ -143,70 +134,41 @@ run-comes read session (step ∷ steps) target small run =
     record { taken = ((next, accepts, answers), moved.taken); there = moved.there }
 
 -- ---- and so from the script that is read again
-record Again (session : SessionState) (steps : List Step) (again : List Item) : Type 0 where
-  taken : TakesSteps session (directives_of again) steps
-  after : session_after_all session again ≡ after_answers session (map directive_for steps)
-
--- a blank is none of the items that undo changes
-abbrev is_blank : Item → Bool
-is_blank (Comment lines) = false
-is_blank (Blank lines) = true
-is_blank (Directive directive) = false
-
-abbrev begins_blank : List Entry → Bool
-begins_blank [] = false
-begins_blank (entry ∷ entries) = is_blank entry.item
-
-abbrev nothing_to_do : Item
-nothing_to_do = comment (codes "nothing to do")
-
-nothing-again : (again : List Item) → AreReadAgain [] again → again ≡ []
-nothing-again again AreOver = refl
-
-steps-again : (session : SessionState) (steps : List Step) (entries : List Entry) (again : List Item) → entries ≡ answered_entries session (map step_directive steps) → AreReadAgain entries again
-    → TakesSteps session (map directive_for steps) steps → Again session steps again
-steps-again session [] entries again e AreOver taken = record { taken = tt; after = refl }
-steps-again session (step ∷ steps) entries again e AreOver taken = cc
-steps-again session [] entries again e (LastIsRemoved actual) taken = cc
-steps-again session (step ∷ steps) entries again e (LastIsRemoved actual) taken = absurd (true≢false (ap begins_blank e))
-steps-again session [] entries again e (ReadAgain n item other actual more others is read) taken = cc
-steps-again session (step ∷ steps) entries again e (ReadAgain n item other actual more others is read) taken =
-    let directive = directive_for step in
-    let begins : entry item actual ≡ entry (Directive directive) (actual_for session (Directive directive)) = cc in
-    let item_is = ap (λ (x : Entry). x.item) begins in
-    let same = subst (λ i. IsSameItem n actual i other) item_is is in
-    let answers : answer session same.0 ≡ answer session directive = same-answer n actual directive same.0 session same.2 in
-    let after = ap (λ (a : Answer). a.session) answers in
-    let rest = steps-again (answer session directive).session steps more others (cc) read taken.1 in
-    let Taken : SessionState → Type 0 = λ s. TakesSteps s (directives_of others) steps in
-    let Left : SessionState → Type 0 = λ s. session_after_all s others ≡ after_answers (answer session directive).session (map directive_for steps) in
-    rw same.1 (record {
-      taken = ((taken.0.0, taken.0.1, answers ∙ taken.0.2), subst Taken (sym after) rest.taken);
-      after = subst Left (sym after) rest.after;
-    })
-
-undo-again : (session : SessionState) (steps : List Step) (again : List Item) → AreReadAgain (answered_entries session (undo_items (Ok steps))) again
-    → TakesSteps session (map directive_for steps) steps → Again session steps again
-undo-again session [] again read taken = by _ again refl read
+pub directives-items : (steps : List Step) → directives_of (step_items steps) ≡ map directive_for steps
+directives-items [] = refl
+directives-items (step ∷ steps) = of_steps (step ∷ steps)
   where
-    by : (entries : List Entry) (again : List Item) → entries ≡ answered_entries session (undo_items (Ok [])) → AreReadAgain entries again → Again session [] again
-    by entries again e AreOver = cc
-    by entries again e (LastIsRemoved actual) = absurd (true≢false (ap begins_blank e))
-    by entries again e (ReadAgain n item other actual more others is read) =
-        let begins : entry item actual ≡ entry nothing_to_do [] = cc in
-        let ended : more ≡ [] = cc in
-        let same = subst (λ i. IsSameItem n actual i other) (ap (λ (x : Entry). x.item) begins) is in
-        let none = nothing-again others (subst (λ es. AreReadAgain es others) ended read) in
-        rw (same.1, none) (record { taken = tt; after = refl })
-undo-again session (step ∷ steps) again read taken = steps-again session (step ∷ steps) _ again refl read taken
+    of_steps : (steps : List Step) → directives_of (map step_directive steps) ≡ map directive_for steps
+    of_steps [] = refl
+    of_steps (step ∷ steps) = ap (λ ds. directive_for step ∷ ds) (of_steps steps)
+
+-- directives that are read again take the steps
+pub record TakesAgain (session : SessionState) (directives again : List DirectiveText) (steps : List Step) : Type 0 where
+  pub taken : TakesSteps session again steps
+  pub after : after_answers session again ≡ after_answers session directives
+
+pub takes-again : (session : SessionState) (directives again : List DirectiveText) (steps : List Step) → AreAgain session directives again → TakesSteps session directives steps → TakesAgain session directives again steps
+takes-again session [] [] [] same taken = record { taken = tt; after = refl }
+takes-again session [] [] (step ∷ steps) same taken = absurd taken
+takes-again session [] (other ∷ again) steps same taken = absurd same
+takes-again session (directive ∷ directives) [] steps same taken = absurd same
+takes-again session (directive ∷ directives) (other ∷ again) [] same taken = absurd taken
+takes-again session (directive ∷ directives) (other ∷ again) (step ∷ steps) same taken =
+    let answers = same.0.answers session in
+    let after = ap (λ (a : Answer). a.session) answers in
+    let rest = takes-again (answer session directive).session directives again steps same.1 taken.1 in
+    let moved = subst (λ s. TakesSteps s again steps × (after_answers s again ≡ after_answers (answer session directive).session directives)) (sym after) (rest.taken, rest.after) in
+    record { taken = ((taken.0.0, taken.0.1, answers ∙ taken.0.2), moved.0); after = moved.1 }
 
 undo_of-session : WrittenScript → DirectiveIsWellFormed → ActualIsValid → ChangesAreRead → (session : SessionState) (count : ℕ) (steps : List Step) → LeadsBack session count steps → IsPlan steps →
     length (rewritten_text (answered_entries session (undo_items (Ok steps)))) ≤ longest_input → LeadsBackBy session count steps (script_of (rewritten_text (answered_entries session (undo_items (Ok steps)))))
 undo_of-session written given holds changes session count steps back plan fits =
-    let read = undo-read written given holds session (Ok steps) fits in
+    let again = (script_of (rewritten_text (answered_entries session (step_items steps)))).items in
+    let read = read-again written holds session (step_items steps) (steps-read given steps) fits in
     let comes = run-comes changes session steps back.older plan.u64_ids back.run in
-    let again = undo-again session steps _ read.1 comes.taken in
-    record { whole = read.0; taken = again.taken; back = back.is_kept ∙ ap Some (sym (ap current again.after ∙ comes.there)) }
+    let same = subst (λ ds. AreAgain session ds (directives_of again)) (directives-items steps) read.1 in
+    let takes = takes-again session (map directive_for steps) (directives_of again) steps same comes.taken in
+    record { whole = read.0; taken = takes.taken; back = back.is_kept ∙ ap Some (sym (ap current (left-by session again ∙ takes.after) ∙ comes.there)) }
 
 pub undo_script-leads_back : WrittenScript → DirectiveIsWellFormed → ActualIsValid
     → ((history : ℕ) (floor : Floor) (directives : List DirectiveText) → IsSession (after_answers (new_session history floor) directives))

@@ -212,18 +212,31 @@ impl PartByPart<Line> for Planning {
 /// Writes the reply to the pair that the values of `--from` and `--to` are, and returns the status of the run.
 pub(super) fn answer_texts<W: Sink>(
     alloc: Global,
-    options: PlanOptions,
+    options: &PlanOptions,
     texts: PairTexts<'_>,
     writer: &mut W,
 ) -> Result<Status, ToolFault>
-    ensures output { Means (planned_texts options texts.entry.from.now texts.entry.to.now) result (W.contents writer.old) (W.contents writer.new) }
+    ensures output { Means (planned_texts options.now texts.entry.from.now texts.entry.to.now) result (W.contents writer.old) (W.contents writer.new) }
     ensures read { is_read_failure result ≡ false }
     ensures write { W.has_failed writer.new ≡ (W.has_failed writer.old || is_write_failure result) }
 {
-    let (now, target) = pair_of(alloc, texts.from.as_bytes(), texts.to.as_bytes())?;
-    let (text, status) = first_answer(alloc, &options, &now, &target)?;
+    let (text, status) = texts_answer(alloc, options, texts)?;
     write_all(writer, text.as_slice())?;
     Ok(status)
+}
+
+// The reply to that pair, and its status.
+fn texts_answer(
+    alloc: Global,
+    options: &PlanOptions,
+    texts: PairTexts<'_>,
+) -> Result<(Vec<u8>, Status), ToolFault>
+    ensures text { IfOk result (λ answer. (planned_texts options.now texts.entry.from.now texts.entry.to.now).text ≡ answer.0.items) }
+    ensures outcome { IfOk result (λ answer. (planned_texts options.now texts.entry.from.now texts.entry.to.now).outcome ≡ Ok answer.1) }
+    ensures fault { IfErr result (IsFaultOf (pair_of_texts texts.entry.from.now texts.entry.to.now)) }
+{
+    let (now, target) = pair_of(alloc, texts.from.as_bytes(), texts.to.as_bytes())?;
+    first_answer(alloc, options, &now, &target)
 }
 
 // The reply to the first pair of a run, and its status.

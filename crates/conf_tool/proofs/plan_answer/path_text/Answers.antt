@@ -1,6 +1,6 @@
-use Rattle.std.proofs.Common.{◌≡◌, ◌∙◌, ◌++◌, refl, sym, ap, subst}
-use Rattle.std.specs.Prelude.{Option, Some, None, option_map, IfOk, OnOk}
-use Rattle.quorum_sets.specs.Ids.{Ids}
+use Rattle.std.proofs.Common.{◌≡◌, ◌∙◌, ◌++◌, sym, ap, subst}
+use Rattle.std.proofs.lemmas.Iterator.Adapters.{option_map_id}
+use Rattle.std.specs.Prelude.{option_map, IfOk, OnOk}
 use Rattle.conf_plan.specs.PlanText.{plan_text}
 use Rattle.plan_output.specs.Json.{json_text}
 use Rattle.plan_output.specs.Table.{table_text}
@@ -12,11 +12,6 @@ use Rattle.conf_tool.specs.PlanScript.{script_items, script_text}
 use Rattle.conf_tool.specs.Reports.{session_after_all}
 use Rattle.conf_tool.proofs.plan_answer.path_text.Goals as goal
 use Rattle.conf_tool.proofs.plan_answer.path_text.Goals.{in-Steps+in_ok-add_steps-in-Steps, in-Table+in_ok-add_table-in-Table, in-Json+in_ok-add_json_lines-in-Json}
-
--- a set of a session is its ids
-same-ids : (down : Option Ids) → option_map (λ set. set) down ≡ down
-same-ids None = refl
-same-ids (Some set) = refl
 
 pub returns-in-Script-clause-text : goal.returns-in-Script-clause-text
 returns-in-Script-clause-text c =
@@ -47,12 +42,12 @@ returns-clause-text c =
       | in-Table+in_ok-add_table-in-Table w ↦
           rw w.text-is (
           w.in_ok-add_table-in-Table.ensures.ok ∙ ap (λ xs. xs ++ table_text now steps (option_map (λ set. set) (option_map (λ x. x.now) c.as_ref-down.result))) c.new-text.ensures.items
-          ∙ ap (table_text now steps) (same-ids _ ∙ c.as_ref-down.ensures.value) ∙ sym (ap (λ output. text_as output session c.args.number options.down now steps) w.in-Table.is)
+          ∙ ap (table_text now steps) (option_map_id _ ∙ c.as_ref-down.ensures.value) ∙ sym (ap (λ output. text_as output session c.args.number options.down now steps) w.in-Table.is)
           )
       | in-Json+in_ok-add_json_lines-in-Json w ↦
           rw w.text-is (
           w.in_ok-add_json_lines-in-Json.ensures.ok ∙ ap (λ xs. xs ++ json_text c.args.number now steps (option_map (λ set. set) (option_map (λ x. x.now) c.as_ref-down.result))) c.new-text.ensures.items
-          ∙ ap (json_text c.args.number now steps) (same-ids _ ∙ c.as_ref-down.ensures.value) ∙ sym (ap (λ output. text_as output session c.args.number options.down now steps) w.in-Json.is)
+          ∙ ap (json_text c.args.number now steps) (option_map_id _ ∙ c.as_ref-down.ensures.value) ∙ sym (ap (λ output. text_as output session c.args.number options.down now steps) w.in-Json.is)
           )
     ]
 

@@ -1,11 +1,10 @@
-use Rattle.std.proofs.Common.{Bool, ℕ, ◌+◌, ◌<◌, length, get_or, true, false, not, ◌&&◌, ◌≡◌, refl, sym, map, take, ap, ap₂, ◌∙◌, arith}
+use Rattle.std.proofs.Common.{Bool, ℕ, ◌+◌, ◌<◌, length, get_or, true, false, not, ◌&&◌, ◌≡◌, sym, map, take, ap, ap₂, ◌∙◌, arith}
 use Rattle.std.specs.Prelude.{◌==◌}
 use Rattle.std.proofs.lemmas.Bool.{and_parts}
 use Rattle.std.proofs.lemmas.List.{map_more}
 use Rattle.clap.specs.Words.{App, with_subcommand}
 use Rattle.conf_tool.specs.Program.{mode_command, modes, program}
 use Rattle.conf_tool.specs.declared.mode.Mode.{Mode}
-use Rattle.conf_tool.specs.declared.mode.Mode.TheVariants.{Lines, Check, Rewrite, Undo, Plan}
 use Rattle.conf_tool.specs.declared.program.OptionNames.{OptionNames}
 use Rattle.conf_tool.proofs.program.program.Goals as goal
 
@@ -24,11 +23,7 @@ with_one_more names i d lt =
     ap₂ (λ leaf subs. record { top = record ((program names).top) { is_leaf = leaf }; subs = subs }) (sym (one_more i)) (sym (map_more (mode_command names) modes i d lt))
 
 is_plain : (names : OptionNames) (mode : Mode) → (mode_command names mode).is_plain ≡ true
-is_plain names Lines = refl
-is_plain names Check = refl
-is_plain names Rewrite = refl
-is_plain names Undo = refl
-is_plain names Plan = refl
+is_plain names mode = grind arith
 
 -- A mode that is plain has no global argument, which is the third part of being plain.
 pub loop-mode-preserved : goal.loop-mode-preserved

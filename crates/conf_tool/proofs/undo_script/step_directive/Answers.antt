@@ -1,19 +1,15 @@
-use Rattle.std.proofs.Common.{◌≡◌, ◌∷◌, [], List, ℕ, true, false, map, vec_items, refl, sym, ap, ◌∙◌}
+use Rattle.std.proofs.Common.{◌≡◌, ◌∷◌, [], List, ℕ, map, vec_items, sym, ap, ◌∙◌, arith}
 use Rattle.std.specs.Prelude.{Some, None, option_map}
 use Rattle.dd_file.specs.DirectiveLine.{command_of}
 use Rattle.dd_file.specs.Script.{directive}
 use Rattle.conf_change.specs.Step.{changes_of}
 use Rattle.conf_change.specs.declared.step.Step.{Step}
-use Rattle.conf_change.specs.declared.step.Step.TheVariants.{Simple, EnterJoint, LeaveJoint}
 use Rattle.conf_tool.specs.UndoScript.{step_command, step_line, change_lines, step_directive}
 use Rattle.conf_tool.proofs.undo_script.step_directive.Goals as goal
 
 -- a step's line states its command
 parses-command : (step : Step) → command_of (step_line step) ≡ Some (step_command step)
-parses-command (Simple changes) = refl
-parses-command (EnterJoint true changes) = refl
-parses-command (EnterJoint false changes) = refl
-parses-command LeaveJoint = refl
+parses-command step = grind arith
 
 -- such a line and the changes are an item
 made : (step : Step) (line : List ℕ) (input : List (List ℕ)) → line ≡ step_line step → input ≡ change_lines (changes_of step) → option_map (λ command. directive 1 command (line ∷ []) input []) (command_of line) ≡ Some (step_directive step)

@@ -1,5 +1,6 @@
 use Rattle.std.proofs.Common.{ap, ◌≤◌, ◌∙◌, ◌++◌, ◌∷◌, [], sym, subst, refl, arith}
 use Rattle.std.specs.Prelude.{Some}
+use Rattle.std.proofs.Math.Bool.{or-false}
 use Rattle.std.proofs.lemmas.Result.{err_from_is_err_and}
 use Rattle.dd_file.specs.Device.{AppendsPart, LosesPrefix}
 use Rattle.dd_file.specs.Position.{longest_input, start}
@@ -8,7 +9,7 @@ use Rattle.dd_file.specs.ReaderState.{ReaderState}
 use Rattle.conf_tool.specs.Answered.{script}
 use Rattle.conf_tool.specs.Run.{Means}
 use Rattle.conf_tool.proofs.ModeInput.PositionReached.{Reached, loses-nothing, loses-more, reached-begin, reached-end, reached-fault, reached-part, reached-next, reached-prefix}
-use Rattle.conf_tool.proofs.ModeInput.Faults.{input-fault, input-uncut, reader-fault, reader-means, reader-read, reader-unwritten, stop-means, or-false, or-fault}
+use Rattle.conf_tool.proofs.ModeInput.Faults.{input-fault, input-uncut, reader-fault, reader-means, reader-read, reader-unwritten, stop-means, or-fault}
 use Rattle.conf_tool.proofs.run.part_by_part.run_by_part.Goals as goal
 
 pub each-init : goal.each-init

@@ -5,7 +5,7 @@ use Rattle.std.proofs.lemmas.Option.{slice_get-get_or}
 use Rattle.dd_file.specs.RewriterState.{Continues, BreaksOff}
 use Rattle.conf_change.specs.declared.step.Step.TheVariants.{LeaveJoint}
 use Rattle.conf_tool.specs.Reports.{answered_text, session_after_all}
-use Rattle.conf_tool.proofs.ModeInput.Faults.{or-false}
+use Rattle.std.proofs.Math.Bool.{or-false}
 use Rattle.conf_tool.proofs.Modes.Rewrite.{ok-by, err-by}
 use Rattle.conf_tool.proofs.Modes.Undo.{no-steps, steps-more, steps-stopped, steps-broken, steps-over, steps-ran}
 use Rattle.conf_tool.proofs.run.step_items.write_steps.Goals as goal

@@ -1,8 +1,8 @@
 use Rattle.std.proofs.Common.{sym, ◌∙◌}
-use Rattle.std.specs.Prelude.{⊤}
+use Rattle.std.specs.Prelude.{⊤, Some, None}
 use Rattle.std.proofs.lemmas.Result.{err_from_is_err_and}
 use Rattle.conf_tool.specs.AnsweredLaws.{wrote-prefix}
-use Rattle.conf_tool.proofs.Modes.Plan.{on-ok, on-err, planned-passed, planned-first, planned-second, planned-broken, planned-stop_first, planned-stop_second, stop-unwritten}
+use Rattle.conf_tool.proofs.Modes.Plan.{on-ok, on-err, planned-passed, planned-first, planned-second, planned-broken, planned-stop, stop-unwritten}
 use Rattle.conf_tool.proofs.run.plan.PlanningPartByPartLine.answer.Goals as goal
 
 pub returns-then-is_skipped-clause-answered : goal.returns-then-is_skipped-clause-answered
@@ -17,7 +17,7 @@ returns-in_err-current_of-in-None-clause-part g c =
 pub returns-in_err-current_of-in-None-clause-kinds : goal.returns-in_err-current_of-in-None-clause-kinds
 returns-in_err-current_of-in-None-clause-kinds g c =
     let p = err_from_is_err_and c.from_residual.result c.from_residual.ensures.1 in
-    rw (p.1, p.2) (planned-stop_first _ _ _ _ _ _ _ _ _ (sym c.in-None.ensures.value) (rw c.as_slice.ensures at (sym c.is_skipped.ensures ∙ c.if-is_skipped.false)) (rw c.as_slice-in-None.ensures at c.in_err-current_of-in-None.ensures.fault))
+    rw (p.1, p.2) (planned-stop _ _ _ _ _ None _ _ _ _ (sym c.in-None.ensures.value) (rw c.as_slice.ensures at (sym c.is_skipped.ensures ∙ c.if-is_skipped.false)) (rw c.as_slice-in-None.ensures at c.in_err-current_of-in-None.ensures.fault))
 
 pub returns-in_ok-current_of-in-None-clause-answered : goal.returns-in_ok-current_of-in-None-clause-answered
 returns-in_ok-current_of-in-None-clause-answered g c = λ total parts before planned.
@@ -32,7 +32,7 @@ returns-in_err-target-in-Some-clause-part g c =
 pub returns-in_err-target-in-Some-clause-kinds : goal.returns-in_err-target-in-Some-clause-kinds
 returns-in_err-target-in-Some-clause-kinds g c =
     let p = err_from_is_err_and c.from_residual-in_err-target-in-Some.result c.from_residual-in_err-target-in-Some.ensures.1 in
-    rw (p.1, p.2) (planned-stop_second _ _ _ _ _ _ _ c.in-Some.now _ _ (sym c.in-Some.ensures.value) (rw c.as_slice.ensures at (sym c.is_skipped.ensures ∙ c.if-is_skipped.false)) (rw c.as_slice-in-Some.ensures at c.in_err-target-in-Some.ensures.fault))
+    rw (p.1, p.2) (planned-stop _ _ _ _ _ (Some c.in-Some.now) _ _ _ _ (sym c.in-Some.ensures.value) (rw c.as_slice.ensures at (sym c.is_skipped.ensures ∙ c.if-is_skipped.false)) (rw c.as_slice-in-Some.ensures at c.in_err-target-in-Some.ensures.fault))
 
 pub returns-in_ok-target-in-Some-clause-answered : goal.returns-in_ok-target-in-Some-clause-answered
 returns-in_ok-target-in-Some-clause-answered g c =
