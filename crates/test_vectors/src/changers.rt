@@ -1,17 +1,14 @@
 //! Changes of a configuration.
 use crate::equal::{has_ids, is_same};
 use crate::sets::ids;
-use crate::texts::appends;
-use crate::twice;
+use crate::shown::{Shown, is_shown};
+use crate::{appends, twice};
 use conf_change::{
-    Change, Changer, Changes, Config, Progress, Refused, Step, StepKind, TokenFault, Transition,
-    read_changes, taken, union, write_config, write_progress, write_refused, write_token_fault,
+    Change, Changer, Changes, Refused, Step, StepKind, TokenFault, Transition, read_changes, taken,
+    union, write_refused, write_token_fault,
 };
 use quorum_sets::{InlineIds, MemberSet, NoMemory, TreeIds};
 use std::alloc::Global;
-
-/// The text of a configuration, and those of its members' progress in ascending order.
-pub(crate) type Shown = (&'static str, &'static [&'static str]);
 
 // A call that changes a changer.
 #[derive(Clone, Copy)]
@@ -201,29 +198,6 @@ fn step(alloc: Global, call: Call, text: &'static [u8]) -> Result<Step, NoMemory
         StepKind::Enter(auto_leave) => Step::EnterJoint(auto_leave, copy),
         StepKind::Leave => Step::LeaveJoint,
     })
-}
-
-fn has_text<S: MemberSet>(alloc: Global, config: &Config<S>, expected: &str) -> bool {
-    appends!(alloc, expected, |text| write_config(text, config))
-}
-
-fn is_member(alloc: Global, id: u64, progress: Progress, expected: &str) -> bool {
-    appends!(alloc, expected, |text| write_progress(text, id, progress))
-}
-
-/// Whether a changer is printed as this text.
-pub(crate) fn is_shown<S: MemberSet>(alloc: Global, changer: &Changer<S>, shown: Shown) -> bool {
-    let tracker = changer.tracker();
-    let (config, members) = shown;
-    let mut is_so = has_text(alloc, tracker.config(), config)
-        & (tracker.member_count() == members.len());
-    for (index, member) in members.iter().enumerate() {
-        is_so &= match tracker.member_at(index) {
-            Some((id, progress)) => is_member(alloc, id, progress, *member),
-            None => false,
-        };
-    }
-    is_so
 }
 
 // Whether a call gives the result of its row; on `NoMemory` the changer is unchanged.

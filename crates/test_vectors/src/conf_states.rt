@@ -1,29 +1,15 @@
 //! Saved configurations, and copies of configurations and changers.
-use crate::changers::{Shown, is_shown};
 use crate::equal::is_same;
-use crate::texts::appends;
-use crate::twice;
+use crate::restoring::{read, restored};
+use crate::shown::{Shown, TEN, is_shown};
+use crate::{appends, twice};
 use conf_change::{
     AckFault, Changer, ConfState, ConfStateFault, Config, ConfigurationFault, Floor, Progress,
-    RestoreFault, Violation, check, conf_state, described, read_conf_state, read_configuration,
-    valid_configuration, write_conf_state,
+    RestoreFault, Violation, check, conf_state, described, read_configuration, valid_configuration,
+    write_conf_state,
 };
 use quorum_sets::{InlineIds, MemberSet, NoMemory, TreeIds};
 use std::alloc::Global;
-
-/// The texts of ten new members.
-pub(crate) const TEN: &[&str] = &[
-    "1: StateProbe match=0 next=1",
-    "2: StateProbe match=0 next=1",
-    "3: StateProbe match=0 next=1",
-    "4: StateProbe match=0 next=1",
-    "5: StateProbe match=0 next=1",
-    "6: StateProbe match=0 next=1",
-    "7: StateProbe match=0 next=1",
-    "8: StateProbe match=0 next=1",
-    "9: StateProbe match=0 next=1",
-    "10: StateProbe match=0 next=1",
-];
 
 // A line, and what is printed of the changer that it restores.
 static RESTORED: [(&str, Shown); 3] = [
@@ -50,43 +36,6 @@ static RESTORED: [(&str, Shown); 3] = [
         ("voters=()", &[]),
     ),
 ];
-
-/// The saved configuration of a line.
-pub(crate) fn read(alloc: Global, line: &str) -> Result<ConfState, ConfStateFault> {
-    twice!(
-        ConfStateFault::NoMemory,
-        read_conf_state(alloc, line.as_bytes())
-    )
-}
-
-/// The changer with a saved configuration.
-pub(crate) fn restored<S: MemberSet>(
-    alloc: Global,
-    state: &ConfState,
-    floor: Floor,
-) -> Result<Changer<S>, RestoreFault> {
-    twice!(
-        RestoreFault::NoMemory,
-        Changer::restore_with_floor(alloc, state, 0, floor)
-    )
-}
-
-// The changer with a saved configuration, or an empty one.
-fn restored_or_empty<S: MemberSet>(alloc: Global, state: &ConfState) -> Changer<S> {
-    match restored(alloc, state, Floor::One) {
-        Ok(changer) => changer,
-        Err(_) => Changer::new(alloc, 0),
-    }
-}
-
-/// The changer with the configuration of a line; an empty one if the line has none, so that its row fails without a
-/// branch for it.
-pub(crate) fn changer_at<S: MemberSet>(alloc: Global, line: &str) -> Changer<S> {
-    match read(alloc, line) {
-        Ok(state) => restored_or_empty(alloc, &state),
-        Err(_) => Changer::new(alloc, 0),
-    }
-}
 
 fn is_cloned<S: MemberSet>(config: &Config<S>) -> bool {
     match twice!(NoMemory, config.try_clone()) {

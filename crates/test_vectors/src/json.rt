@@ -1,6 +1,5 @@
 //! The JSON of saved configurations and of proposed changes.
-use crate::conf_states::{changer_at, read};
-use crate::paths::FIVE;
+use crate::restoring::{FIVE, changer_at, read};
 use crate::twice;
 use conf_change::{Change, Changes, ConfState, Config, Kind, Step};
 use quorum_sets::{InlineIds, MemberSet, NoMemory, TreeIds};

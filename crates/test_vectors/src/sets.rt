@@ -1,7 +1,6 @@
 //! Sets of ids, and the committed indexes and votes of sets of voters.
 use crate::equal::has_ids;
-use crate::texts::appends;
-use crate::twice;
+use crate::{appends, twice};
 use quorum_sets::{
     InlineIds, MemberSet, NoMemory, TreeIds, VoteResult, chart, committed, common_member,
     is_quorum, joint_chart, joint_committed, joint_vote, symdiff, vote,

@@ -1,49 +1,10 @@
 //! Appending to texts, and reading changes.
-use crate::twice;
+use crate::{appends, twice};
 use ascii_text::append::append_number;
 use conf_change::Kind::{Learner, Remove, Update, Voter};
 use conf_change::{Change, TokenFault, read_changes, read_changes_into};
 use quorum_sets::NoMemory;
 use std::alloc::Global;
-
-// The text before a call appends to it.
-const PREFIX: &[u8] = b"front ";
-
-/// A text to which calls append, or an empty one if memory ran out twice.
-pub(crate) fn begun(alloc: Global) -> Vec<u8> {
-    match twice!(_, PREFIX.to_vec(alloc)) {
-        Ok(text) => text,
-        Err(_) => Vec::new(alloc),
-    }
-}
-
-/// Whether nothing has been appended to a text.
-pub(crate) fn is_begun(text: &[u8]) -> bool {
-    text == PREFIX
-}
-
-/// Whether this has been appended to a text.
-pub(crate) fn is_appended(text: &[u8], expected: &str) -> bool {
-    text.strip_prefix(PREFIX) == Some(expected.as_bytes())
-}
-
-/// Whether a call appends a text. On `NoMemory` it has to append nothing, and the text when it is repeated. A macro for
-/// the reason that `twice` is one.
-macro_rules! appends {
-    ($alloc:expr, $expected:expr, |$text:ident| $append:expr $(,)?) => {{
-        let mut buffer = $crate::texts::begun($alloc);
-        let $text = &mut buffer;
-        let mut answer = $append;
-        let mut is_unchanged = true;
-        if answer.is_err() {
-            is_unchanged = $crate::texts::is_begun($text.as_slice());
-            answer = $append;
-        }
-        is_unchanged & answer.is_ok() & $crate::texts::is_appended($text.as_slice(), $expected)
-    }};
-}
-
-pub(crate) use appends;
 
 static NUMBERS: [(u64, &str); 4] = [
     (0, "0"),

@@ -2,9 +2,10 @@
 use crate::runtime::Runtime;
 use crate::sets::with_acks;
 use quorum_sets::{
-    AckSource, MemberSet, TreeIds, commits_without, common_member, contains_from, is_quorum,
-    may_be_down, quorum,
+    AckSource, MemberSet, TreeIds, add_ids, commits_without, common_member, contains_from,
+    is_quorum, may_be_down, quorum,
 };
+use smallvec::SmallVec;
 use std::collections::BTreeMap;
 
 pub(crate) fn set_of(rt: &impl Runtime, ids: &[u64]) -> TreeIds {
@@ -158,4 +159,12 @@ fn looks_up_ascending_ids(rt: HostRuntime) {
     for (id, there) in &LOOKED_UP {
         assert!(rt; contains_from(&set, &mut index, *id) == *there, "{id}");
     }
+}
+
+#[test]
+fn appends_the_ids_of_a_set(rt: HostRuntime) {
+    let mut ids = SmallVec::new(rt.alloc());
+    add_ids(&mut ids, &set_of(&rt, &[4, 2])).expect(&rt, "memory");
+    add_ids(&mut ids, &set_of(&rt, &[18446744073709551615, 2])).expect(&rt, "memory");
+    assert!(rt; ids.as_slice() == &[2, 4, 2, 18446744073709551615][..]);
 }

@@ -3,12 +3,11 @@
 ghost use Rattle.std.specs.Prelude.{◌≡◌, ◌≤◌, true};
 ghost use Rattle.conf_change.specs.Configuration.{is_valid};
 
-use crate::ample::configurations::config_of;
-use crate::ample::sets_and_quorums::set_of;
-use crate::runtime::Runtime;
+use crate::ample::configurations::{config_of, set_of};
 use conf_change::{Change, Changer, Config, Kind, Step, StepKind, check, conf_state};
 use conf_plan::{NoPath, Path, Strategy, plan_by};
 use quorum_sets::{MemberSet, TreeIds};
+use test_vectors::runtime::Runtime;
 
 // Each configuration has a code below this: a digit for the roles of each id.
 const CODES: usize = 216;

@@ -1,11 +1,10 @@
 //! The stages of a path.
-use crate::ample::configurations::{Sets, config_of};
-use crate::ample::sets_and_quorums::set_of;
-use crate::runtime::Runtime;
+use crate::ample::configurations::{Sets, config_of, set_of};
 use conf_change::{Changer, conf_state};
 use conf_plan::{Strategy, plan_by};
 use plan_output::{Stage, stages};
 use quorum_sets::{TreeIds, symdiff};
+use test_vectors::runtime::Runtime;
 
 // The configuration of a stage, who has to catch up, how many ids may be down, how many until then, and how many besides
 // 3.

@@ -2,11 +2,7 @@
 ghost use Rattle.std.specs.Prelude.{◌≡◌, true};
 ghost use Rattle.conf_change.specs.Configuration.{is_valid};
 
-use crate::changers::{Shown, is_shown};
-use crate::conf_states::{TEN, changer_at};
 use crate::paths::path_of;
-use crate::texts::appends;
-use crate::twice;
 use conf_change::{Changer, Config, Refused, Step, check};
 use conf_plan::{
     Path, Plan, PlanFault, PlanTextFault, StepRefused, Strategy, apply_plan, changes_text,
@@ -14,6 +10,9 @@ use conf_plan::{
 };
 use quorum_sets::{InlineIds, MemberSet, NoMemory, TreeIds};
 use std::alloc::Global;
+use test_vectors::restoring::changer_at;
+use test_vectors::shown::{Shown, TEN, is_shown};
+use test_vectors::{appends, twice};
 
 // A changer's configuration, the indexes that its members acknowledge, the target, the plan's text, and what is printed
 // before its first step and after each.

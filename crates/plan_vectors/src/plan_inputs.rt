@@ -2,11 +2,11 @@
 ghost use Rattle.std.specs.Prelude.{◌≡◌, true, IfOk};
 ghost use Rattle.conf_change.specs.Configuration.{is_valid};
 
-use crate::twice;
 use conf_change::{Config, Violation};
 use plan_input::{ShortToken, TextFault, read_current, read_target};
 use quorum_sets::{InlineIds, MemberSet, TreeIds};
 use std::alloc::Global;
+use test_vectors::twice;
 
 // A configuration in its forms.
 static SIMPLE: [&str; 6] = [

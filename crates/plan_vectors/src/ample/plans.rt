@@ -2,15 +2,14 @@
 ghost use Rattle.std.specs.Prelude.{◌≡◌, true};
 ghost use Rattle.conf_change.specs.Configuration.{is_valid};
 
-use crate::ample::configurations::{Sets, config_of};
-use crate::ample::sets_and_quorums::set_of;
-use crate::runtime::Runtime;
+use crate::ample::configurations::{Sets, config_of, set_of};
 use conf_change::{Change, Changer, Config, Kind, Refused, check};
 use conf_plan::{
     NoPath, Plan, StepRefused, Strategy, apply_path, apply_plan, catching_up, plan_by, print_plan,
     read_path, read_plan,
 };
 use quorum_sets::{TreeIds, symdiff};
+use test_vectors::runtime::Runtime;
 
 fn plan_of(rt: &impl Runtime, text: &str) -> Plan {
     read_plan(rt.alloc(), text.as_bytes()).expect(rt, "a plan")

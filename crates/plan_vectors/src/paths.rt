@@ -2,14 +2,13 @@
 ghost use Rattle.std.specs.Prelude.{◌≡◌, true};
 ghost use Rattle.conf_change.specs.Configuration.{is_valid};
 
-use crate::conf_states::changer_at;
-use crate::equal::has_ids;
-use crate::texts::appends;
-use crate::twice;
 use conf_change::{Changer, Config, Refused, Step, check};
 use conf_plan::{NoPath, Path, Strategy, catching_up, plan_by, print_path};
 use quorum_sets::{InlineIds, MemberSet, NoMemory, TreeIds};
 use std::alloc::Global;
+use test_vectors::equal::has_ids;
+use test_vectors::restoring::{FIVE, changer_at};
+use test_vectors::{appends, twice};
 
 // A path by a strategy: its text, and the ids that have to catch up after each step.
 type Expected = (Strategy, &'static str, &'static [&'static [u64]]);
@@ -23,10 +22,6 @@ const THREE: &str = "Voters:[1 2 3] VotersOutgoing:[] Learners:[] LearnersNext:[
 
 const TWO_OF_THREE: &str =
     "Voters:[3 4 5] VotersOutgoing:[] Learners:[] LearnersNext:[] AutoLeave:false";
-
-/// Five voters.
-pub(crate) const FIVE: &str =
-    "Voters:[1 2 3 4 5] VotersOutgoing:[] Learners:[] LearnersNext:[] AutoLeave:false";
 
 /// Five voters, two of which are not among those of `FIVE`.
 pub(crate) const TWO_OF_FIVE: &str =

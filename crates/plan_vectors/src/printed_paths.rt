@@ -2,15 +2,14 @@
 ghost use Rattle.std.specs.Prelude.{◌≡◌, true};
 ghost use Rattle.conf_change.specs.Configuration.{is_restorable};
 
-use crate::conf_states::changer_at;
-use crate::paths::{FIVE, TWO_OF_FIVE, path_between};
-use crate::texts::appends;
-use crate::twice;
+use crate::paths::{TWO_OF_FIVE, path_between};
 use conf_change::Config;
 use conf_plan::{Path, Strategy};
 use plan_output::{add_json_lines, add_no_plan_line, add_table, stalls};
 use quorum_sets::{InlineIds, MemberSet, NoMemory, TreeIds};
 use std::alloc::Global;
+use test_vectors::restoring::{FIVE, changer_at};
+use test_vectors::{appends, twice};
 
 // What is printed of a path.
 enum Printed {

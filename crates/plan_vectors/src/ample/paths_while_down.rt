@@ -2,12 +2,11 @@
 ghost use Rattle.std.specs.Prelude.{◌≡◌, true};
 ghost use Rattle.conf_change.specs.Configuration.{is_valid};
 
-use crate::ample::configurations::{Sets, config_of};
-use crate::ample::sets_and_quorums::set_of;
-use crate::runtime::Runtime;
+use crate::ample::configurations::{Sets, config_of, set_of};
 use conf_change::{Config, check};
 use conf_plan::{Path, Strategy, plan_by, print_path};
 use quorum_sets::TreeIds;
+use test_vectors::runtime::Runtime;
 
 // A strategy, a configuration, a target, the ids that are down, the lines of the path, and those of one change each.
 type Row = (
