@@ -131,9 +131,9 @@ end_proofs() {
   done
 }
 
-# begin_proof LOGS CRATE JOBS NICENESS: proves a crate and builds its library in the background. Its process is $!.
+# begin_proof LOGS CRATE JOBS: proves a crate and builds its library in the background. Its process is $!.
 begin_proof() {
-  setsid nice -n "$4" bash -c 'top=$1; . "$top/tools/building.bash"; build_library "$2" "$3"' - "$top" "$3" "$2" </dev/null >"$1/$2.log" 2>&1 &
+  setsid bash -c 'top=$1; . "$top/tools/building.bash"; build_library "$2" "$3"' - "$top" "$3" "$2" </dev/null >"$1/$2.log" 2>&1 &
   proofs[$!]=$2
 }
 
@@ -152,7 +152,7 @@ next_proof() {
 
 # prove_below LOGS CRATE JOBS: proves all crates that a crate depends on and that are not up to date, each after those
 # that it depends on itself. Prints a line for each. A proof begins and ends on one processor, so if there is memory,
-# another one runs beside it, with fewer jobs and at low priority.
+# another one runs beside it, with fewer jobs. It has no lower priority: a later crate may wait for it.
 prove_below() {
   local logs=$1 jobs=$3 jobs_beside crate left=() first='' beside='' ended status
   local -A began
@@ -164,12 +164,12 @@ prove_below() {
   while [ "${#left[@]}" -gt 0 ]; do
     crate=$(next_proof "${left[@]}")
     if [ -n "$crate" ] && [ -z "$first" ]; then
-      begin_proof "$logs" "$crate" "$jobs" 0
+      begin_proof "$logs" "$crate" "$jobs"
       first=$! began[$crate]=$SECONDS
       continue
     fi
     if [ -n "$crate" ] && [ -z "$beside" ] && [ "$jobs_beside" -gt 0 ]; then
-      begin_proof "$logs" "$crate" "$jobs_beside" 10
+      begin_proof "$logs" "$crate" "$jobs_beside"
       beside=$! began[$crate]=$SECONDS
       continue
     fi
