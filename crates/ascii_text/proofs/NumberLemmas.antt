@@ -1,14 +1,13 @@
 -- The function that reads a number, against the relation.
-use Rattle.std.proofs.Common.{◌≡◌, ℕ, ◌+◌, ◌*◌, ◌<◌, ◌≤◌, ◌^◌, ◌-◌, true, false, ltb, leb, List, length, take, get_or, Some, None, refl, sym, ap, subst, ◌∙◌, length-take, arith, ◌&&◌}
+use Rattle.std.proofs.Common.{◌≡◌, ℕ, ◌+◌, ◌*◌, ◌<◌, ◌≤◌, ◌^◌, ◌-◌, true, false, ltb, leb, List, length, take, get_or, Some, None, refl, sym, ap, subst, ◌∙◌, arith, ◌&&◌}
 use Rattle.std.specs.Char.{is_ascii_digit}
-use Rattle.std.specs.Prelude.{min}
 use Rattle.std.specs.Int.{IsInRange}
 use Rattle.std.specs.Str.{all_ascii_digits}
 use Rattle.std.specs.Str.Parse.{AllDigits, digits_value}
 use Rattle.std.proofs.lemmas.Bool.{lt-ltb, ltb-true, le-leb, leb-true, and_parts, and_from, true≢false}
 use Rattle.std.proofs.lemmas.List.{take_all}
 use Rattle.std.proofs.lemmas.Option.{cond_some}
-use Rattle.std.proofs.lemmas.Str.Parse.{IsNumeralModel, numerals_by_value, tells_digits, tells_all_ascii_digits, digits_value_short, digits_value-take-le, digit_at}
+use Rattle.std.proofs.lemmas.Str.Parse.{IsNumeralModel, numerals_by_value, tells_all_ascii_digits, digits_value-take-le, digit_at}
 use Rattle.std.proofs.lemmas.Int.Digits.{digits_value_more, digits_more}
 use Rattle.std.proofs.lemmas.Str.{digit_value_digit}
 use Rattle.ascii_text.specs.Tokens.{has_bytes}
@@ -62,10 +61,6 @@ IsRead-more digits i n read within digit =
       all_digits = digits_more 10 digits i within read.all_digits (omega (arith, in_range.1, value));
       value = omega (arith, read.value, value, digits_value_more 10 digits i within);
     }
-
--- few digits have a small value
-pub IsRead-few : (digits : List ℕ) (i n k : ℕ) → IsRead digits i n → min i (length digits) ≤ k → n < 10 ^ k
-IsRead-few digits i n k read few = rw read.value (digits_value_short (numerals_by_value _ tells_digits) (take i digits) k read.all_digits (omega (arith, length-take i digits)))
 
 pub IsRead-whole : (digits : List ℕ) (i n : ℕ) → IsRead digits i n → length digits ≤ i → 0 < length digits → n < 2 ^ 64 → Some n ≡ number_in digits
 IsRead-whole digits i n read end some below =

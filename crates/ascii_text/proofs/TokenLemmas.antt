@@ -2,7 +2,7 @@
 use Rattle.std.proofs.Common.{◌≡◌, ℕ, ◌+◌, ◌<◌, true, not, cond, List, [], ◌∷◌, ◌++◌, length, take, drop, get_or, filter, refl, sym, ap, ◌∙◌, arith, inl, inr}
 use Rattle.std.specs.List.{slice_split, onto_first, position_or_len, after_first}
 use Rattle.std.proofs.lemmas.Bool.{lt-ltb, cases_lt, cases_Bool, and_parts}
-use Rattle.std.proofs.lemmas.List.{append-nil, take_all, drop_all, drop_more, length-take}
+use Rattle.std.proofs.lemmas.List.{append-nil, take_all, take-append-drop, drop_all, drop_more, length-take}
 use Rattle.std.proofs.lemmas.List.Elements.{filter-append}
 use Rattle.std.proofs.lemmas.List.Sums.{prefix_len-le-length, fails_before_first, passes_at_first}
 use Rattle.std.proofs.lemmas.List.Splits.{slice_split_first, slice_split_none, length-slice_split}
@@ -76,3 +76,25 @@ tokens_in-none_at_prefix text none = sym (tokens_in-without_leading_space text) 
 pub tokens_in-at_prefix : (text token rest : List ℕ) (n : ℕ) → n ≡ position_or_len is_space (without_leading_space text) → token ≡ take n (without_leading_space text) → rest ≡ drop n (without_leading_space text) → 0 < n → tokens_in text ≡ token ∷ tokens_in rest
 tokens_in-at_prefix text token rest n n_is token_is rest_is some =
     rw (token_is, rest_is, n_is) (sym (tokens_in-without_leading_space text) ∙ tokens_first (without_leading_space text) (omega arith))
+
+-- the first token is where the white space before it ends, and a text without tokens is white space
+pub leads-first_token : (text token : List ℕ) (others : List (List ℕ)) → tokens_in text ≡ token ∷ others → (more : List ℕ) × (without_leading_space text ≡ token ++ more)
+leads-first_token text token others e =
+    let beginning = without_leading_space text in
+    let n = position_or_len is_space beginning in
+    elim (cases_lt 0 n) [
+      | inl some ↦
+          let f = sym e ∙ tokens_in-at_prefix text (take n beginning) (drop n beginning) n refl refl refl some in
+          let same : take n beginning ≡ token = cc in
+          (drop n beginning, sym (take-append-drop n beginning) ∙ ap (λ t. t ++ drop n beginning) same)
+      | inr none ↦ let f = sym e ∙ tokens_in-none_at_prefix text (omega arith) in absurd cc
+    ]
+
+pub leads-no_token : (text : List ℕ) → tokens_in text ≡ [] → without_leading_space text ≡ []
+leads-no_token text e =
+    let beginning = without_leading_space text in
+    let n = position_or_len is_space beginning in
+    elim (cases_lt 0 n) [
+      | inl some ↦ let f = sym e ∙ tokens_in-at_prefix text (take n beginning) (drop n beginning) n refl refl refl some in absurd cc
+      | inr none ↦ empty_from_no_token text (omega arith)
+    ]

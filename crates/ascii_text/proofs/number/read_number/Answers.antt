@@ -1,8 +1,9 @@
 use Rattle.std.proofs.Common.{◌≡◌, true, get_or, sym, ◌∙◌, arith}
+use Rattle.std.proofs.lemmas.Bool.Decides.{nat_tests}
 use Rattle.std.specs.Char.{is_ascii_digit}
 use Rattle.ascii_text.proofs.NumberLemmas.{number_in-none_at, number_in-none_more, IsRead-more, IsRead-whole}
-use Rattle.ascii_text.proofs.number.read_long.Goals as goal
-use Rattle.ascii_text.proofs.number.read_long.Goals.{Else-not-is_ascii_digit}
+use Rattle.ascii_text.proofs.number.read_number.Goals as goal
+use Rattle.ascii_text.proofs.number.read_number.Goals.{Else-not-is_ascii_digit}
 
 digit : (c : Else-not-is_ascii_digit) → is_ascii_digit (get_or c.args.digits.now c.loop-digit.digit-index 0) ≡ true
 digit c = sym c.is_ascii_digit.ensures.value ∙ c.if-not-is_ascii_digit.false
@@ -30,4 +31,4 @@ loop-digit-preserved c =
     }
 
 pub returns : goal.returns
-returns c = IsRead-whole c.args.digits.now _ _ c.loop-digit.invariant.read (omega arith) (omega arith) (omega arith)
+returns c = IsRead-whole c.args.digits.now _ _ c.loop-digit.invariant.read (omega arith) (grind (arith, nat_tests)) (omega arith)
