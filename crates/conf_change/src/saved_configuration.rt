@@ -1,10 +1,9 @@
 //! Saved configurations, which etcd calls ConfState. A snapshot carries the configuration as of its index.
 ghost use Rattle.std.specs.Prelude.{◌≡◌, IfOk};
-ghost use Rattle.quorum_sets.specs.Ids.{ascending};
 ghost use Rattle.conf_change.specs.ConfState.{Describes, lists_of};
 
 use crate::config::Config;
-use quorum_sets::{MemberSet, NoMemory};
+use quorum_sets::{MemberSet, NoMemory, list_of};
 use std::alloc::Global;
 use std::marker::Model;
 use thiserror::Error;
@@ -122,17 +121,4 @@ pub fn conf_state<S: MemberSet>(alloc: Global, config: &Config<S>) -> Result<Con
         learners_next: list_of(alloc, &config.learners_next)?,
         auto_leave: config.auto_leave,
     })
-}
-
-// The ids of a set in ascending order.
-fn list_of<S: MemberSet>(alloc: Global, set: &S) -> Result<Vec<u64>, NoMemory>
-    ensures { IfOk result (λ list. list.items ≡ ascending (S.ids set.now)) }
-{
-    let mut list = Vec::with_capacity(alloc, set.len())?;
-    for position in 0..set.len() {
-        if let Some(id) = set.at(position) {
-            list.push(id)?;
-        }
-    }
-    Ok(list)
 }

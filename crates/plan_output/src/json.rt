@@ -15,7 +15,6 @@
 //! etcd's raft would make them through a joint configuration that it leaves by itself, in which etcd 3.4.23 panics if
 //! entries are applied meanwhile.
 ghost use Rattle.std.specs.Prelude.{◌≡◌, ◌++◌, true, false, None, Some, IfOk, OnOk, OnErr, flat_map, option_copied, option_map};
-ghost use Rattle.quorum_sets.specs.Ids.{ascending};
 ghost use Rattle.conf_change.specs.Configuration.{is_restorable};
 ghost use Rattle.serde_json.specs.View.{view, members_view};
 ghost use Rattle.serde_json.specs.Written.{has_float};
@@ -27,7 +26,7 @@ use crate::stage::{Stage, stalls};
 use ascii_text::append::append;
 use conf_change::{Config, Step, conf_state};
 use conf_plan::Path;
-use quorum_sets::{MemberSet, NoMemory};
+use quorum_sets::{MemberSet, NoMemory, list_of};
 use raft_json::{conf_change_value, conf_state_value, ids_value};
 use serde_json::{Map, Value, put};
 use std::alloc::Global;
@@ -254,17 +253,4 @@ fn count_value(count: Option<usize>) -> Value
         Some(count) => Value::from(count),
         None => Value::Null,
     }
-}
-
-// The ids of a set in ascending order.
-fn list_of<S: MemberSet>(alloc: Global, ids: &S) -> Result<Vec<u64>, NoMemory>
-    ensures { IfOk result (λ list. list.items ≡ ascending (S.ids ids.now)) }
-{
-    let mut list = Vec::with_capacity(alloc, ids.len())?;
-    for index in 0..ids.len() {
-        if let Some(id) = ids.at(index) {
-            list.push(id)?;
-        }
-    }
-    Ok(list)
 }

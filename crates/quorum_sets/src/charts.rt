@@ -16,8 +16,9 @@ ghost use Rattle.quorum_sets.specs.Committed.{Acks, acked_index};
 ghost use Rattle.quorum_sets.specs.Chart.{IsRanking, bar_text, bar_width, chart_row, chart_text, in_five_columns, row_text};
 
 use crate::acknowledgement::AckSource;
+use crate::lists::add_ids;
 use crate::member_set::MemberSet;
-use crate::unions::{add_ids, union};
+use crate::unions::union;
 use ascii_text::NoMemory;
 use ascii_text::append::{append, append_number, append_times, keep_whole};
 use itoa::Buffer;

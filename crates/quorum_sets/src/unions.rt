@@ -1,8 +1,8 @@
 //! The union of two sets, such as all voters of a joint configuration.
-ghost use Rattle.std.specs.Prelude.{◌≡◌, ◌++◌, IfOk, OnOk};
+ghost use Rattle.std.specs.Prelude.{◌≡◌, IfOk};
 ghost use Rattle.quorum_sets.specs.Ids as spec;
-ghost use Rattle.quorum_sets.specs.Ids.{ascending};
 
+use crate::lists::add_ids;
 use crate::member_set::MemberSet;
 use ascii_text::NoMemory;
 use smallvec::SmallVec;
@@ -16,17 +16,4 @@ pub fn union<S: MemberSet>(a: &S, b: &S) -> Result<S, NoMemory>
     add_ids(&mut ids, a)?;
     add_ids(&mut ids, b)?;
     S::of_list(alloc, ids.as_slice())
-}
-
-/// Appends the ids of a set to a list, in ascending order.
-pub fn add_ids<S: MemberSet>(ids: &mut SmallVec<u64, 16>, set: &S) -> Result<(), NoMemory>
-    ensures { OnOk result (ids.new.items ≡ ids.old.items ++ ascending (S.ids set.now)) }
-{
-    ids.reserve(set.len())?;
-    for position in 0..set.len() {
-        if let Some(id) = set.at(position) {
-            ids.push(id)?;
-        }
-    }
-    Ok(())
 }

@@ -3,7 +3,7 @@ use crate::runtime::Runtime;
 use crate::sets::with_acks;
 use quorum_sets::{
     AckSource, MemberSet, TreeIds, add_ids, commits_without, common_member, contains_from,
-    is_quorum, may_be_down, quorum,
+    is_quorum, list_of, may_be_down, quorum,
 };
 use smallvec::SmallVec;
 use std::collections::BTreeMap;
@@ -158,6 +158,17 @@ fn looks_up_ascending_ids(rt: HostRuntime) {
     let mut index = 0;
     for (id, there) in &LOOKED_UP {
         assert!(rt; contains_from(&set, &mut index, *id) == *there, "{id}");
+    }
+}
+
+#[test]
+fn lists_the_ids_of_a_set(rt: HostRuntime) {
+    for (ids, listed) in [
+        (&[][..], &[][..]),
+        (&[4, 18446744073709551615, 2], &[2, 4, 18446744073709551615]),
+    ] {
+        let list = list_of(rt.alloc(), &set_of(&rt, ids)).expect(&rt, "memory");
+        assert!(rt; list.as_slice() == listed);
     }
 }
 

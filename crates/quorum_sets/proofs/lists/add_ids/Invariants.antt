@@ -1,6 +1,6 @@
 use Rattle.std.proofs.Common.{◌≡◌, ◌++◌, take}
 use Rattle.quorum_sets.specs.Ids.{ascending}
-use Rattle.quorum_sets.proofs.unions.add_ids.Given as goal
+use Rattle.quorum_sets.proofs.lists.add_ids.Given as goal
 
 abbrev pub invariant-loop-position : goal.invariant-loop-position
 invariant-loop-position g l = l.ids.items ≡ l.initial.ids.items ++ take l.position (ascending (g.S.MemberSet.ids l.set))

@@ -2,8 +2,8 @@ use Rattle.std.proofs.Common.{arith}
 use Rattle.std.proofs.lemmas.Grind.{common_steps}
 use Rattle.std.proofs.lemmas.Option.{gets}
 use Rattle.std.proofs.lemmas.List.{take_more}
-use Rattle.quorum_sets.proofs.unions.add_ids.Goals as goal
-use Rattle.quorum_sets.proofs.unions.add_ids.Goals.{in-Some+in_ok-push, in_default}
+use Rattle.quorum_sets.proofs.lists.list_of.Goals as goal
+use Rattle.quorum_sets.proofs.lists.list_of.Goals.{in-Some+in_ok-push, in_default}
 
 pub loop-position-preserved : goal.loop-position-preserved
 loop-position-preserved g c = elim c.match-at.branch [
