@@ -1,6 +1,5 @@
 -- What is kept on the way of a path: quorums, failures that are tolerated, and voters that are no newcomers.
 
-pub mod AlongPath
 pub mod Quorums
 pub mod Newcomers
 pub mod ReadyVoters

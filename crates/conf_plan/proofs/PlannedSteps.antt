@@ -2,6 +2,7 @@
 
 pub mod Cases
 pub mod Shapes
+pub mod AlongPath
 pub mod BetweenSingle
 pub mod IntoJoint
 pub mod RunToTarget

@@ -1,18 +1,18 @@
 -- Small cases, worked out by hand.
-use Rattle.std.proofs.Common.{◌≡◌, ◌≤◌, ℕ, Bool, true, false, not, List, [], ◌∷◌, ◌++◌, refl, ap, subst, ◌∙◌, map, arith}
+use Rattle.std.proofs.Common.{◌≡◌, ◌≤◌, ℕ, Bool, true, false, not, List, [], ◌∷◌, ◌++◌, refl, ap, subst, ◌∙◌, map, arith, cond, ◌==◌}
 use Rattle.std.specs.Prelude.{Ok, filter, if◌then◌else◌}
 use Rattle.std.proofs.lemmas.Bool.{cond-true, cond-false, both_ways}
-use Rattle.quorum_sets.specs.Ids.{Ids, ascending, count_of, difference_count, has, ids_of, ids_where, is_empty, no_ids, size, union}
+use Rattle.std.proofs.lemmas.Bool.Decides.{nat_tests}
+use Rattle.quorum_sets.specs.Ids.{Ids, count_of, has, ids_of, ids_where, is_empty, no_ids, size, union}
 use Rattle.quorum_sets.specs.Tolerance.{Tolerates, commits_without}
 use Rattle.quorum_sets.specs.Voters.{is_quorum}
-use Rattle.quorum_sets.proofs.Offered.{Tolerates-from_counts, written_out}
+use Rattle.quorum_sets.proofs.Offered.{Tolerates-from_counts, has-no_ids, written_out}
 use Rattle.conf_change.specs.Configuration.{Configuration, has_voter, is_joint, is_valid, members, is_same_set, is_same, voters_of}
 use Rattle.conf_change.specs.declared.change.Change.{Change}
 use Rattle.conf_change.specs.declared.change.Kind.{Kind}
 use Rattle.conf_change.specs.declared.change.Kind.TheVariants.{Voter, Learner, Remove, Update}
-use Rattle.conf_change.specs.Change.{is_incoming_after, last_effective, result_of}
 use Rattle.conf_change.specs.Outcome.{after_leave, outcome}
-use Rattle.conf_change.proofs.Offered.{is_same-is_equality, outcome-simple_accepted}
+use Rattle.conf_change.proofs.Offered.{is_same-is_equality}
 use Rattle.conf_plan.specs.OnTheWay.{HasQuorumsOf, IsAsTolerant, KeepsQuorums, KeepsTolerance, MakesVotersOfReady, VotersLearnFirst}
 use Rattle.conf_change.specs.declared.step.Step.{Step}
 use Rattle.conf_change.specs.declared.step.Step.TheVariants.{Simple, EnterJoint, LeaveJoint}
@@ -22,6 +22,7 @@ use Rattle.conf_plan.specs.Best.{times_named, is_any_learner, outlasts_leave}
 use Rattle.conf_plan.specs.Planned.{is_shared, shared_members, single_with, single_steps, entering_step, planned_from_single, planned}
 use Rattle.conf_plan.specs.Run.{IsRun, IsRunWith, IsValidWithVoter}
 use Rattle.conf_plan.proofs.FindingMoves.ResultingConfiguration.{IsSingle}
+use Rattle.conf_plan.proofs.OnTheWay.OneChange.{kind_for, one_change-leads}
 use Rattle.conf_plan.proofs.PlannedSteps.Shapes.{joint_steps-inserted}
 
 abbrev change : Kind → ℕ → Change
@@ -198,46 +199,24 @@ voters_1234 = config (4 ∷ 1 ∷ 2 ∷ 3 ∷ []) [] [] []
 abbrev voters_12 : Configuration
 voters_12 = config (1 ∷ 2 ∷ []) [] [] []
 
--- whether an id votes when 4 has joined these voters
-abbrev votes_with_4 : List ℕ → ℕ → Bool
-votes_with_4 voters id = is_incoming_after (last_effective (change Voter 4 ∷ []) id) (has (ids_of voters) id)
-
-with_4 : (voters : List ℕ) → ascending (ids_of voters) ≡ voters → filter (votes_with_4 voters) voters ≡ voters
-    → result_of (config voters [] [] []) (change Voter 4 ∷ []) ≡ config (4 ∷ voters) [] [] []
-with_4 voters listed vote =
-    let after = result_of (config voters [] [] []) (change Voter 4 ∷ []) in
-    let none : after.learners ≡ ids_of [] = simp written_out refl in
-    let none_next : after.learners_next ≡ ids_of [] = simp written_out refl in
-    λ i. record {
-      incoming = (ap (λ ids. ids_of (4 ∷ filter (votes_with_4 voters) ids)) listed ∙ ap (λ ids. ids_of (4 ∷ ids)) vote) i;
-      outgoing = ids_of [];
-      learners = none i;
-      learners_next = none_next i;
-      auto_leave = false;
-    }
+-- an id joins these voters or retires
+changed : (voters after : List ℕ) (votes : Bool) (id : ℕ) → (id == 0) ≡ false → is_empty (ids_of after) ≡ false
+    → ((q : ℕ) → has (ids_of after) q ≡ cond (q == id) votes (has (ids_of voters) q))
+    → outcome (config voters [] [] []) (one_change (kind_for votes false) id) ≡ Ok (config after [] [] [])
+changed voters after votes id other some votes_at =
+    one_change-leads (ids_of voters) no_ids (ids_of after) no_ids votes false id other (λ e. refl) some votes_at (λ q. grind (arith, has-no_ids q))
 
 joined : outcome voters_123 (one_change Voter 4) ≡ Ok voters_1234
-joined =
-    let vote = filter-answered (votes_with_4 (1 ∷ 2 ∷ 3 ∷ [])) (1 ∷ 2 ∷ 3 ∷ []) (true ∷ true ∷ true ∷ []) (simp written_out refl) in
-    outcome-simple_accepted voters_123 voters_1234 (change Voter 4 ∷ []) (simp written_out refl) (with_4 (1 ∷ 2 ∷ 3 ∷ []) (simp written_out refl) vote)
-    (simp written_out refl) (simp written_out (omega arith))
+joined = changed (1 ∷ 2 ∷ 3 ∷ []) (4 ∷ 1 ∷ 2 ∷ 3 ∷ []) true 4 refl (simp written_out refl) (λ q. simp written_out (grind (arith, nat_tests)))
 
 joined_later : outcome voters_12 (one_change Voter 4) ≡ Ok (config (4 ∷ 1 ∷ 2 ∷ []) [] [] [])
-joined_later =
-    let vote = filter-answered (votes_with_4 (1 ∷ 2 ∷ [])) (1 ∷ 2 ∷ []) (true ∷ true ∷ []) (simp written_out refl) in
-    outcome-simple_accepted voters_12 (config (4 ∷ 1 ∷ 2 ∷ []) [] [] []) (change Voter 4 ∷ []) (simp written_out refl) (with_4 (1 ∷ 2 ∷ []) (simp written_out refl) vote)
-    (simp written_out refl) (simp written_out (omega arith))
-
--- 3 retires
-without_3 : (before after : Configuration) → is_joint before ≡ false → is_same (result_of before (change Remove 3 ∷ [])) after ≡ true → has_voter after ≡ true → difference_count before.incoming after.incoming ≤ 1
-    → outcome before (one_change Remove 3) ≡ Ok after
-without_3 before after single same = outcome-simple_accepted before after (change Remove 3 ∷ []) single ((is_same-is_equality _ _).0 same)
+joined_later = changed (1 ∷ 2 ∷ []) (4 ∷ 1 ∷ 2 ∷ []) true 4 refl (simp written_out refl) (λ q. simp written_out (grind (arith, nat_tests)))
 
 retired : outcome voters_123 (one_change Remove 3) ≡ Ok voters_12
-retired = without_3 voters_123 voters_12 (simp written_out refl) (simp written_out refl) (simp written_out refl) (simp written_out (omega arith))
+retired = changed (1 ∷ 2 ∷ 3 ∷ []) (1 ∷ 2 ∷ []) false 3 refl (simp written_out refl) (λ q. simp written_out (grind (arith, nat_tests)))
 
 retired_later : outcome voters_1234 (one_change Remove 3) ≡ Ok voters_124
-retired_later = without_3 voters_1234 voters_124 (simp written_out refl) (simp written_out refl) (simp written_out refl) (simp written_out (omega arith))
+retired_later = changed (4 ∷ 1 ∷ 2 ∷ 3 ∷ []) (1 ∷ 2 ∷ 4 ∷ []) false 3 refl (simp written_out refl) (λ q. simp written_out (grind (arith, nat_tests)))
 
 -- both lead from (1 2 3) to (1 2 4)
 both_are_runs : IsRun voters_123 joins_first voters_124 × IsRun voters_123 joins_last voters_124

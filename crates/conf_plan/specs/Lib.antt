@@ -3,7 +3,7 @@ pub mod Best
 pub mod PlanSteps
 pub mod SamePlans
 pub mod Planned
-pub mod Walking
+pub mod AddedSteps
 pub mod PlanText
 pub mod PlanCode
 pub mod OnTheWay

@@ -13,7 +13,7 @@ ghost use Rattle.conf_plan.specs.LearnersFirst as first;
 ghost use Rattle.conf_plan.specs.LearnersFirst.{learners_first_from_single};
 ghost use Rattle.conf_plan.specs.Planned.{single_with};
 ghost use Rattle.conf_plan.specs.Run.{IsValidWithVoter};
-ghost use Rattle.conf_plan.specs.Walking.{IsAdded};
+ghost use Rattle.conf_plan.specs.AddedSteps.{IsAdded};
 
 use crate::picked::picked;
 use crate::planner::{add_from_single, add_single_steps};

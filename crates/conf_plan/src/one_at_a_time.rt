@@ -20,7 +20,7 @@ ghost use Rattle.quorum_sets.specs.Tolerance.{commits_without};
 ghost use Rattle.conf_change.specs.Configuration.{voters_of};
 ghost use Rattle.conf_plan.specs.OneAtATime.{steps_of, in_turn, order, one_at_a_time_from_single};
 ghost use Rattle.conf_plan.specs.Planned.{single_with};
-ghost use Rattle.conf_plan.specs.Walking.{IsAdded};
+ghost use Rattle.conf_plan.specs.AddedSteps.{IsAdded};
 
 use crate::moves::kind_of_move;
 use crate::one_change_each::add_change;

@@ -6,7 +6,7 @@ ghost use Rattle.conf_change.specs.declared.step.Step.TheVariants.{Simple};
 ghost use Rattle.conf_plan.specs.OneAtATime.{one_change};
 ghost use Rattle.conf_plan.specs.OneChangeEach.{each_change, one_change_each};
 ghost use Rattle.conf_plan.specs.PlanSteps.{HasU64Ids};
-ghost use Rattle.conf_plan.specs.Walking.{IsAdded};
+ghost use Rattle.conf_plan.specs.AddedSteps.{IsAdded};
 
 use conf_change::{Change, Changes, Kind, Step};
 use quorum_sets::NoMemory;

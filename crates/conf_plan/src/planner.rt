@@ -16,7 +16,7 @@ ghost use Rattle.conf_plan.specs.PathBy.{from_single_by, path_by};
 ghost use Rattle.conf_plan.specs.Planned.{single_with, single_steps, entering_step, joint_steps, planned_from_single, planned};
 ghost use Rattle.conf_plan.specs.Best.{IsBest};
 ghost use Rattle.conf_plan.specs.Run.{IsValidWithVoter};
-ghost use Rattle.conf_plan.specs.Walking.{IsAdded};
+ghost use Rattle.conf_plan.specs.AddedSteps.{IsAdded};
 
 use crate::learners_first::add_learners_first;
 use crate::moves::moves_to;

@@ -1,13 +1,12 @@
 -- The plan names each id no more often than any run.
-use Rattle.std.proofs.Common.{◌≡◌, ℕ, zero, suc, ◌+◌, ◌≤◌, Bool, true, false, cond, not, ◌&&◌, ◌||◌, ◌==◌, List, [], ◌∷◌, ◌++◌, refl, sym, ap, subst, ◌∙◌, arith, eqb-true, is_some}
-use Rattle.std.proofs.Math.Bool.{or-false}
+use Rattle.std.proofs.Common.{◌≡◌, ℕ, ◌+◌, ◌≤◌, Bool, true, false, cond, List, [], ◌∷◌, ◌++◌, refl, ap, ◌∙◌, arith, eqb-true, is_some}
 use Rattle.std.specs.Prelude.{Option, Some, None, option_map, filter_map, count_by, nat_le}
 use Rattle.std.specs.List.{cons_option}
-use Rattle.std.proofs.lemmas.Bool.{true≢false, false_from_ne_true, cond_both, or_from}
+use Rattle.std.proofs.lemmas.Bool.{cond_both}
 use Rattle.std.proofs.lemmas.List.Sums.{sum_by-cons, sum_by-append}
-use Rattle.quorum_sets.specs.Ids.{Ids, has, difference_count, union}
+use Rattle.quorum_sets.specs.Ids.{Ids, ascending, no_ids, has, difference_count, union}
 use Rattle.quorum_sets.proofs.Offered.{has-no_ids}
-use Rattle.conf_change.specs.Configuration.{Configuration, is_joint, is_member}
+use Rattle.conf_change.specs.Configuration.{Configuration, is_joint}
 use Rattle.conf_change.specs.Change.{names}
 use Rattle.conf_change.specs.Outcome.{after_leave}
 use Rattle.conf_change.specs.Step.{changes_of}
@@ -19,15 +18,15 @@ use Rattle.conf_change.proofs.Offered.{outgoing-none, ValidByMember-from_is_vali
 use Rattle.conf_plan.specs.Best.{times_named, is_any_learner}
 use Rattle.conf_plan.specs.Planned.{kind_by, kind_of_move, single_with, moves, single_steps, shared_members, entering_step, planned_from_single, planned}
 use Rattle.conf_plan.specs.Run.{IsValidWithVoter, IsRun}
+use Rattle.conf_plan.specs.declared.strategy.Strategy.TheVariants.{Shortest}
 use Rattle.conf_plan.proofs.PlannedSteps.IntoJoint.{has-shared_members, at_outgoing-is_single}
-use Rattle.conf_plan.proofs.FindingMoves.ResultingConfiguration.{IsSingle, IsSingle-no_next}
+use Rattle.conf_plan.proofs.FindingMoves.ResultingConfiguration.{IsSingle, IsSingle-no_next, single_with-own}
 use Rattle.conf_plan.proofs.FindingMoves.OfEachId.{change_of, has-union}
 use Rattle.conf_plan.proofs.Runs.PartOfEachId.{run-same_part}
-use Rattle.conf_plan.proofs.PlannedSteps.RunToTarget.{single_with-own, after_leave-is_single}
 use Rattle.conf_plan.proofs.FindingMoves.AscendingIds.{times, times-ascending, times-cons}
 use Rattle.conf_plan.proofs.Runs.JointEnds.{LeavesFirst-from_IsRun, EntersLast-from_IsRun}
 use Rattle.conf_plan.proofs.Runs.Chains.{run-is_valid, IsRun-one}
-use Rattle.conf_plan.proofs.PlannedSteps.Shapes.{planned_from_single-of_shapes, planned-of_shapes}
+use Rattle.conf_plan.proofs.PlannedSteps.Shapes.{planned_from_single-of_shapes, path_by-of_shapes}
 
 -- ---- how often steps name an id
 named_by : (q : ℕ) (step : Step) (steps : List Step) → times_named q (step ∷ steps) ≡ count_by (names q) (changes_of step) + times_named q steps
@@ -42,57 +41,40 @@ once None = 0
 once (Some _) = 1
 
 -- the list of moves names an id once at most
-named_first : (kind_for : ℕ → Option Kind) (q x n : ℕ) (rest : List Change) (o : Option Kind) → kind_for x ≡ o → count_by (names q) rest ≤ cond (is_some (kind_for q)) n 0
-    → count_by (names q) (cons_option (option_map (change_of x) o) rest) ≤ cond (is_some (kind_for q)) (cond (q == x) 1 0 + n) 0
-named_first kind_for q x n rest None is few = grind arith
-named_first kind_for q x n rest (Some kind) is few = grind (arith, sum_by-cons (λ y. cond (names q y) 1 0) (change_of x kind) rest, eqb-true x q)
-
 named_each : (kind_for : ℕ → Option Kind) (ids : List ℕ) (q : ℕ) → count_by (names q) (filter_map (λ id. option_map (change_of id) (kind_for id)) ids) ≤ cond (is_some (kind_for q)) (times q ids) 0
 named_each kind_for [] q = grind arith
-named_each kind_for (x ∷ ids) q =
-    subst (λ n. count_by (names q) (filter_map (λ id. option_map (change_of id) (kind_for id)) (x ∷ ids)) ≤ cond (is_some (kind_for q)) n 0) (sym (times-cons q x ids))
-    (named_first kind_for q x (times q ids) _ (kind_for x) refl (named_each kind_for ids q))
-
-at_most_once : (o : Option Kind) (n t : ℕ) (here : Bool) → n ≤ cond (is_some o) t 0 → t ≡ cond here 1 0 → n ≤ once o
-at_most_once o n t here few is = grind arith
+named_each kind_for (x ∷ ids) q = first (kind_for x) refl _ (named_each kind_for ids q)
+  where
+    first : (o : Option Kind) → kind_for x ≡ o → (rest : List Change) → count_by (names q) rest ≤ cond (is_some (kind_for q)) (times q ids) 0
+        → count_by (names q) (cons_option (option_map (change_of x) o) rest) ≤ cond (is_some (kind_for q)) (times q (x ∷ ids)) 0
+    first None is rest few = grind (arith, times-cons q x ids)
+    first (Some kind) is rest few = grind (arith, times-cons q x ids, sum_by-cons (λ y. cond (names q y) 1 0) (change_of x kind) rest, eqb-true x q)
 
 pub moves-name_once : (c : Configuration) (voters learners : Ids) (q : ℕ)
     → count_by (names q) (moves c voters learners) ≤ once (kind_by (has voters q) (has learners q) (has c.incoming q) (has c.learners q))
 moves-name_once c voters learners q =
-    at_most_once (kind_of_move c voters learners q) _ _ _ (named_each (kind_of_move c voters learners) _ q) (times-ascending q (union (union voters learners) (union c.incoming c.learners)))
+    let all = union (union voters learners) (union c.incoming c.learners) in
+    grind (arith, named_each (kind_of_move c voters learners) (ascending all) q, times-ascending q all)
 
 -- ---- an id whose part has to change is named
 -- once, if the id is an incoming voter, a learner of either kind or neither in the one configuration, and something else in the other
 abbrev differing : Configuration → Configuration → ℕ → ℕ
 differing c d q = once (kind_by (has d.incoming q) (is_any_learner d q) (has c.incoming q) (is_any_learner c q))
 
-nothing_to_change : (v m : Bool) → once (kind_by v m v m) ≡ 0
-nothing_to_change v m = grind arith
-
-once-le : (o : Option Kind) → once o ≤ 1
-once-le o = grind arith
+needed_once : (v m i l : Bool) (n : ℕ) → (n ≡ 0 → (v ≡ i) × (m ≡ l)) → once (kind_by v m i l) ≤ n
+needed_once v m i l n same = grind arith
 
 named_where_differing : (c d : Configuration) (steps : List Step) (q : ℕ) → IsRun c steps d → differing c d q ≤ times_named q steps
-named_where_differing c d steps q run = by (times_named q steps) refl
-  where
-    by : (n : ℕ) → times_named q steps ≡ n → differing c d q ≤ times_named q steps
-    by zero is =
-        let same = run-same_part c d steps q run is in
-        let none : differing c d q ≡ 0 =
-        (λ i. once (kind_by (same.voter i) (same.learner i) (has c.incoming q) (is_any_learner c q))) ∙ nothing_to_change (has c.incoming q) (is_any_learner c q) in
-        omega arith
-    by (suc n) is = let one = once-le (kind_by (has d.incoming q) (is_any_learner d q) (has c.incoming q) (is_any_learner c q)) in omega arith
+named_where_differing c d steps q run =
+    needed_once _ _ _ _ (times_named q steps) (λ none. let same = run-same_part c d steps q run none in (same.voter, same.learner))
 
 -- ---- what the steps of the plan name
-is_any_learner-single : (c : Configuration) (q : ℕ) → IsSingle c → is_any_learner c q ≡ has c.learners q
-is_any_learner-single c q single = ap (λ b. has c.learners q || b) (IsSingle-no_next c single q) ∙ or-false (has c.learners q)
-
 single_steps-name : (c : Configuration) (voters learners : Ids) (q : ℕ) → IsSingle c → times_named q (single_steps c voters learners) ≤ differing c (single_with voters learners) q
 single_steps-name c voters learners q single =
     let changes = moves c voters learners in
     let few = moves-name_once c voters learners q in
     let is : differing c (single_with voters learners) q ≡ once (kind_by (has voters q) (has learners q) (has c.incoming q) (has c.learners q)) =
-    λ i. once (kind_by (has voters q) ((ap (λ b. has learners q || b) (has-no_ids q) ∙ or-false (has learners q)) i) (has c.incoming q) (is_any_learner-single c q single i)) in
+    grind (arith, has-no_ids q, IsSingle-no_next c single q) in
     cond_both (nat_le (difference_count c.incoming voters) 1) (Simple changes ∷ []) (EnterJoint false changes ∷ LeaveJoint ∷ []) (λ steps. times_named q steps ≤ differing c (single_with voters learners) q)
     (λ one. let named = named_by q (Simple changes) [] in omega arith)
     (λ two. let named = named_by q (EnterJoint false changes) (LeaveJoint ∷ []) in omega arith)
@@ -101,42 +83,30 @@ entering_step-names : (c target : Configuration) (q : ℕ) → IsSingle c → ti
 entering_step-names c target q single =
     let few = moves-name_once c target.incoming (union target.learners target.learners_next) q in
     let is : differing c target q ≡ once (kind_by (has target.incoming q) (has (union target.learners target.learners_next) q) (has c.incoming q) (has c.learners q)) =
-    λ i. once (kind_by (has target.incoming q) (sym (has-union target.learners target.learners_next q) i) (has c.incoming q) (is_any_learner-single c q single i)) in
+    grind (arith, has-union target.learners target.learners_next q, IsSingle-no_next c single q) in
     let named = named_by q (entering_step c target) [] in
     omega arith
 
 -- ---- by way of the target's outgoing voters
 -- An outgoing voter of the target is passed on as a voter. Who is none is passed on as a learner, if it is a member of both, or else not at all. No other way is better.
-way_by_shared : (p s dl ci cl ti tl tn : Bool) → s ≡ ((ti || p || tl) && not p && (ci || cl)) → (p ≡ true → dl ≡ false) → (tn ≡ true → p ≡ true)
-    → once (kind_by p s ci cl) + once (kind_by ti (tl || tn) p s) ≤ once (kind_by p dl ci cl) + once (kind_by ti (tl || tn) p dl)
-way_by_shared p s dl ci cl ti tl tn is apart waits = grind arith
-
-is_member-single : (c : Configuration) (q : ℕ) → IsSingle c → is_member c q ≡ (has c.incoming q || is_any_learner c q)
-is_member-single c q single =
-    ap (λ out. has c.incoming q || has out q || has c.learners q) (outgoing-none c single.single)
-    ∙ (λ i. has c.incoming q || has-no_ids q i || sym (is_any_learner-single c q single) i) ∙ ap (λ b. b || is_any_learner c q) (or-false (has c.incoming q))
-
 -- no way by another configuration with those voters has less to change
 shared-is_nearest : (c d target : Configuration) (q : ℕ) → IsSingle c → IsValidWithVoter d → IsValidWithVoter target → d.incoming ≡ target.outgoing
     → differing c (single_with target.outgoing (shared_members c target)) q + differing (single_with target.outgoing (shared_members c target)) target q
     ≤ differing c d q + differing d target q
 shared-is_nearest c d target q single between valid_with_voter voters =
-    let reached = single_with target.outgoing (shared_members c target) in
     let of_d = ValidByMember-from_is_valid d between.valid in
-    let waits = (ValidByMember-from_is_valid target valid_with_voter.valid).next_outgoing q in
-    let here : has d.incoming q ≡ has target.outgoing q = ap (λ s. has s q) voters in
-    let shared : is_any_learner reached q ≡ (is_member target q && not (has target.outgoing q) && (has c.incoming q || is_any_learner c q)) =
-    ap (λ b. has (shared_members c target) q || b) (has-no_ids q) ∙ or-false _ ∙ has-shared_members c target q
-    ∙ ap (λ b. is_member target q && not (has target.outgoing q) && b) (is_member-single c q single) in
-    let apart : has target.outgoing q ≡ true → is_any_learner d q ≡ false =
-    λ goes. or_from _ _
-    (false_from_ne_true _ (λ learns. true≢false (sym (here ∙ goes) ∙ of_d.learner_incoming q learns)))
-    (false_from_ne_true _ (λ later. true≢false (sym (here ∙ goes) ∙ of_d.next_incoming q later))) in
-    subst (λ p. differing c reached q + differing reached target q
-    ≤ once (kind_by p (is_any_learner d q) (has c.incoming q) (is_any_learner c q)) + once (kind_by (has target.incoming q) (is_any_learner target q) p (is_any_learner d q)))
-    (sym here)
-    (way_by_shared (has target.outgoing q) (is_any_learner reached q) (is_any_learner d q) (has c.incoming q) (is_any_learner c q)
-    (has target.incoming q) (has target.learners q) (has target.learners_next q) shared apart waits)
+    let of_target = ValidByMember-from_is_valid target valid_with_voter.valid in
+    grind (
+      arith,
+      voters,
+      outgoing-none c single.single,
+      IsSingle-no_next c single q,
+      has-no_ids q,
+      has-shared_members c target q,
+      of_d.learner_incoming q,
+      of_d.next_incoming q,
+      of_target.next_outgoing q,
+    )
 
 inserted-fewest : (c target : Configuration) (other : List Step) (q : ℕ) → IsSingle c → IsValidWithVoter target → is_joint target ≡ true → IsRun c other target
     → times_named q (single_steps c target.outgoing (shared_members c target) ++ entering_step (single_with target.outgoing (shared_members c target)) target ∷ []) ≤ times_named q other
@@ -173,11 +143,11 @@ planned_from_single-fewest c target other q single valid_with_voter run =
 pub planned-fewest : (now target : Configuration) (other : List Step) (q : ℕ) → IsValidWithVoter now → IsValidWithVoter target → IsRun now other target
     → times_named q (planned now target) ≤ times_named q other
 planned-fewest now target other q now_valid_with_voter valid_with_voter run =
-    planned-of_shapes now target (λ steps. times_named q steps ≤ times_named q other) (λ same. omega arith)
-    (λ joint differs.
+    path_by-of_shapes Shortest no_ids now target (λ steps. times_named q steps ≤ times_named q other) now_valid_with_voter (λ same. omega arith)
+    (λ differs joint single.
     let left = LeavesFirst-from_IsRun now target other joint differs run in
     let ours = named_by q LeaveJoint (planned_from_single (after_leave now) target) in
     let theirs = ap (times_named q) left.whole ∙ named_by q LeaveJoint left.rest in
-    let fewer = planned_from_single-fewest (after_leave now) target left.rest q (after_leave-is_single now now_valid_with_voter joint) valid_with_voter left.run in
+    let fewer = planned_from_single-fewest (after_leave now) target left.rest q single valid_with_voter left.run in
     omega arith)
-    (λ apart. planned_from_single-fewest now target other q (record { valid_with_voter = now_valid_with_voter; single = apart }) valid_with_voter run)
+    (λ differs single. planned_from_single-fewest now target other q single valid_with_voter run)

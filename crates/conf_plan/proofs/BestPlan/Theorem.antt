@@ -1,5 +1,5 @@
 -- The plan is the best there is.
-use Rattle.std.proofs.Common.{◌≡◌, List, [], ◌∷◌, sym, subst}
+use Rattle.std.proofs.Common.{◌≡◌, List, [], ◌∷◌}
 use Rattle.quorum_sets.specs.Overlap.{Overlap}
 use Rattle.conf_change.specs.Changer.{ChangerState}
 use Rattle.conf_change.specs.Configuration.{Configuration, voters_of}
@@ -26,7 +26,7 @@ pub planned-is_best : (now target : Configuration) → IsValidWithVoter now → 
 planned-is_best now target now_valid_with_voter valid_with_voter = record {
   run = planned-is_run now target now_valid_with_voter valid_with_voter;
   shortest = λ other run. planned-shortest now target other now_valid_with_voter valid_with_voter run;
-  preserving = λ other id preserves_all. planned-preserving now target other id now_valid_with_voter valid_with_voter preserves_all;
+  preserving = planned-preserving now target now_valid_with_voter valid_with_voter;
   preserved = λ id. planned-preserved now target id now_valid_with_voter valid_with_voter;
   fewest = λ other id run. planned-fewest now target other id now_valid_with_voter valid_with_voter run;
   plain = planned-is_plain now target now_valid_with_voter valid_with_voter;
@@ -37,9 +37,5 @@ planned-is_best now target now_valid_with_voter valid_with_voter = record {
 pub Takes-best : (a b : ChangerState) (steps : List Step) (target : Configuration) → Takes a steps b → steps ≡ planned a.tracker.config target
     → IsValidWithVoter a.tracker.config → IsValidWithVoter target → IsBest a.tracker.config steps b.tracker.config
 Takes-best a b steps target taken made now_valid_with_voter valid_with_voter =
-    let now = a.tracker.config in
-    let Leads : List Step → Type 0 = λ xs. IsRun now xs target in
-    let there = Takes-to_target a b steps target taken (subst Leads (sym made) (planned-is_run now target now_valid_with_voter valid_with_voter)) in
-    let Best : List Step → Type 0 = λ xs. IsBest now xs target in
-    let Reached : Configuration → Type 0 = λ c. IsBest now steps c in
-    subst Reached (sym there) (subst Best (sym made) (planned-is_best now target now_valid_with_voter valid_with_voter))
+    let there = Takes-to_target a b steps target taken (rw made (planned-is_run a.tracker.config target now_valid_with_voter valid_with_voter)) in
+    rw (there, made) (planned-is_best a.tracker.config target now_valid_with_voter valid_with_voter)

@@ -1,12 +1,11 @@
 -- How often an ascending list has an id.
-use Rattle.std.proofs.Common.{◌≡◌, ℕ, ◌+◌, ◌<◌, Bool, true, false, cond, ◌||◌, ◌==◌, List, [], ◌∷◌, inl, inr, refl, sym, ap, subst, ◌∙◌, arith, eqb-true}
+use Rattle.std.proofs.Common.{◌≡◌, ℕ, ◌+◌, ◌<◌, Bool, true, cond, ◌==◌, List, [], ◌∷◌, refl, sym, ap, subst, ◌∙◌, arith, eqb-true}
 use Rattle.std.specs.Prelude.{count_by}
 use Rattle.std.specs.declared.cmp.Ordering.TheVariants.{Less}
 use Rattle.std.specs.Ordering.{nat_cmp, MatchOrdering}
 use Rattle.std.specs.Cmp.{ranks}
 use Rattle.std.specs.List.{list_any, AllByRecursion}
 use Rattle.std.specs.List.Sorted.{IsStrictlySortedBy}
-use Rattle.std.proofs.lemmas.Bool.{or_cases, false_from_ne_true}
 use Rattle.std.proofs.lemmas.List.Sums.{sum_by-cons}
 use Rattle.quorum_sets.specs.Ids.{Ids, has, ascending}
 use Rattle.quorum_sets.proofs.Offered.{ascending-is_sorted, has-ascending}
@@ -20,10 +19,7 @@ holds q xs = list_any (λ x. q == x) xs
 -- those after the first are above it
 pub holds-above : (z q : ℕ) (zs : List ℕ) → AllByRecursion (λ y. nat_cmp z y ≡ Less) zs → holds q zs ≡ true → z < q
 holds-above z q [] up here = cc
-holds-above z q (y ∷ ys) up here = elim (or_cases (q == y) (holds q ys) here) [
-  | inl same ↦ subst (λ k. z < k) (sym (eqb-true q y same)) (less z y up.0)
-  | inr later ↦ holds-above z q ys up.1 later
-]
+holds-above z q (y ∷ ys) up here = grind (arith, less z y up.0, eqb-true q y, holds-above z q ys up.1, here)
 
 -- ---- how often a list has an id
 abbrev pub times : ℕ → List ℕ → ℕ
@@ -36,13 +32,7 @@ times-cons q x ids = sum_by-cons (λ y. cond (q == y) 1 0) x ids
 times-sorted : (q : ℕ) (ids : List ℕ) → IsStrictlySortedBy nat_cmp ids → times q ids ≡ cond (holds q ids) 1 0
 unfolding IsStrictlySortedBy
 times-sorted q [] up = refl
-times-sorted q (x ∷ ids) up =
-    times-cons q x ids ∙ ap (λ n. cond (q == x) 1 0 + n) (times-sorted q ids up.1)
-    ∙ one_of_both (q == x) (holds q ids)
-    (λ same. false_from_ne_true (holds q ids) (λ later. let past = holds-above x q ids up.0 later in let is = eqb-true q x same in absurd (omega arith)))
-  where
-    one_of_both : (here later : Bool) → (here ≡ true → later ≡ false) → cond here 1 0 + cond later 1 0 ≡ cond (here || later) 1 0
-    one_of_both here later apart = grind arith
+times-sorted q (x ∷ ids) up = grind (arith, times-cons q x ids, times-sorted q ids up.1, holds-above x q ids up.0, eqb-true q x)
 
 pub times-ascending : (q : ℕ) (ids : Ids) → times q (ascending ids) ≡ cond (has ids q) 1 0
 times-ascending q ids = times-sorted q (ascending ids) (ascending-is_sorted ids) ∙ ap (λ b. cond b 1 0) (sym (has-ascending ids q))

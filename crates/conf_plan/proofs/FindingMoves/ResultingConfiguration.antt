@@ -1,14 +1,14 @@
 -- What the moves make of a configuration that is not joint.
-use Rattle.std.proofs.Common.{◌≡◌, ℕ, Bool, true, false, not, ◌&&◌, refl, sym, ap, ◌∙◌, arith}
+use Rattle.std.proofs.Common.{◌≡◌, ℕ, Bool, true, false, not, ◌&&◌, ◌||◌, refl, sym, ◌∙◌, arith}
 use Rattle.std.specs.Prelude.{None}
-use Rattle.std.proofs.lemmas.Bool.{not-false, true≢false, false_from_ne_true}
+use Rattle.std.proofs.lemmas.Bool.{not-false, not-true}
 use Rattle.quorum_sets.specs.Ids.{Ids, has, is_empty}
-use Rattle.quorum_sets.proofs.Offered.{has-same_ids}
-use Rattle.conf_change.specs.Configuration.{Configuration, is_joint, ValidByMember}
-use Rattle.conf_change.specs.Change.{is_incoming_after, is_learner_after, is_next_after, result_of}
-use Rattle.conf_change.proofs.Offered.{has-incoming_after, has-learners_after, has-next_after, ValidByMember-from_is_valid, has-none_in_empty}
+use Rattle.quorum_sets.proofs.Offered.{has-no_ids, has-same_ids}
+use Rattle.conf_change.specs.Configuration.{Configuration, is_joint, is_member, ValidByMember}
+use Rattle.conf_change.specs.Change.{result_of}
+use Rattle.conf_change.proofs.Offered.{configuration-by_members, has-incoming_after, has-learners_after, has-next_after, has-none_in_empty, outgoing-none, ValidByMember-from_is_valid}
 use Rattle.conf_plan.specs.Run.{IsValidWithVoter}
-use Rattle.conf_plan.specs.Planned.{kind_by, kind_of_move, moves}
+use Rattle.conf_plan.specs.Planned.{kind_of_move, moves, single_with}
 use Rattle.conf_plan.proofs.FindingMoves.OfEachId.{last_effective-moves}
 
 -- ---- a configuration that is valid with a voter, and not joint
@@ -19,8 +19,17 @@ pub record IsSingle (c : Configuration) : Type 0 where
 -- no id waits in it
 pub IsSingle-no_next : (c : Configuration) → IsSingle c → (q : ℕ) → has c.learners_next q ≡ false
 IsSingle-no_next c s q =
-    false_from_ne_true _ (λ waits.
-    true≢false (sym ((ValidByMember-from_is_valid c s.valid_with_voter.valid).next_outgoing q waits) ∙ has-none_in_empty c.outgoing (not-false _ s.single) q))
+    let valid = ValidByMember-from_is_valid c s.valid_with_voter.valid in
+    grind (arith, valid.next_outgoing q, has-none_in_empty c.outgoing (not-false _ s.single) q)
+
+-- it is decided by its voters and learners
+pub single_with-own : (c : Configuration) → IsSingle c → single_with c.incoming c.learners ≡ c
+single_with-own c single =
+    configuration-by_members (single_with c.incoming c.learners) c (λ q. refl) (sym (outgoing-none c single.single)) (λ q. refl)
+    (λ q. has-no_ids q ∙ sym (IsSingle-no_next c single q)) (sym ((ValidByMember-from_is_valid c single.valid_with_voter.valid).auto_leave single.single))
+
+pub is_member-single_with : (voters learners : Ids) (q : ℕ) → is_member (single_with voters learners) q ≡ (has voters q || has learners q)
+is_member-single_with voters learners q = grind (arith, has-no_ids q)
 
 -- ---- voters and learners that can be wanted
 pub record AreWanted (voters learners : Ids) : Type 0 where
@@ -29,18 +38,17 @@ pub record AreWanted (voters learners : Ids) : Type 0 where
   pub zero_learners : has learners 0 ≡ false
   pub apart : (q : ℕ) → has voters q ≡ true → has learners q ≡ false
 
--- ---- each id by itself
-incoming_wanted : (v m i l : Bool) → (l ≡ true → i ≡ false) → is_incoming_after (kind_by v m i l) i ≡ v
-incoming_wanted v m i l apart = grind arith
+pub own-are_wanted : (c : Configuration) → IsValidWithVoter c → AreWanted c.incoming c.learners
+own-are_wanted c valid_with_voter =
+    let valid = ValidByMember-from_is_valid c valid_with_voter.valid in
+    record {
+      voter = not-true (is_empty c.incoming) valid_with_voter.voter;
+      zero_voters = valid.zero_incoming;
+      zero_learners = valid.zero_learners;
+      apart = λ q votes. grind (arith, valid.learner_incoming q, votes);
+    }
 
-learners_wanted : (v m i l o : Bool) → (v ≡ true → m ≡ false) → (l ≡ true → i ≡ false) → (l ≡ true → o ≡ false)
-    → is_learner_after (kind_by v m i l) o l ≡ (m && not o)
-learners_wanted v m i l o wanted apart out = grind arith
-
-next_wanted : (v m i l o : Bool) → (v ≡ true → m ≡ false) → (l ≡ true → o ≡ false) → is_next_after (kind_by v m i l) o false ≡ (m && o)
-next_wanted v m i l o wanted out = grind arith
-
--- ---- all of them
+-- ---- what is made
 -- it has the wanted voters, and the wanted learners, of which those wait that are outgoing voters
 pub record HasWanted (made : Configuration) (voters learning : Ids) : Type 0 where
   pub incoming : made.incoming ≡ voters
@@ -61,13 +69,7 @@ moves-has_wanted c out voters learners flag single wanted apart_out =
     let valid = ValidByMember-from_is_valid c single.valid_with_voter.valid in
     let token = λ (q : ℕ). last_effective-moves c voters learners q (kind_of_move-zero c voters learners valid wanted) in
     record {
-      incoming = has-same_ids _ _ (λ q.
-          has-incoming_after start (moves c voters learners) q ∙ ap (λ o. is_incoming_after o (has c.incoming q)) (token q)
-          ∙ incoming_wanted (has voters q) (has learners q) (has c.incoming q) (has c.learners q) (valid.learner_incoming q));
-      learners = λ q.
-          has-learners_after start (moves c voters learners) q ∙ ap (λ o. is_learner_after o (has out q) (has c.learners q)) (token q)
-          ∙ learners_wanted (has voters q) (has learners q) (has c.incoming q) (has c.learners q) (has out q) (wanted.apart q) (valid.learner_incoming q) (apart_out q);
-      next = λ q.
-          has-next_after start (moves c voters learners) q ∙ (λ i. is_next_after (token q i) (has out q) (IsSingle-no_next c single q i))
-          ∙ next_wanted (has voters q) (has learners q) (has c.incoming q) (has c.learners q) (has out q) (wanted.apart q) (apart_out q);
+      incoming = has-same_ids _ _ (λ q. grind (arith, has-incoming_after start (moves c voters learners) q, token q, valid.learner_incoming q));
+      learners = λ q. grind (arith, has-learners_after start (moves c voters learners) q, token q, wanted.apart q, valid.learner_incoming q, apart_out q);
+      next = λ q. grind (arith, has-next_after start (moves c voters learners) q, token q, IsSingle-no_next c single q, wanted.apart q, apart_out q);
     }

@@ -2,7 +2,6 @@
 use Rattle.std.proofs.Common.{◌≡◌, true}
 use Rattle.quorum_sets.specs.Ids.{Ids}
 use Rattle.conf_change.specs.Configuration.{Configuration}
-use Rattle.conf_plan.specs.OnTheWay.{ShortestPromises}
 use Rattle.conf_plan.specs.PathBy.{has_path, path_by, KeepsPromises}
 use Rattle.conf_plan.specs.Planned.{planned}
 use Rattle.conf_plan.specs.Run.{IsValidWithVoter}
@@ -14,8 +13,9 @@ use Rattle.conf_plan.proofs.OnTheWay.Quorums.{KeepsTolerance-from_quorums, plann
 use Rattle.conf_plan.proofs.BestPlan.Theorem.{planned-is_best}
 use Rattle.conf_plan.proofs.PlannedSteps.RunToTarget.{planned-at_most_four}
 
-planned-keeps_promises : (now target : Configuration) → IsValidWithVoter now → IsValidWithVoter target → ShortestPromises now (planned now target) target
-planned-keeps_promises now target now_valid_with_voter valid_with_voter =
+pub path_by-keeps_promises : (strategy : Strategy) (down : Ids) (now target : Configuration) → IsValidWithVoter now → IsValidWithVoter target → has_path strategy now target ≡ true
+    → KeepsPromises strategy down now (path_by strategy down now target) target
+path_by-keeps_promises Shortest down now target now_valid_with_voter valid_with_voter way =
     let quorums = planned-keeps_quorums now target now_valid_with_voter valid_with_voter in
     record {
       best = planned-is_best now target now_valid_with_voter valid_with_voter;
@@ -23,9 +23,5 @@ planned-keeps_promises now target now_valid_with_voter valid_with_voter =
       quorums = quorums;
       tolerance = λ down. KeepsTolerance-from_quorums down now target (planned now target) quorums;
     }
-
-pub path_by-keeps_promises : (strategy : Strategy) (down : Ids) (now target : Configuration) → IsValidWithVoter now → IsValidWithVoter target → has_path strategy now target ≡ true
-    → KeepsPromises strategy down now (path_by strategy down now target) target
-path_by-keeps_promises Shortest down now target now_valid_with_voter valid_with_voter way = planned-keeps_promises now target now_valid_with_voter valid_with_voter
 path_by-keeps_promises LearnersFirst down now target now_valid_with_voter valid_with_voter way = learners_first-keeps_promises now target now_valid_with_voter valid_with_voter
 path_by-keeps_promises OneAtATime down now target now_valid_with_voter valid_with_voter way = one_at_a_time-keeps_promises down now target now_valid_with_voter valid_with_voter way

@@ -1,23 +1,22 @@
 -- No run of single changes, on which only learners become voters, is shorter than the path that takes one member at a time.
 -- Each id costs the steps by which it gets its role in the target. One change lowers the sum of these costs by one at most, and the path has as many steps as the sum.
-use Rattle.std.proofs.Common.{◌≡◌, ℕ, ◌+◌, ◌≤◌, Bool, true, false, cond, not, ◌==◌, List, [], ◌∷◌, length, sym, ap, subst, ◌∙◌, arith}
+use Rattle.std.proofs.Common.{◌≡◌, ℕ, ◌+◌, ◌≤◌, Bool, true, false, cond, ◌==◌, List, [], ◌∷◌, length, sym, ap, ◌∙◌, arith}
 use Rattle.std.specs.Prelude.{sum_by, count_by}
 use Rattle.std.proofs.lemmas.Bool.{not-false, or_from}
 use Rattle.std.proofs.lemmas.List.Concat.{length-flat_map}
 use Rattle.std.proofs.lemmas.List.Sums.{sum_by-cons, sum_by-le}
 use Rattle.quorum_sets.specs.Ids.{Ids, has, is_empty}
 use Rattle.conf_change.specs.Configuration.{Configuration, is_joint}
-use Rattle.conf_change.specs.Outcome.{after_leave}
 use Rattle.conf_change.specs.declared.change.Change.{Change}
 use Rattle.conf_change.specs.declared.step.Step.{Step}
 use Rattle.conf_change.specs.declared.step.Step.TheVariants.{Simple, EnterJoint, LeaveJoint}
-use Rattle.conf_change.proofs.Offered.{SimpleTaken-from_outcome, LeaveTaken-from_outcome, has-incoming_after, has-learners_after, has-none_in_empty, is_empty-no_ids, last_effective-one}
+use Rattle.conf_change.proofs.Offered.{SimpleTaken-from_outcome, LeaveTaken-from_outcome, has-incoming_after, has-learners_after, has-none_in_empty, last_effective-one}
 use Rattle.conf_plan.specs.OnTheWay.{ChangesOneLearnerFirst}
 use Rattle.conf_plan.specs.OneAtATime.{steps_of, order, down_in_order, one_at_a_time_from_single}
 use Rattle.conf_plan.specs.PathBy.{path_by}
 use Rattle.conf_plan.specs.Run.{IsValidWithVoter, Gives, IsRunWith}
 use Rattle.conf_plan.specs.declared.strategy.Strategy.TheVariants.{OneAtATime}
-use Rattle.conf_plan.proofs.OnTheWay.AlongPath.{path_by-of_shapes}
+use Rattle.conf_plan.proofs.BestPlan.FewestSteps.{path_by-shortest}
 use Rattle.conf_plan.proofs.OnTheWay.OneAtATime.{steps_by}
 use Rattle.conf_plan.proofs.OnTheWay.OrderOfIds.{AreOnce, AreOnce-order}
 use Rattle.conf_plan.proofs.Runs.JointEnds.{is_joint-not_both}
@@ -86,18 +85,11 @@ from_single-least down c target other single run =
     let needed = total-within target c other ids (AreOnce-order (down_in_order down c target) c target) single run in
     omega arith
 
--- a joint configuration has to be left first
-from_joint-least : (down : Ids) (now target : Configuration) (other : List Step) → is_joint now ≡ true → (now ≡ target → ⊥) → IsRunWith ChangesOneLearnerFirst now other target
-    → length (LeaveJoint ∷ one_at_a_time_from_single down (after_leave now) target) ≤ length other
-from_joint-least down now target [] joint differs run = absurd (differs run)
-from_joint-least down now target (Simple changes ∷ other) joint differs run = is_joint-not_both now joint (SimpleTaken-from_outcome now run.0 changes run.1.0).single
-from_joint-least down now target (EnterJoint auto_leave changes ∷ other) joint differs run = absurd run.1.1.one
-from_joint-least down now target (LeaveJoint ∷ other) joint differs run =
-    let P : Configuration → Type 0 = λ d. IsRunWith ChangesOneLearnerFirst d other target in
-    let rest = from_single-least down (after_leave now) target other (ap not is_empty-no_ids) (subst P (sym (LeaveTaken-from_outcome now run.0 run.1.0).made) run.2) in
-    omega arith
-
 pub one_at_a_time-least : (down : Ids) (now target : Configuration) → IsValidWithVoter now → (other : List Step) → IsRunWith ChangesOneLearnerFirst now other target → length (path_by OneAtATime down now target) ≤ length other
 one_at_a_time-least down now target valid_with_voter other run =
-    path_by-of_shapes OneAtATime down now target (λ steps. length steps ≤ length other) valid_with_voter (λ same. omega arith)
-    (λ differs joint. from_joint-least down now target other joint differs run) (λ differs single. from_single-least down now target other single.single run)
+    let Leads : Configuration → Step → Configuration → Type 0 = λ before step after. Gives before step after × ChangesOneLearnerFirst before step after in
+    omega (
+      arith,
+      path_by-shortest Leads (λ a b step leads. leads.0) OneAtATime down 0 now target other valid_with_voter run
+          (λ c steps single run. omega (arith, from_single-least down c target steps single.single run)),
+    )

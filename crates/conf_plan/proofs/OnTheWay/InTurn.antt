@@ -12,7 +12,7 @@ use Rattle.conf_change.specs.declared.change.Kind.{Kind}
 use Rattle.conf_change.specs.declared.step.Step.{Step}
 use Rattle.conf_plan.specs.OneAtATime.{one_change, in_turn}
 use Rattle.conf_plan.specs.PlanSteps.{HasU64Ids}
-use Rattle.conf_plan.specs.Walking.{IsAdded}
+use Rattle.conf_plan.specs.AddedSteps.{IsAdded}
 use Rattle.conf_plan.proofs.PlannedSteps.Cases.{added-more}
 
 -- a step of one change

@@ -1,5 +1,5 @@
 -- The step that makes newcomers learners.
-use Rattle.std.proofs.Common.{◌≡◌, ℕ, true, not, ◌&&◌, ◌||◌, [], ◌∷◌, sym, ap, subst, ◌∙◌, arith, eqb-true}
+use Rattle.std.proofs.Common.{◌≡◌, ℕ, true, not, ◌&&◌, ◌||◌, [], ◌∷◌, ap, subst, ◌∙◌, arith, eqb-true}
 use Rattle.quorum_sets.specs.Ids.{no_ids, has, ascending, is_empty, difference_count, union}
 use Rattle.quorum_sets.proofs.Offered.{has-ascending, has-ids_where, has-no_ids, has-same_ids, has-union}
 use Rattle.conf_change.specs.Configuration.{Configuration, is_member}
@@ -7,16 +7,15 @@ use Rattle.conf_change.specs.declared.step.Step.TheVariants.{Simple}
 use Rattle.conf_change.proofs.Offered.{ValidByMember-from_is_valid, has-none_in_empty, is_empty-no_ids, is_same_set-refl}
 use Rattle.conf_plan.specs.LearnersFirst.{newcomers, learner_changes, with_learners}
 use Rattle.conf_plan.specs.Run.{IsValidWithVoter, Gives}
-use Rattle.conf_plan.proofs.FindingMoves.ResultingConfiguration.{IsSingle, AreWanted}
+use Rattle.conf_plan.proofs.FindingMoves.ResultingConfiguration.{IsSingle, AreWanted, own-are_wanted, single_with-own}
 use Rattle.conf_plan.proofs.PlannedSteps.BetweenSingle.{simple_moves-accepted}
-use Rattle.conf_plan.proofs.PlannedSteps.RunToTarget.{single_with-own, own-are_wanted}
 use Rattle.conf_plan.proofs.Runs.Chains.{run-is_valid, IsRun-one}
 
 -- ---- who is one
 pub has-newcomers : (c target : Configuration) (q : ℕ) → has (newcomers c target) q ≡ (not (is_member c q) && (has target.incoming q || has target.outgoing q))
 has-newcomers c target q =
-    has-ids_where (λ id. not (is_member c id)) (ascending (union target.incoming target.outgoing)) q
-    ∙ ap (λ b. not (is_member c q) && b) (sym (has-ascending (union target.incoming target.outgoing) q) ∙ has-union target.incoming target.outgoing q)
+    let voters = union target.incoming target.outgoing in
+    grind (arith, has-ids_where (λ id. not (is_member c id)) (ascending voters) q, has-ascending voters q, has-union target.incoming target.outgoing q)
 
 -- all voters of the target are members
 abbrev pub HasNoNewcomer : Configuration → Configuration → Type 0

@@ -1,9 +1,9 @@
 -- The path on which one member changes at a time leads to the target, and what holds at each of its steps.
-use Rattle.std.proofs.Common.{◌≡◌, ℕ, Bool, true, false, cond, not, ◌&&◌, ◌||◌, ◌==◌, List, [], ◌∷◌, ◌++◌, refl, sym, ap, subst, ◌∙◌, arith, eqb-true, eq-eqb}
+use Rattle.std.proofs.Common.{◌≡◌, ℕ, Bool, true, false, cond, not, ◌&&◌, ◌||◌, ◌==◌, List, [], ◌∷◌, ◌++◌, refl, sym, subst, arith, eqb-true, eq-eqb}
 use Rattle.std.specs.Prelude.{flat_map, option_map}
 use Rattle.std.specs.Bool.{beq}
 use Rattle.std.specs.List.{cons_option}
-use Rattle.std.proofs.lemmas.Bool.{both_ways, cond_both, false_from_ne_true}
+use Rattle.std.proofs.lemmas.Bool.{cond_both}
 use Rattle.std.proofs.lemmas.List.Concat.{flat_map-cons}
 use Rattle.quorum_sets.specs.Ids.{Ids, no_ids, has, with_id, is_empty}
 use Rattle.quorum_sets.proofs.Offered.{has-no_ids, has-same_ids, has-with_id}
@@ -67,10 +67,6 @@ steps_by-cases : (will_vote will_learn votes learns : Bool) (id : ℕ) → (will
     (cond (will_vote && not (votes || learns)) (one_change Learner id ∷ one_change (kind_for will_vote will_learn) id ∷ []) (one_change (kind_for will_vote will_learn) id ∷ []))
 steps_by-cases will_vote will_learn votes learns id then now = grind arith
 
--- a voter is not a learner too
-voter_alone : (d : Configuration) (id : ℕ) → ValidByMember d → has d.incoming id ≡ true → has d.learners id ≡ false
-voter_alone d id valid voter = false_from_ne_true (has d.learners id) (λ learner. both_ways (has d.incoming id) (valid.learner_incoming id learner) voter)
-
 steps_of-lead : (Fine : Ids → Type 0) (c target : Configuration) (id : ℕ) (left : List ℕ) → ValidByMember c → ValidByMember target → target.outgoing ≡ no_ids → times id left ≡ 0
     → ((voters : Ids) → Fine voters → is_empty voters ≡ false) → Fine (mixed c.incoming target.incoming (id ∷ left)) → Fine (mixed c.incoming target.incoming left)
     → IsRunWith (IsTurn Fine target) (between c target (id ∷ left)) (steps_of c target id) (between c target left)
@@ -88,14 +84,13 @@ steps_of-lead Fine c target id left valid_c valid single once needs fine fine_af
     let learns_at = has-mixed_done c.learners target.learners id left once in
     let votes_now = has-mixed_first c.incoming target.incoming id left in
     let learns_now = has-mixed_first c.learners target.learners id left in
-    let alone = voter_alone target id valid in
-    let alone_now = voter_alone c id valid_c in
+    -- a voter is not a learner too
+    let alone : will_vote ≡ true → will_learn ≡ false = λ voter. grind (arith, valid.learner_incoming id, voter) in
+    let alone_now : votes ≡ true → learns ≡ false = λ voter. grind (arith, valid_c.learner_incoming id, voter) in
     let Leads : List Step → Type 0 = λ steps. IsRunWith (IsTurn Fine target) (between c target (id ∷ left)) steps (between c target left) in
     -- an id that has a role is not 0
     let not_zero : (will_vote || will_learn || (votes || learns)) ≡ true → (id == 0) ≡ false =
-    λ some. false_from_ne_true (id == 0) (λ zero.
-    both_ways _ (λ i. valid.zero_incoming i || valid.zero_learners i || (valid_c.zero_incoming i || valid_c.zero_learners i))
-    (ap (λ x. has target.incoming x || has target.learners x || (has c.incoming x || has c.learners x)) (sym (eqb-true id 0 zero)) ∙ some)) in
+    λ some. grind (arith, eqb-true id 0, valid.zero_incoming, valid.zero_learners, valid_c.zero_incoming, valid_c.zero_learners, some) in
     let becomes : is_member target id ≡ true → (will_vote || will_learn) ≡ true = λ member. grind (arith, single, has-no_ids id, member) in
     let some = needs voters fine in
     let some_after = needs voters_after fine_after in

@@ -15,17 +15,16 @@ use Rattle.conf_plan.specs.PathBy.{has_path, path_by}
 use Rattle.conf_plan.specs.Planned.{single_with}
 use Rattle.conf_plan.specs.Run.{IsValidWithVoter, IsRunWith}
 use Rattle.conf_plan.specs.declared.strategy.Strategy.TheVariants.{OneAtATime}
-use Rattle.conf_plan.proofs.OnTheWay.AlongPath.{IsRunWith-weaker, path_by-holds, path_by-preserves_all}
+use Rattle.conf_plan.proofs.PlannedSteps.AlongPath.{path_by-holds}
 use Rattle.conf_plan.proofs.OnTheWay.FewestSingleChanges.{one_at_a_time-least}
 use Rattle.conf_plan.proofs.OnTheWay.OneAtATime.{IsTurn, steps_of-lead_on}
 use Rattle.conf_plan.proofs.OnTheWay.OneAtATimeTolerance.{IsNoWorseThanOne, IsAsTolerant-in_order, is_empty-in_order, order-is_fine}
 use Rattle.conf_plan.proofs.OnTheWay.OrderOfIds.{AreOnce-order, between, between-all_left, mixed-none_left}
 use Rattle.conf_plan.proofs.OnTheWay.ReadyVoters.{KeepsVoters, KeepsVoters-leaving, MakesVotersOfReady-from_kept, NoVoterCatchesUp-from_kept}
-use Rattle.conf_plan.proofs.BestPlan.PreservedMembers.{Keeps}
+use Rattle.conf_plan.proofs.BestPlan.PreservedMembers.{Keeps, path_by-preserves_all}
 use Rattle.conf_plan.proofs.BestPlan.Theorem.{run-overlaps}
-use Rattle.conf_plan.proofs.FindingMoves.ResultingConfiguration.{IsSingle}
-use Rattle.conf_plan.proofs.PlannedSteps.RunToTarget.{single_with-own}
-use Rattle.conf_plan.proofs.Runs.Chains.{IsRun-from_IsRunWith}
+use Rattle.conf_plan.proofs.FindingMoves.ResultingConfiguration.{IsSingle, single_with-own}
+use Rattle.conf_plan.proofs.Runs.Chains.{IsRun-from_IsRunWith, IsRunWith-weaker}
 
 -- ---- from a configuration that is not joint
 abbrev IsTurnFrom : Ids → Configuration → Configuration → Configuration → Step → Configuration → Type 0

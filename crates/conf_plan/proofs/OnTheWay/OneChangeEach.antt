@@ -1,14 +1,14 @@
 -- The changes of a simple step of a path are accepted one by one, too.
-use Rattle.std.proofs.Common.{◌≡◌, ℕ, ◌*◌, ◌≤◌, true, false, cond, not, List, [], ◌∷◌, ◌++◌, map, refl, sym, ap, subst, ◌∙◌, arith, eq-eqb}
-use Rattle.std.specs.Prelude.{None, count_by, ⊤}
+use Rattle.std.proofs.Common.{◌≡◌, ℕ, ◌*◌, ◌≤◌, true, false, cond, not, List, [], ◌∷◌, ◌++◌, map, sym, ap, subst, ◌∙◌, arith, eq-eqb}
+use Rattle.std.specs.Prelude.{count_by, ⊤}
 use Rattle.std.proofs.lemmas.Bool.{and_from, both_ways, false_from_ne_true, lt-ltb, not-false, not-true, or_left}
 use Rattle.std.proofs.lemmas.List.{append_assoc, append-nil}
 use Rattle.std.proofs.lemmas.List.Concat.{flat_map-cons}
-use Rattle.std.proofs.lemmas.List.Sums.{sum_by-append, sum_by-cons}
+use Rattle.std.proofs.lemmas.List.Sums.{sum_by-append}
 use Rattle.quorum_sets.specs.Ids.{Ids, has, ascending, size, count_of, is_empty, difference_count, union}
 use Rattle.quorum_sets.specs.Voters.{is_quorum}
 use Rattle.quorum_sets.proofs.Offered.{count_by-none, count_of-rest, has-ascending}
-use Rattle.conf_change.specs.Change.{names, last_effective, is_incoming_after, result_of}
+use Rattle.conf_change.specs.Change.{names, is_incoming_after, result_of}
 use Rattle.conf_change.specs.Configuration.{Configuration, is_joint, voters_of}
 use Rattle.conf_change.specs.Outcome.{after_leave}
 use Rattle.conf_change.specs.declared.change.Change.{Change}
@@ -23,23 +23,19 @@ use Rattle.conf_plan.specs.Planned.{kind_by, moves, single_with, entering_step, 
 use Rattle.conf_plan.specs.Run.{IsValidWithVoter, IsRun, IsRunWith, Gives}
 use Rattle.conf_plan.specs.declared.strategy.Strategy.{Strategy}
 use Rattle.conf_plan.specs.declared.strategy.Strategy.TheVariants.{Shortest, LearnersFirst, OneAtATime}
-use Rattle.conf_plan.proofs.OnTheWay.AlongPath.{IsRunWith-weaker, planned_from_single-holds, path_by-holds}
+use Rattle.conf_plan.proofs.PlannedSteps.AlongPath.{planned_from_single-holds, path_by-holds}
 use Rattle.conf_plan.proofs.OnTheWay.EachStrategy.{path_by-keeps_promises}
 use Rattle.conf_plan.proofs.OnTheWay.LearnersFirst.{from_single-holds}
 use Rattle.conf_plan.proofs.BestPlan.FewestNames.{once, moves-name_once}
-use Rattle.conf_plan.proofs.FindingMoves.OfEachId.{last_effective-cons}
+use Rattle.conf_plan.proofs.FindingMoves.OfEachId.{last_effective-none}
 use Rattle.conf_plan.proofs.FindingMoves.ResultingConfiguration.{IsSingle}
 use Rattle.conf_plan.proofs.PlannedSteps.BetweenSingle.{entered_by}
-use Rattle.conf_plan.proofs.Runs.Chains.{IsChain-append, IsRun-one}
+use Rattle.conf_plan.proofs.Runs.Chains.{IsChain-append, IsRun-one, IsRunWith-weaker}
 
 -- ---- a list of changes that leaves one voter alone
 -- no change names the id
 abbrev NamesNot : ℕ → List Change → Type 0
 NamesNot q changes = count_by (names q) changes ≡ 0
-
-last_effective-none : (changes : List Change) (q : ℕ) → NamesNot q changes → last_effective changes q ≡ None
-last_effective-none [] q none = refl
-last_effective-none (x ∷ changes) q none = grind (arith, last_effective-cons x changes q, sum_by-cons (λ y. cond (names q y) 1 0) x changes, last_effective-none changes q)
 
 -- then each of the others is accepted where the previous ones lead
 changes-one_by_one : (c : Configuration) (q : ℕ) (xs ys : List Change) → is_joint c ≡ false → has c.incoming q ≡ true → NamesNot q (xs ++ ys)
@@ -66,12 +62,6 @@ changes-one_by_one c q xs (y ∷ ys) single voter none =
 abbrev Splits : Configuration → Step → Configuration → Type 0
 Splits before step after = Gives before step after → IsRun before (each_change step) after
 
-Splits-simple : (c after : Configuration) (changes : List Change) (q : ℕ) → has c.incoming q ≡ true → NamesNot q changes → Splits c (Simple changes) after
-Splits-simple c after changes q voter none gives =
-    let taken = SimpleTaken-from_outcome c after changes gives in
-    let steps = map (λ change. Simple (change ∷ [])) changes in
-    subst (λ d. IsRun d steps after) (sym (result_of-none c)) (subst (IsRun (result_of c []) steps) taken.made (changes-one_by_one c q [] changes taken.single voter none))
-
 -- the voters of a configuration that is not joint are a quorum
 own_quorum : (c : Configuration) → is_empty c.incoming ≡ false → is_empty c.outgoing ≡ true → is_quorum (voters_of c) c.incoming ≡ true
 own_quorum c some single =
@@ -84,14 +74,18 @@ own_quorum c some single =
 -- quorums before and after a step share a voter, which the moves leave alone
 Splits-moves : (c : Configuration) (voters learners : Ids) → is_empty c.incoming ≡ false → is_empty voters ≡ false → Splits c (Simple (moves c voters learners)) (single_with voters learners)
 Splits-moves c voters learners some_c some gives =
+    let changes = moves c voters learners in
     let after = single_with voters learners in
-    let single = not-false (is_empty c.outgoing) (SimpleTaken-from_outcome c after (moves c voters learners) gives).single in
-    let shared = (outcome-overlaps c after (Simple (moves c voters learners)) gives).quorums c.incoming voters (record { quorum_before = own_quorum c some_c single; quorum_after = own_quorum after some is_empty-no_ids }) in
+    let taken = SimpleTaken-from_outcome c after changes gives in
+    let shared = (outcome-overlaps c after (Simple changes) gives).quorums c.incoming voters
+    (record { quorum_before = own_quorum c some_c (not-false (is_empty c.outgoing) taken.single); quorum_after = own_quorum after some is_empty-no_ids }) in
     let q = shared.0 in
     let none : once (kind_by (has voters q) (has learners q) (has c.incoming q) (has c.learners q)) ≡ 0 =
     λ i. once (kind_by (shared.1.in_second i) (has learners q) (shared.1.in_first i) (has c.learners q)) in
     let named = moves-name_once c voters learners q in
-    Splits-simple c after (moves c voters learners) q shared.1.in_first (omega arith) gives
+    let steps = map (λ change. Simple (change ∷ [])) changes in
+    subst (λ d. IsRun d steps after) (sym (result_of-none c))
+    (subst (IsRun (result_of c []) steps) taken.made (changes-one_by_one c q [] changes taken.single shared.1.in_first (omega arith)))
 
 -- ---- the plan
 planned_from_single-splits : (c target : Configuration) → IsSingle c → IsValidWithVoter target → IsRunWith Splits c (planned_from_single c target) target
@@ -99,10 +93,10 @@ planned_from_single-splits c target single valid_with_voter =
     planned_from_single-holds Splits (λ voters learners. ⊤) c target single valid_with_voter (record {
       apart = λ apart. tt;
       outgoing = λ joint. tt;
-      simple = λ voters learners wants wanted few. Splits-moves c voters learners (not-true (is_empty c.incoming) single.valid_with_voter.voter) wanted.voter;
+      simple = λ voters learners wants wanted. Splits-moves c voters learners (not-true (is_empty c.incoming) single.valid_with_voter.voter) wanted.voter;
       enters = λ voters learners wants moved. IsRun-one c (entered_by c voters learners) (EnterJoint false (moves c voters learners));
       leaves = λ voters learners wants moved. IsRun-one (entered_by c voters learners) (single_with voters learners) LeaveJoint;
-      into = λ d has_all. IsRun-one d target (entering_step d target);
+      into = λ d single_d has_all. IsRun-one d target (entering_step d target);
     })
 
 -- ---- each strategy

@@ -5,7 +5,7 @@ use Rattle.quorum_sets.specs.Ids.{Ids, no_ids, has, ascending, ids_where, is_emp
 use Rattle.quorum_sets.specs.Tolerance.{commits_without}
 use Rattle.quorum_sets.specs.Voters.{is_quorum}
 use Rattle.quorum_sets.proofs.Offered.{has-ascending, has-ids_where, has-union, is_quorum-without}
-use Rattle.conf_change.specs.Configuration.{Configuration, is_joint, voters_of}
+use Rattle.conf_change.specs.Configuration.{Configuration, voters_of}
 use Rattle.conf_change.specs.Outcome.{after_leave}
 use Rattle.conf_change.specs.declared.step.Step.{Step}
 use Rattle.conf_change.proofs.Offered.{is_empty-no_ids}
@@ -15,7 +15,8 @@ use Rattle.conf_plan.specs.Planned.{single_with, planned_from_single, planned}
 use Rattle.conf_plan.specs.declared.strategy.Strategy.TheVariants.{Shortest}
 use Rattle.conf_plan.proofs.FindingMoves.ResultingConfiguration.{IsSingle}
 use Rattle.conf_plan.proofs.PlannedSteps.BetweenSingle.{entered_by}
-use Rattle.conf_plan.proofs.OnTheWay.AlongPath.{IsRunWith-weaker, planned_from_single-holds, path_by-holds}
+use Rattle.conf_plan.proofs.PlannedSteps.AlongPath.{planned_from_single-holds, path_by-holds}
+use Rattle.conf_plan.proofs.Runs.Chains.{IsRunWith-weaker}
 
 -- ---- voters of whom each quorum of both ends has most
 abbrev pub AreCovered : Configuration → Configuration → Ids → Type 0
@@ -23,12 +24,6 @@ AreCovered now target voters = (ids : Ids) → is_quorum (voters_of now) ids ≡
 
 pub AreCovered-now : (now target : Configuration) → AreCovered now target now.incoming
 AreCovered-now now target ids of_now of_target = (and_parts _ _ of_now).0
-
-AreCovered-target : (now target : Configuration) → AreCovered now target target.incoming
-AreCovered-target now target ids of_now of_target = (and_parts _ _ of_target).0
-
-AreCovered-outgoing : (now target : Configuration) → is_joint target ≡ true → AreCovered now target target.outgoing
-AreCovered-outgoing now target joint ids of_now of_target = grind (arith, joint, of_target)
 
 pub HasQuorumsOf-covered : (now target c : Configuration) → AreCovered now target c.incoming → (is_empty c.outgoing ≡ true) ⊎ AreCovered now target c.outgoing → HasQuorumsOf now target c
 HasQuorumsOf-covered now target c incoming (inl none) ids of_now of_target = and_from _ _ (incoming ids of_now of_target) (or_left _ _ none)
@@ -45,13 +40,13 @@ pub planned_from_single-keeps_quorums : (now c target : Configuration) → IsSin
     → EachOnTheWay (HasQuorumsOf now target) c (planned_from_single c target) target
 planned_from_single-keeps_quorums now c target single valid_with_voter same =
     planned_from_single-holds (λ before step after. HasQuorumsOf now target after) (λ voters learners. AreCovered now target voters) c target single valid_with_voter (record {
-      apart = λ apart. AreCovered-target now target;
-      outgoing = AreCovered-outgoing now target;
-      simple = λ voters learners covered wanted few. HasQuorumsOf-single now target voters learners covered;
+      apart = λ apart ids of_now of_target. (and_parts _ _ of_target).0;
+      outgoing = λ joint ids of_now of_target. grind (arith, joint, of_target);
+      simple = λ voters learners covered wanted. HasQuorumsOf-single now target voters learners covered;
       enters = λ voters learners covered moved.
           HasQuorumsOf-covered now target (entered_by c voters learners) (subst (AreCovered now target) (sym moved.incoming) covered) (inr (subst (AreCovered now target) (sym same) (AreCovered-now now target)));
       leaves = λ voters learners covered moved. HasQuorumsOf-single now target voters learners covered;
-      into = λ d has_all ids of_now of_target. of_target;
+      into = λ d single_d has_all ids of_now of_target. of_target;
     })
 
 pub planned-keeps_quorums : (now target : Configuration) → IsValidWithVoter now → IsValidWithVoter target → KeepsQuorums now (planned now target) target
@@ -73,20 +68,16 @@ staying-commits c all away among =
     is_quorum-without (voters_of c) away (staying all away) (λ q here.
     grind (arith, has-ids_where (λ id. not (has away id)) (ascending all) q, has-ascending all q, among q, has-union c.incoming c.outgoing q, here))
 
-in_first : (a b : Ids) (q : ℕ) → has a q ≡ true → has (union a b) q ≡ true
-in_first a b q here = has-union a b q ∙ or_left _ _ here
-
-in_second : (a b : Ids) (q : ℕ) → has b q ≡ true → has (union a b) q ≡ true
-in_second a b q here = has-union a b q ∙ or_right (has a q) _ here
-
 IsAsTolerant-from_quorums : (uncounted : Ids) (now target c : Configuration) → HasQuorumsOf now target c → IsAsTolerant uncounted now target c
 IsAsTolerant-from_quorums uncounted now target c quorums k by_now by_target down few =
     let away = union down uncounted in
     let others = union (voter_ids now) (voter_ids target) in
     let all = union (voter_ids c) others in
-    sym (staying-commits c all away (in_first (voter_ids c) others))
-    ∙ quorums (staying all away) (staying-commits now all away (λ q here. in_second (voter_ids c) others q (in_first (voter_ids now) (voter_ids target) q here)) ∙ by_now down few)
-    (staying-commits target all away (λ q here. in_second (voter_ids c) others q (in_second (voter_ids now) (voter_ids target) q here)) ∙ by_target down few)
+    let in_c = λ (q : ℕ). has-union (voter_ids c) others q in
+    let in_others = λ (q : ℕ). has-union (voter_ids now) (voter_ids target) q in
+    sym (staying-commits c all away (λ q here. grind (arith, in_c q, here)))
+    ∙ quorums (staying all away) (staying-commits now all away (λ q here. grind (arith, in_c q, in_others q, here)) ∙ by_now down few)
+    (staying-commits target all away (λ q here. grind (arith, in_c q, in_others q, here)) ∙ by_target down few)
 
 pub KeepsTolerance-from_quorums : (down : Ids) (now target : Configuration) (steps : List Step) → KeepsQuorums now steps target → KeepsTolerance down now steps target
 KeepsTolerance-from_quorums down now target steps keeps =

@@ -13,7 +13,7 @@ use Rattle.conf_plan.specs.Planned.{moves, single_with, planned_from_single}
 use Rattle.conf_plan.specs.Run.{IsValidWithVoter, IsRunWith}
 use Rattle.conf_plan.proofs.BestPlan.PreservedMembers.{moves-remove_no_wanted, entering_step-keeps}
 use Rattle.conf_plan.proofs.FindingMoves.ResultingConfiguration.{IsSingle}
-use Rattle.conf_plan.proofs.OnTheWay.AlongPath.{planned_from_single-holds}
+use Rattle.conf_plan.proofs.PlannedSteps.AlongPath.{planned_from_single-holds}
 use Rattle.conf_plan.proofs.OnTheWay.Newcomers.{HasNoNewcomer}
 
 -- ---- a step
@@ -49,8 +49,8 @@ planned_from_single-keeps_voters c target single valid_with_voter known =
     planned_from_single-holds KeepsVoters (λ voters learners. AreMembers c voters) c target single valid_with_voter (record {
       apart = λ apart q votes. known q (or_left (has target.incoming q) _ votes);
       outgoing = λ joint q votes. known q (or_right (has target.incoming q) _ votes);
-      simple = λ voters learners members wanted few. simple_moves-keep_voters c voters learners members;
+      simple = λ voters learners members wanted. simple_moves-keep_voters c voters learners members;
       enters = λ voters learners members moved q votes. grind (arith, members q, moved.incoming, moves-remove_no_wanted c voters learners q, votes);
       leaves = λ voters learners members moved q votes. grind (arith, moved.incoming, has-no_ids q, votes);
-      into = λ d has_all q votes. entering_step-keeps d target q (has_all q (known q votes) (voter q votes)) (voter q votes);
+      into = λ d single_d has_all q votes. entering_step-keeps d target q (has_all q (known q votes) (voter q votes)) (voter q votes);
     })

@@ -1,8 +1,8 @@
 -- The functions that read the lines of a path and of a plan, against the relations.
-use Rattle.std.proofs.Common.{◌≡◌, ℕ, zero, suc, ◌+◌, ◌<◌, ◌≤◌, Bool, true, false, ◌⊎◌, inl, inr, List, [], ◌∷◌, ◌++◌, length, take, Option, Some, None, Result, Ok, Err, cond, leb, refl, sym, ap, ◌∙◌, subst, arith}
+use Rattle.std.proofs.Common.{◌≡◌, ℕ, zero, suc, ◌+◌, ◌<◌, ◌≤◌, true, ◌⊎◌, inl, inr, List, [], ◌∷◌, ◌++◌, length, take, Option, Some, None, Result, Ok, Err, leb, refl, sym, ap, ◌∙◌, subst, arith}
 use Rattle.std.specs.Prelude.{IfOk, IfErr, MatchResult}
 use Rattle.std.specs.List.{AllZip}
-use Rattle.std.proofs.lemmas.Bool.{le-leb, lt-leb, leb-true, leb-false, cond-true, cond-false, cond_both, true≢false, false_from_ne_true}
+use Rattle.std.proofs.lemmas.Bool.{leb-true, leb-false, cond-false, cond_both, true≢false, false_from_ne_true}
 use Rattle.std.proofs.lemmas.List.{length-append, take-append-le}
 use Rattle.std.proofs.lemmas.Slice.Eq.{bytes_eq-Decides, slice_eq-Decides}
 use Rattle.std.proofs.lemmas.Slice.Zip.{AllZip-long}
@@ -50,8 +50,8 @@ with_step line lines step (Err (BadLine number)) is h = record {
   parsed = (is, h.parsed);
   bad = h.bad;
 }
-with_step line lines step (Err TooManySteps) is h = absurd h
-with_step line lines step (Err NoMemory) is h = absurd h
+with_step line lines step (Err TooManySteps) is h = h
+with_step line lines step (Err NoMemory) is h = h
 
 IsAnswerOfLines-steps_in : (lines : List (List ℕ)) → IsAnswerOfLines lines (steps_in lines)
 IsAnswerOfLines-steps_in [] = tt
@@ -64,18 +64,12 @@ IsAnswerOfLines-steps_in (line ∷ lines) = go (step_in (tokens_in line)) refl (
 IsNothingToDo-from_true : (text : List ℕ) → is_nothing_to_do (plan_lines text) ≡ true → IsNothingToDo text
 IsNothingToDo-from_true text e = go (plan_lines text) refl e where
   go : (lines : List (List ℕ)) → plan_lines text ≡ lines → is_nothing_to_do lines ≡ true → IsNothingToDo text
-  go [] are e = absurd (true≢false (sym e))
+  go [] are e = cc
   go (line ∷ []) are e = record { line = line; alone = are; line_tokens = (slice_eq-Decides bytes_eq-Decides (tokens_in line) _ (is_nothing (tokens_in line)) refl).0 e }
-  go (line ∷ next ∷ lines) are e = absurd (true≢false (sym e))
+  go (line ∷ next ∷ lines) are e = cc
 
 is_nothing_to_do-true : (text : List ℕ) → IsNothingToDo text → is_nothing_to_do (plan_lines text) ≡ true
 is_nothing_to_do-true text h = ap is_nothing_to_do h.alone ∙ ap is_nothing h.line_tokens
-
-path_in-nothing_to_do : (text : List ℕ) → IsNothingToDo text → path_in text ≡ Ok []
-path_in-nothing_to_do text h = cond-true (is_nothing_to_do (plan_lines text)) _ _ (is_nothing_to_do-true text h)
-
-path_in-steps : (text : List ℕ) → ¬ (IsNothingToDo text) → path_in text ≡ steps_in (plan_lines text)
-path_in-steps text none = cond-false (is_nothing_to_do (plan_lines text)) _ _ (false_from_ne_true _ (λ e. none (IsNothingToDo-from_true text e)))
 
 -- ---- answers of a function that is exact for two relations
 pub record IsExact (Means : List Step → Type 0) (Refuses : PlanTextFault → Type 0) (answer : Result (List Step) PlanTextFault) : Type 0 where
@@ -97,27 +91,17 @@ pub record IsGiven (Means : List Step → Type 0) (Refuses : PlanTextFault → T
 
 pub IsGiven-from_exact : (Means : List Step → Type 0) (Refuses : PlanTextFault → Type 0) (answer result : Result (List Step) PlanTextFault) → IsExact Means Refuses answer
     → (result ≡ answer) ⊎ (result ≡ Err NoMemory) → IsGiven Means Refuses result
-IsGiven-from_exact Means Refuses answer result exact (inl same) = record {
-  holds = holds result (subst (λ r. MatchResult r Means Refuses) (sym same) exact.is);
-  fault = fault result (subst (λ r. MatchResult r Means Refuses) (sym same) exact.is);
-  read = λ steps means. inl (same ∙ exact.ok steps means);
-  refused = λ why refuses. inl (same ∙ exact.err why refuses);
-} where
-  holds : (r : Result (List Step) PlanTextFault) → MatchResult r Means Refuses → IfOk r Means
-  holds (Ok steps) h = h
-  holds (Err why) h = tt
-
-  fault : (r : Result (List Step) PlanTextFault) → MatchResult r Means Refuses → IfErr r (λ why. (why ≡ NoMemory) ⊎ Refuses why)
-  fault (Ok steps) h = tt
-  fault (Err why) h = inr h
-IsGiven-from_exact Means Refuses answer result exact (inr none) = record {
-  holds = subst (λ r. IfOk r Means) (sym none) tt;
-  fault = subst (λ r. IfErr r (λ why. (why ≡ NoMemory) ⊎ Refuses why)) (sym none) (inl refl);
-  read = λ steps means. inr none;
-  refused = λ why refuses. inr none;
+IsGiven-from_exact Means Refuses answer result exact given = record {
+  holds = grind (arith, given, exact.is);
+  fault = grind (arith, given, exact.is);
+  read = λ steps means. grind (arith, given, exact.ok steps means);
+  refused = λ why refuses. grind (arith, given, exact.err why refuses);
 }
 
 -- ---- paths
+path_in-steps : (text : List ℕ) → ¬ (IsNothingToDo text) → path_in text ≡ steps_in (plan_lines text)
+path_in-steps text none = cond-false (is_nothing_to_do (plan_lines text)) _ _ (false_from_ne_true _ (λ e. none (IsNothingToDo-from_true text e)))
+
 steps_are_something : (text : List ℕ) (steps : List Step) → AllZip IsLineOf (plan_lines text) steps → ¬ (IsNothingToDo text)
 steps_are_something text steps lines h = go steps (rw h.alone at lines) where
   go : (steps : List Step) → AllZip IsLineOf (h.line ∷ []) steps → ⊥
@@ -125,7 +109,7 @@ steps_are_something text steps lines h = go steps (rw h.alone at lines) where
   go (step ∷ steps) is = let some = sym (step_in-some h.line step is.0) ∙ ap step_in h.line_tokens in cc
 
 path_in-ok : (text : List ℕ) (steps : List Step) → ParsesToPath text steps → path_in text ≡ Ok steps
-path_in-ok text steps (inl nothing) = path_in-nothing_to_do text nothing.1 ∙ ap (λ all. Ok all) (sym nothing.0)
+path_in-ok text steps (inl nothing) = rw (is_nothing_to_do-true text nothing.1) (ap (λ all. Ok all) (sym nothing.0))
 path_in-ok text steps (inr lines) = path_in-steps text (steps_are_something text steps lines) ∙ steps_in-ok (plan_lines text) steps lines
 
 path_in-fault : (text : List ℕ) (fault : PlanTextFault) → HasPathFault text fault → path_in text ≡ Err fault
@@ -137,10 +121,7 @@ path_in-fault text TooManySteps h = absurd h
 path_in-fault text NoMemory h = absurd h
 
 of_lines : (text : List ℕ) → ¬ (IsNothingToDo text) → (answer : Result (List Step) PlanTextFault) → IsAnswerOfLines (plan_lines text) answer → MatchResult answer (ParsesToPath text) (HasPathFault text)
-of_lines text something (Ok steps) h = inr h
-of_lines text something (Err (BadLine number)) h = (something, h)
-of_lines text something (Err TooManySteps) h = absurd h
-of_lines text something (Err NoMemory) h = absurd h
+of_lines text something answer h = grind (arith, something, h)
 
 pub path_in-is_exact : (text : List ℕ) → IsExact (ParsesToPath text) (HasPathFault text) (path_in text)
 path_in-is_exact text = record { ok = path_in-ok text; err = path_in-fault text; is = is } where
@@ -167,25 +148,25 @@ bad_is_later (suc n) (first ∷ before) line after [] bad h = absurd h
 bad_is_later (suc n) (first ∷ before) line after (step ∷ steps) bad h = let rest = bad_is_later n before line after steps bad h.1 in omega (arith, rest)
 
 is_long : (text : List ℕ) → IsTooLong text → (answer : Result (List Step) PlanTextFault) → MatchResult answer (ParsesToPath text) (HasPathFault text) → at_most_four answer ≡ Err TooManySteps
-is_long text long (Ok steps) (inl nothing) = absurd (let fifth = long.fifth in let one = ap length nothing.1.alone in omega (arith, fifth, one))
-is_long text long (Ok steps) (inr lines) = cond-false (leb (length steps) 4) _ _ (lt-leb (length steps) 4 (omega (arith, long.fifth, AllZip-long IsLineOf (plan_lines text) steps lines)))
+is_long text long (Ok steps) (inl nothing) = let one = ap length nothing.1.alone in grind (arith, long.fifth, one)
+is_long text long (Ok steps) (inr lines) = grind (arith, long.fifth, AllZip-long IsLineOf (plan_lines text) steps lines)
 is_long text long (Err (BadLine number)) h =
     let first = h.1 in
     let four = bad_is_later 4 first.before first.line first.after long.steps first.bad (subst (λ lines. AllZip IsLineOf (take 4 lines) long.steps) first.position long.parsed) in
-    cond-false (leb number 4) _ _ (lt-leb number 4 (omega (arith, four, first.counted)))
+    grind (arith, four, first.counted)
 is_long text long (Err TooManySteps) h = absurd h
 is_long text long (Err NoMemory) h = absurd h
 
 plan_in-ok : (text : List ℕ) (steps : List Step) → ParsesToPlan text steps → plan_in text ≡ Ok steps
-plan_in-ok text steps h = ap at_most_four (path_in-ok text steps h.path) ∙ cond-true (leb (length steps) 4) _ _ (le-leb (length steps) 4 h.at_most_four)
+plan_in-ok text steps h = ap at_most_four (path_in-ok text steps h.path) ∙ grind (arith, h.at_most_four)
 
 plan_in-fault : (text : List ℕ) (fault : PlanTextFault) → HasPlanFault text fault → plan_in text ≡ Err fault
-plan_in-fault text (BadLine number) h = ap at_most_four (path_in-fault text (BadLine number) h.1) ∙ cond-true (leb number 4) _ _ (le-leb number 4 h.0)
+plan_in-fault text (BadLine number) h = ap at_most_four (path_in-fault text (BadLine number) h.1) ∙ grind (arith, h.0)
 plan_in-fault text TooManySteps h = is_long text h (path_in text) (path_in-is_exact text).is
 plan_in-fault text NoMemory h = absurd h
 
 long-from_steps : (text : List ℕ) (steps : List Step) → ParsesToPath text steps → 4 < length steps → IsTooLong text
-long-from_steps text steps (inl nothing) many = absurd (let none = ap length nothing.0 in omega (arith, none, many))
+long-from_steps text steps (inl nothing) many = let none = ap length nothing.0 in absurd (omega (arith, none, many))
 long-from_steps text steps (inr lines) many = record {
   steps = take 4 steps;
   parsed = AllZip-take 4 (plan_lines text) steps lines;
@@ -202,14 +183,13 @@ long-from_bad text number h late = record {
 
 of_path : (text : List ℕ) (answer : Result (List Step) PlanTextFault) → MatchResult answer (ParsesToPath text) (HasPathFault text)
     → MatchResult (at_most_four answer) (ParsesToPlan text) (HasPlanFault text)
-of_path text (Ok steps) h = go (leb (length steps) 4) refl where
-  go : (few : Bool) → leb (length steps) 4 ≡ few → MatchResult (cond few (Ok steps) (Err TooManySteps)) (ParsesToPlan text) (HasPlanFault text)
-  go true few = record { at_most_four = leb-true (length steps) 4 few; path = h }
-  go false many = long-from_steps text steps h (leb-false (length steps) 4 many)
-of_path text (Err (BadLine number)) h = go (leb number 4) refl where
-  go : (early : Bool) → leb number 4 ≡ early → MatchResult (cond early (Err (BadLine number)) (Err TooManySteps)) (ParsesToPlan text) (HasPlanFault text)
-  go true early = (leb-true number 4 early, h)
-  go false late = long-from_bad text number h.1 (leb-false number 4 late)
+of_path text (Ok steps) h =
+    cond_both (leb (length steps) 4) _ _ (λ read. MatchResult read (ParsesToPlan text) (HasPlanFault text))
+    (λ few. record { at_most_four = leb-true (length steps) 4 few; path = h })
+    (λ many. long-from_steps text steps h (leb-false (length steps) 4 many))
+of_path text (Err (BadLine number)) h =
+    cond_both (leb number 4) _ _ (λ read. MatchResult read (ParsesToPlan text) (HasPlanFault text))
+    (λ early. (leb-true number 4 early, h)) (λ late. long-from_bad text number h.1 (leb-false number 4 late))
 of_path text (Err TooManySteps) h = absurd h
 of_path text (Err NoMemory) h = absurd h
 

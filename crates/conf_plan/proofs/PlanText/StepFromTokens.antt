@@ -1,12 +1,11 @@
 -- The function that reads a step from the tokens of a line, against the relation.
-use Rattle.std.proofs.Common.{◌≡◌, ℕ, ◌<◌, ◌^◌, true, false, List, [], ◌∷◌, ◌++◌, drop, Some, None, Result, Ok, refl, ap, ◌∙◌, arith}
+use Rattle.std.proofs.Common.{◌≡◌, ℕ, ◌<◌, ◌^◌, true, false, List, [], ◌∷◌, ◌++◌, drop, Some, None, refl, ap, ◌∙◌, arith}
 use Rattle.std.specs.Prelude.{Option, codes, bytes_eq, option_map, option_and_then, if◌then◌else◌}
-use Rattle.std.specs.Result.{result_ok}
 use Rattle.std.specs.List.{All, AllZip}
 use Rattle.std.proofs.lemmas.List.Elements.{All-nil, All-cons}
 use Rattle.std.proofs.lemmas.Slice.Eq.{bytes_eq-Decides}
 use Rattle.ascii_text.specs.Tokens.{tokens_in}
-use Rattle.conf_change.specs.ChangeList.{ParsesTo, BadToken, changes_in_tokens}
+use Rattle.conf_change.specs.ChangeList.{ParsesTo}
 use Rattle.conf_change.specs.declared.change.Change.{Change}
 use Rattle.conf_change.specs.declared.step.Step.{Step}
 use Rattle.conf_change.specs.declared.step.Step.TheVariants.{Simple, EnterJoint, LeaveJoint}
@@ -56,14 +55,11 @@ tokens-from_some (command ∷ []) step e =
     grind (arith, bytes_eq-Decides command (codes "simple"), bytes_eq-Decides command (codes "enter-joint"), bytes_eq-Decides command (codes "leave-joint"))
 tokens-from_some (command ∷ flag ∷ rest) step e = found list_in command flag rest step e
 
-Ok-from_some : (read : Result (List Change) BadToken) (changes : List Change) → result_ok read ≡ Some changes → read ≡ Ok changes
-Ok-from_some read changes e = grind arith
-
 pub IsLineOf-from_some : (line : List ℕ) (step : Step) → step_in (tokens_in line) ≡ Some step → IsLineOf line step
 IsLineOf-from_some line step e =
     let are = tokens-from_some (tokens_in line) step e in
     let rest = rest_of step (tokens_in line) in
-    record { tokens = rest; line_tokens = are.0; parsed = AllZip-from_ok rest (changes_of step) (Ok-from_some (changes_in_tokens rest) (changes_of step) are.1) }
+    record { tokens = rest; line_tokens = are.0; parsed = AllZip-from_ok rest (changes_of step) (grind (arith, are.1)) }
 
 -- ---- lines of no step
 pub IsLineOf-none : (line : List ℕ) → step_in (tokens_in line) ≡ None → (step : Step) → ¬ (IsLineOf line step)

@@ -1,8 +1,7 @@
 -- The steps between two configurations that are not joint.
-use Rattle.std.proofs.Common.{◌≡◌, ℕ, ◌≤◌, Bool, false, not, ◌&&◌, ◌||◌, List, length, refl, sym, ap, subst, ◌∙◌, arith}
-use Rattle.std.proofs.Math.Bool.{and-true}
+use Rattle.std.proofs.Common.{◌≡◌, ◌≤◌, false, not, List, length, refl, sym, ap, subst, ◌∙◌, arith}
 use Rattle.std.specs.Prelude.{Ok, nat_le}
-use Rattle.std.proofs.lemmas.Bool.{cond_both, cond-true, leb-true, le-leb, not_from_false, and_right}
+use Rattle.std.proofs.lemmas.Bool.{cond_both, cond-true, leb-true, le-leb, not_from_false}
 use Rattle.quorum_sets.specs.Ids.{Ids, has, is_empty, difference_count}
 use Rattle.quorum_sets.proofs.Offered.{has-no_ids}
 use Rattle.conf_change.specs.Configuration.{Configuration}
@@ -13,56 +12,44 @@ use Rattle.conf_change.specs.declared.step.Step.TheVariants.{Simple, EnterJoint,
 use Rattle.conf_change.proofs.Offered.{outgoing-none, outcome-simple_accepted, outcome-enter_accepted, outcome-leave_accepted, configuration-by_members, has-after_leave, ValidByMember-from_is_valid}
 use Rattle.conf_plan.specs.Run.{Gives, IsChain, IsRun}
 use Rattle.conf_plan.specs.Planned.{single_with, moves, single_steps}
-use Rattle.conf_plan.proofs.FindingMoves.ResultingConfiguration.{IsSingle, AreWanted, moves-has_wanted}
-
--- ---- one voter at a time
-simple_moves : (c : Configuration) (voters learners : Ids) → IsSingle c → AreWanted voters learners → result_of c (moves c voters learners) ≡ single_with voters learners
-simple_moves c voters learners single wanted =
-    let valid = ValidByMember-from_is_valid c single.valid_with_voter.valid in
-    let moved = moves-has_wanted c c.outgoing voters learners c.auto_leave single wanted valid.learner_outgoing in
-    let out : (q : ℕ) → has c.outgoing q ≡ false = λ q. ap (λ s. has s q) (outgoing-none c single.single) ∙ has-no_ids q in
-    configuration-by_members (result_of c (moves c voters learners)) (single_with voters learners)
-    (λ q. ap (λ s. has s q) moved.incoming) (outgoing-none c single.single)
-    (λ q. moved.learners q ∙ ap (λ b. has learners q && not b) (out q) ∙ and-true (has learners q))
-    (λ q. moved.next q ∙ ap (λ b. has learners q && b) (out q) ∙ and_right (has learners q) false refl ∙ sym (has-no_ids q))
-    (valid.auto_leave single.single)
-
--- ---- by a joint configuration
-either_way : (a b : Bool) → ((a && not b) || (a && b)) ≡ a
-either_way a b = grind arith
-
-leave_moves : (c : Configuration) (voters learners : Ids) → IsSingle c → AreWanted voters learners
-    → after_leave (result_of (with_outgoing c false) (moves c voters learners)) ≡ single_with voters learners
-leave_moves c voters learners single wanted =
-    let valid = ValidByMember-from_is_valid c single.valid_with_voter.valid in
-    let moved = moves-has_wanted c c.incoming voters learners false single wanted valid.learner_incoming in
-    let entered = result_of (with_outgoing c false) (moves c voters learners) in
-    configuration-by_members (after_leave entered) (single_with voters learners)
-    (λ q. ap (λ s. has s q) moved.incoming) refl
-    (λ q. has-after_leave entered q ∙ (λ i. moved.learners q i || moved.next q i) ∙ either_way (has learners q) (has c.incoming q))
-    (λ q. refl) refl
+use Rattle.conf_plan.proofs.FindingMoves.ResultingConfiguration.{IsSingle, AreWanted, HasWanted, moves-has_wanted}
 
 -- ---- the steps
+pub simple_moves-accepted : (c : Configuration) (voters learners : Ids) → IsSingle c → AreWanted voters learners → difference_count c.incoming voters ≤ 1
+    → Gives c (Simple (moves c voters learners)) (single_with voters learners)
+simple_moves-accepted c voters learners single wanted few =
+    let valid = ValidByMember-from_is_valid c single.valid_with_voter.valid in
+    let moved = moves-has_wanted c c.outgoing voters learners c.auto_leave single wanted valid.learner_outgoing in
+    let none = outgoing-none c single.single in
+    let made : result_of c (moves c voters learners) ≡ single_with voters learners =
+    configuration-by_members (result_of c (moves c voters learners)) (single_with voters learners)
+    (λ q. ap (λ s. has s q) moved.incoming) none (λ q. grind (arith, moved.learners q, none, has-no_ids q)) (λ q. grind (arith, moved.next q, none, has-no_ids q))
+    (valid.auto_leave single.single) in
+    outcome-simple_accepted c (single_with voters learners) (moves c voters learners) single.single made (not_from_false _ wanted.voter) few
+
 -- the joint configuration between the two
 abbrev pub entered_by : Configuration → Ids → Ids → Configuration
 entered_by c voters learners = result_of (with_outgoing c false) (moves c voters learners)
 
-pub simple_moves-accepted : (c : Configuration) (voters learners : Ids) → IsSingle c → AreWanted voters learners → difference_count c.incoming voters ≤ 1
-    → Gives c (Simple (moves c voters learners)) (single_with voters learners)
-simple_moves-accepted c voters learners single wanted few =
-    outcome-simple_accepted c (single_with voters learners) (moves c voters learners) single.single (simple_moves c voters learners single wanted) (not_from_false _ wanted.voter) few
+pub entered_by-has_wanted : (c : Configuration) (voters learners : Ids) → IsSingle c → AreWanted voters learners → HasWanted (entered_by c voters learners) voters learners
+entered_by-has_wanted c voters learners single wanted =
+    moves-has_wanted c c.incoming voters learners false single wanted (ValidByMember-from_is_valid c single.valid_with_voter.valid).learner_incoming
 
 pub enter_moves-accepted : (c : Configuration) (voters learners : Ids) → IsSingle c → AreWanted voters learners
     → Gives c (EnterJoint false (moves c voters learners)) (entered_by c voters learners)
 enter_moves-accepted c voters learners single wanted =
-    let moved = moves-has_wanted c c.incoming voters learners false single wanted (ValidByMember-from_is_valid c single.valid_with_voter.valid).learner_incoming in
     outcome-enter_accepted c (entered_by c voters learners) false (moves c voters learners) single.single single.valid_with_voter.voter refl
-    (ap (λ s. not (is_empty s)) moved.incoming ∙ not_from_false _ wanted.voter)
+    (ap (λ s. not (is_empty s)) (entered_by-has_wanted c voters learners single wanted).incoming ∙ not_from_false _ wanted.voter)
 
 pub leave_moves-accepted : (c : Configuration) (voters learners : Ids) → IsSingle c → AreWanted voters learners
     → Gives (entered_by c voters learners) LeaveJoint (single_with voters learners)
 leave_moves-accepted c voters learners single wanted =
-    outcome-leave_accepted (entered_by c voters learners) single.valid_with_voter.voter ∙ ap Ok (leave_moves c voters learners single wanted)
+    let moved = entered_by-has_wanted c voters learners single wanted in
+    let entered = entered_by c voters learners in
+    let left : after_leave entered ≡ single_with voters learners =
+    configuration-by_members (after_leave entered) (single_with voters learners) (λ q. ap (λ s. has s q) moved.incoming) refl
+    (λ q. grind (arith, has-after_leave entered q, moved.learners q, moved.next q)) (λ q. refl) refl in
+    outcome-leave_accepted entered single.valid_with_voter.voter ∙ ap Ok left
 
 pub single_steps-is_chain : (Leads : Configuration → Step → Configuration → Type 0) (c : Configuration) (voters learners : Ids)
     → (difference_count c.incoming voters ≤ 1 → Leads c (Simple (moves c voters learners)) (single_with voters learners))

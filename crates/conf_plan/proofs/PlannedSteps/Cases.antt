@@ -15,9 +15,8 @@ use Rattle.conf_plan.specs.PlanSteps.{HasU64Ids}
 use Rattle.conf_plan.specs.PathBy.{from_single_by, path_by}
 use Rattle.conf_plan.specs.declared.strategy.Strategy.{Strategy}
 use Rattle.conf_plan.specs.Planned.{single_with}
-use Rattle.conf_plan.specs.Walking.{IsAdded}
-use Rattle.conf_plan.proofs.FindingMoves.ResultingConfiguration.{IsSingle}
-use Rattle.conf_plan.proofs.PlannedSteps.RunToTarget.{single_with-own, after_leave-is_single}
+use Rattle.conf_plan.specs.AddedSteps.{IsAdded}
+use Rattle.conf_plan.proofs.FindingMoves.ResultingConfiguration.{IsSingle, single_with-own}
 
 pub has_voter-from_count : (c : Configuration) (n : ℕ) → n ≡ size c.incoming → (n ≡ 0 → ⊥) → has_voter c ≡ true
 has_voter-from_count c n is some = ap not (ne_eqb (size c.incoming) 0 (λ none. some (omega (arith, is, none))))
@@ -36,9 +35,6 @@ path_by-single strategy down now target single other =
 pub path_by-leaving : (strategy : Strategy) (down : Ids) (now target : Configuration) → is_joint now ≡ true → is_same now target ≡ false
     → path_by strategy down now target ≡ LeaveJoint ∷ from_single_by strategy down (single_with now.incoming (union now.learners now.learners_next)) target
 path_by-leaving strategy down now target joint other = cond-false (is_same now target) _ _ other ∙ cond-true (is_joint now) _ _ joint
-
-pub left-is_valid : (now : Configuration) → IsValidWithVoter now → is_joint now ≡ true → IsValidWithVoter (single_with now.incoming (union now.learners now.learners_next))
-left-is_valid now valid_with_voter joint = (after_leave-is_single now valid_with_voter joint).valid_with_voter
 
 pub own-is_valid : (now : Configuration) → IsSingle now → IsValidWithVoter (single_with now.incoming now.learners)
 own-is_valid now single = subst IsValidWithVoter (sym (single_with-own now single)) single.valid_with_voter

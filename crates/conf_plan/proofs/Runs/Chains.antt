@@ -36,6 +36,13 @@ pub IsRun-from_IsRunWith : (Holds : Configuration → Step → Configuration →
 IsRun-from_IsRunWith Holds a b [] run = run
 IsRun-from_IsRunWith Holds a b (step ∷ steps) run = (run.0, run.1.0, IsRun-from_IsRunWith Holds run.0 b steps run.2)
 
+-- what follows at each step follows along the run
+pub IsRunWith-weaker : (P Q : Configuration → Step → Configuration → Type 0) → ((before after : Configuration) (step : Step) → P before step after → Q before step after)
+    → (before after : Configuration) (steps : List Step) → IsRunWith P before steps after → IsRunWith Q before steps after
+IsRunWith-weaker P Q weaker before after [] run = run
+IsRunWith-weaker P Q weaker before after (step ∷ steps) run =
+    (run.0, (run.1.0, weaker before run.0 step run.1.1), IsRunWith-weaker P Q weaker run.0 after steps run.2)
+
 -- a run of one step
 pub IsRun-one : (a b : Configuration) (step : Step) → outcome a step ≡ Ok b → IsRun a (step ∷ []) b
 IsRun-one a b step e = (b, e, λ i. b)

@@ -8,7 +8,7 @@ use Rattle.conf_change.specs.Outcome.{outcome, after_leave}
 use Rattle.conf_change.specs.declared.step.Step.{Step}
 use Rattle.conf_change.specs.declared.step.Step.TheVariants.{Simple, EnterJoint, LeaveJoint}
 use Rattle.conf_change.proofs.Offered.{SimpleTaken-from_outcome, EnterTaken-from_outcome, LeaveTaken-from_outcome, outcome-are_neighbours, is_empty-no_ids}
-use Rattle.conf_plan.specs.Run.{IsRun}
+use Rattle.conf_plan.specs.Run.{Gives, IsChain, IsRun}
 
 pub is_joint-from_no_outgoing : (c : Configuration) → c.outgoing ≡ no_ids → is_joint c ≡ false
 is_joint-from_no_outgoing c none = ap (λ s. not (is_empty s)) none ∙ ap not is_empty-no_ids
@@ -18,18 +18,24 @@ is_joint-not_both c joint single = absurd (true≢false (sym joint ∙ single))
 
 -- ---- the first step
 -- only leaving is accepted in a joint configuration
-pub record LeavesFirst (now target : Configuration) (steps : List Step) : Type 0 where
+pub record LeavesFirst (Leads : Configuration → Step → Configuration → Type 0) (now target : Configuration) (steps : List Step) : Type 0 where
   pub rest : List Step
   pub whole : steps ≡ LeaveJoint ∷ rest
-  pub run : IsRun (after_leave now) rest target
+  pub run : IsChain Leads (after_leave now) rest target
 
-pub LeavesFirst-from_IsRun : (now target : Configuration) (steps : List Step) → is_joint now ≡ true → (now ≡ target → ⊥) → IsRun now steps target → LeavesFirst now target steps
-LeavesFirst-from_IsRun now target [] joint differs run = absurd (differs run)
-LeavesFirst-from_IsRun now target (Simple changes ∷ steps) joint differs run = is_joint-not_both now joint (SimpleTaken-from_outcome now run.0 changes run.1).single
-LeavesFirst-from_IsRun now target (EnterJoint auto_leave changes ∷ steps) joint differs run = is_joint-not_both now joint (EnterTaken-from_outcome now run.0 auto_leave changes run.1).single
-LeavesFirst-from_IsRun now target (LeaveJoint ∷ steps) joint differs run =
-    let P : Configuration → Type 0 = λ d. IsRun d steps target in
-    record { rest = steps; whole = refl; run = subst P (sym (LeaveTaken-from_outcome now run.0 run.1).made) run.2 }
+pub LeavesFirst-from_chain : (Leads : Configuration → Step → Configuration → Type 0) → ((a b : Configuration) (step : Step) → Leads a step b → Gives a step b)
+    → (now target : Configuration) (steps : List Step) → is_joint now ≡ true → (now ≡ target → ⊥) → IsChain Leads now steps target → LeavesFirst Leads now target steps
+LeavesFirst-from_chain Leads gives now target [] joint differs run = absurd (differs run)
+LeavesFirst-from_chain Leads gives now target (Simple changes ∷ steps) joint differs run =
+    is_joint-not_both now joint (SimpleTaken-from_outcome now run.0 changes (gives _ _ _ run.1)).single
+LeavesFirst-from_chain Leads gives now target (EnterJoint auto_leave changes ∷ steps) joint differs run =
+    is_joint-not_both now joint (EnterTaken-from_outcome now run.0 auto_leave changes (gives _ _ _ run.1)).single
+LeavesFirst-from_chain Leads gives now target (LeaveJoint ∷ steps) joint differs run =
+    let P : Configuration → Type 0 = λ d. IsChain Leads d steps target in
+    record { rest = steps; whole = refl; run = subst P (sym (LeaveTaken-from_outcome now run.0 (gives _ _ _ run.1)).made) run.2 }
+
+pub LeavesFirst-from_IsRun : (now target : Configuration) (steps : List Step) → is_joint now ≡ true → (now ≡ target → ⊥) → IsRun now steps target → LeavesFirst Gives now target steps
+LeavesFirst-from_IsRun = LeavesFirst-from_chain Gives (λ a b step gives. gives)
 
 -- ---- the last step
 pub record LastStep (before after : Configuration) (steps : List Step) : Type 0 where

@@ -1,9 +1,9 @@
 -- Who keeps its progress when a changer takes the steps of a plan.
-use Rattle.std.proofs.Common.{◌≡◌, ℕ, Bool, true, false, cond, not, ◌&&◌, ◌||◌, List, [], ◌∷◌, refl, sym, ap, subst, ◌∙◌, is_some, arith}
+use Rattle.std.proofs.Common.{◌≡◌, ℕ, true, cond, not, List, [], ◌∷◌, refl, sym, ap, subst, ◌∙◌, is_some, arith}
 use Rattle.std.specs.Prelude.{Option, Some, None, unwrap_or}
 use Rattle.std.specs.FinMap as finite
 use Rattle.std.proofs.lemmas.Bool.{true≢false, and_parts}
-use Rattle.quorum_sets.specs.Ids.{has, is_empty}
+use Rattle.quorum_sets.specs.Ids.{has}
 use Rattle.conf_change.specs.Changer.{ChangerState, IsSound, Accepts}
 use Rattle.conf_change.specs.Configuration.{Configuration, is_member, is_valid, is_restorable}
 use Rattle.conf_change.specs.Progress.{fresh_next_of, fresh_progress, with_mark, is_replaced, keeps_progress}
@@ -17,6 +17,14 @@ use Rattle.conf_plan.proofs.Runs.Chains.{run-is_valid, IsRun-from_IsRunWith}
 use Rattle.conf_plan.proofs.BestPlan.PreservedMembers.{keeps_progress-member, planned-preserving}
 use Rattle.conf_plan.proofs.Runs.TakenInOrder.{Ok-same}
 
+-- a member has progress
+entry : (a : ChangerState) (q : ℕ) → IsSound a.tracker → is_member a.tracker.config q ≡ true → (p : Progress) × (finite.get a.tracker.progress q ≡ Some p)
+entry a q sound member = by (finite.get a.tracker.progress q) refl
+  where
+    by : (o : Option Progress) → finite.get a.tracker.progress q ≡ o → (p : Progress) × (finite.get a.tracker.progress q ≡ Some p)
+    by None e = absurd (true≢false (sym member ∙ sym (sound.of_members q) ∙ ap is_some e))
+    by (Some p) e = (p, e)
+
 -- ---- over one step
 accepted-is_sound : (before after : ChangerState) (step : Step) → IsSound before.tracker → Accepts before step after → IsSound after.tracker
 accepted-is_sound before after step sound accepted =
@@ -25,29 +33,22 @@ accepted-is_sound before after step sound accepted =
 
 pub accepted-keeps : (before after : ChangerState) (step : Step) (q : ℕ) → IsSound before.tracker → Accepts before step after
     → keeps_progress before.tracker.config step after.tracker.config q ≡ true → HasKeptProgress before after q
-accepted-keeps before after step q sound accepted keeps = by (finite.get before.tracker.progress q) refl
-  where
-    next : ℕ
-    next = fresh_next_of before
-
-    was : is_member before.tracker.config q ≡ true
-    was = (and_parts _ (is_member after.tracker.config q) (and_parts _ (not (is_replaced step after.tracker.config q)) keeps).0).0
-
-    by : (o : Option Progress) → finite.get before.tracker.progress q ≡ o → HasKeptProgress before after q
-    by None e = absurd (true≢false (sym was ∙ sym (sound.of_members q) ∙ ap is_some e))
-    by (Some p) e =
-        let marked = has after.tracker.config.learners q in
-        let stays = keeps_progress-member q before.tracker.config step after.tracker.config keeps in
-        record {
-          had = p;
-          kept = with_mark marked p;
-          entry_before = e;
-          entry_after =
-              ap (λ s. finite.get s.tracker.progress q) accepted.whole ∙ get-after before step after.tracker.config q
-              ∙ (λ i. cond (stays i) (Some (cond (keeps i) (with_mark marked (unwrap_or (e i) (fresh_progress next marked))) (fresh_progress next marked))) None);
-          same_match = refl;
-          same_next = refl;
-        }
+accepted-keeps before after step q sound accepted keeps =
+    let next = fresh_next_of before in
+    let was = (and_parts _ (is_member after.tracker.config q) (and_parts _ (not (is_replaced step after.tracker.config q)) keeps).0).0 in
+    let had = entry before q sound was in
+    let marked = has after.tracker.config.learners q in
+    let stays = keeps_progress-member q before.tracker.config step after.tracker.config keeps in
+    record {
+      had = had.0;
+      kept = with_mark marked had.0;
+      entry_before = had.1;
+      entry_after =
+          ap (λ s. finite.get s.tracker.progress q) accepted.whole ∙ get-after before step after.tracker.config q
+          ∙ (λ i. cond (stays i) (Some (cond (keeps i) (with_mark marked (unwrap_or (had.1 i) (fresh_progress next marked))) (fresh_progress next marked))) None);
+      same_match = refl;
+      same_next = refl;
+    }
 
 -- ---- over all of them
 same_entry : (a b : Progress) → ◌≡◌ {A = Option Progress} (Some a) (Some b) → a ≡ b
@@ -66,11 +67,9 @@ kept_on a b c q first rest =
     }
 
 kept_at_once : (a : ChangerState) (q : ℕ) → IsSound a.tracker → is_member a.tracker.config q ≡ true → HasKeptProgress a a q
-kept_at_once a q sound member = by (finite.get a.tracker.progress q) refl
-  where
-    by : (o : Option Progress) → finite.get a.tracker.progress q ≡ o → HasKeptProgress a a q
-    by None e = absurd (true≢false (sym member ∙ sym (sound.of_members q) ∙ ap is_some e))
-    by (Some p) e = record { had = p; kept = p; entry_before = e; entry_after = e; same_match = refl; same_next = refl }
+kept_at_once a q sound member =
+    let had = entry a q sound member in
+    record { had = had.0; kept = had.0; entry_before = had.1; entry_after = had.1; same_match = refl; same_next = refl }
 
 pub takes-is_sound : (a b : ChangerState) (steps : List Step) → IsSound a.tracker → Takes a steps b → IsSound b.tracker
 takes-is_sound a b [] sound taken = let P : ChangerState → Type 0 = λ s. IsSound s.tracker in subst P taken sound
@@ -78,16 +77,16 @@ takes-is_sound a b (step ∷ steps) sound taken = takes-is_sound taken.0 b steps
 
 pub takes-keep : (a b : ChangerState) (steps : List Step) (target : Configuration) (q : ℕ) → IsSound a.tracker → Takes a steps b
     → Preserves a.tracker.config steps target q → HasKeptProgress a b q
-takes-keep a b [] target q sound taken preserves_all =
+takes-keep a b [] target q sound taken preserves =
     let P : ChangerState → Type 0 = λ s. HasKeptProgress a s q in
-    subst P taken (kept_at_once a q sound preserves_all.0)
-takes-keep a b (step ∷ steps) target q sound taken preserves_all =
-    let same : preserves_all.1.0 ≡ taken.0.tracker.config = Ok-same _ _ (sym preserves_all.1.1.0 ∙ taken.1.configuration) in
+    subst P taken (kept_at_once a q sound preserves.0)
+takes-keep a b (step ∷ steps) target q sound taken preserves =
+    let same : preserves.1.0 ≡ taken.0.tracker.config = Ok-same _ _ (sym preserves.1.1.0 ∙ taken.1.configuration) in
     let K : Configuration → Type 0 = λ c. keeps_progress a.tracker.config step c q ≡ true in
     let P : Configuration → Type 0 = λ c. Preserves c steps target q in
-    kept_on a taken.0 b q (accepted-keeps a taken.0 step q sound taken.1 (subst K same preserves_all.1.1.1))
+    kept_on a taken.0 b q (accepted-keeps a taken.0 step q sound taken.1 (subst K same preserves.1.1.1))
     (takes-keep taken.0 b steps target q (accepted-is_sound a taken.0 step sound taken.1) taken.2
-    (subst P same (keeps_progress-member q a.tracker.config step preserves_all.1.0 preserves_all.1.1.1, preserves_all.1.2)))
+    (subst P same (keeps_progress-member q a.tracker.config step preserves.1.0 preserves.1.1.1, preserves.1.2)))
 
 -- ---- a plan that was made for the changer
 -- where there is a member there is a voter
@@ -96,19 +95,13 @@ member-is_valid c q ok member =
     let both = and_parts (is_valid c) _ ok in
     record {
       valid = both.0;
-      voter = has_some (is_empty c.incoming) (is_empty c.outgoing) (is_empty c.learners) (is_empty c.learners_next) (has c.incoming q) (has c.outgoing q) (has c.learners q)
-          both.1 member (λ e. has-none_in_empty c.incoming e q) (λ e. has-none_in_empty c.outgoing e q) (λ e. has-none_in_empty c.learners e q);
+      voter = grind (arith, both.1, member, has-none_in_empty c.incoming, has-none_in_empty c.outgoing, has-none_in_empty c.learners);
     }
-  where
-    has_some : (ei eo el en i o l : Bool) → (not ei || (ei && eo && el && en)) ≡ true → (i || o || l) ≡ true
-        → (ei ≡ true → i ≡ false) → (eo ≡ true → o ≡ false) → (el ≡ true → l ≡ false) → not ei ≡ true
-    has_some ei eo el en i o l restorable member in_incoming in_outgoing in_learners = grind arith
 
 pub takes-keep_planned : (a b : ChangerState) (steps other : List Step) (target : Configuration) (q : ℕ) → IsSound a.tracker → Takes a steps b
     → steps ≡ planned a.tracker.config target → Preserves a.tracker.config other target q → HasKeptProgress a b q
-takes-keep_planned a b steps other target q sound taken made preserves_all =
+takes-keep_planned a b steps other target q sound taken made preserves =
     let now = a.tracker.config in
-    let now_valid_with_voter = member-is_valid now q sound.restorable preserves_all.0 in
-    let valid_with_voter = run-is_valid now target other now_valid_with_voter (IsRun-from_IsRunWith _ now target other preserves_all.1) in
-    let P : List Step → Type 0 = λ xs. Preserves now xs target q in
-    takes-keep a b steps target q sound taken (subst P (sym made) (planned-preserving now target other q now_valid_with_voter valid_with_voter preserves_all))
+    let now_valid_with_voter = member-is_valid now q sound.restorable preserves.0 in
+    let valid_with_voter = run-is_valid now target other now_valid_with_voter (IsRun-from_IsRunWith _ now target other preserves.1) in
+    takes-keep a b steps target q sound taken (rw made (planned-preserving now target now_valid_with_voter valid_with_voter other q preserves))

@@ -1,14 +1,12 @@
 -- What a step makes of an id: an incoming voter, a learner of either kind, or neither.
-use Rattle.std.proofs.Common.{◌≡◌, ℕ, ◌+◌, ◌<◌, Bool, true, false, cond, ◌||◌, ◌⊎◌, inl, inr, List, [], ◌∷◌, refl, sym, ap, subst, ◌∙◌, arith}
-use Rattle.std.proofs.Math.Bool.{or-false}
-use Rattle.std.specs.Prelude.{Option, Some, None, Ok, count_by}
-use Rattle.std.specs.Option.{option_or}
+use Rattle.std.proofs.Common.{◌≡◌, ℕ, ◌+◌, ◌<◌, true, false, ◌||◌, ◌⊎◌, inl, inr, List, [], ◌∷◌, refl, sym, ap, subst, ◌∙◌, arith}
+use Rattle.std.specs.Prelude.{Option, None, Ok, count_by}
 use Rattle.std.proofs.lemmas.Bool.{true≢false, or_left, or_right}
 use Rattle.std.proofs.lemmas.List.Sums.{sum_by-cons}
 use Rattle.quorum_sets.specs.Ids.{has}
 use Rattle.quorum_sets.proofs.Offered.{has-no_ids}
 use Rattle.conf_change.specs.Configuration.{Configuration}
-use Rattle.conf_change.specs.Change.{names, last_effective, is_incoming_after, is_learner_after, is_next_after, result_of}
+use Rattle.conf_change.specs.Change.{names, last_effective, is_incoming_after, is_learner_after, result_of}
 use Rattle.conf_change.specs.Outcome.{outcome, with_outgoing}
 use Rattle.conf_change.specs.Step.{changes_of}
 use Rattle.conf_change.specs.declared.change.Change.{Change}
@@ -18,23 +16,15 @@ use Rattle.conf_change.specs.declared.step.Step.TheVariants.{Simple, EnterJoint,
 use Rattle.conf_change.proofs.Offered.{SimpleTaken-from_outcome, EnterTaken-from_outcome, LeaveTaken-from_outcome, has-incoming_after, has-learners_after, has-next_after, has-after_leave}
 use Rattle.conf_plan.specs.Run.{IsRun}
 use Rattle.conf_plan.specs.Best.{times_named, is_any_learner, is_in, HasSameRoles}
-use Rattle.conf_plan.proofs.FindingMoves.OfEachId.{last_effective-cons}
+use Rattle.conf_plan.proofs.FindingMoves.OfEachId.{last_effective-none}
 
 -- ---- a step decides by its last effective change alone, whether the id goes out or not
 record PartAfter (before after : Configuration) (token : Option Kind) (id : ℕ) : Type 0 where
   voter : has after.incoming id ≡ is_incoming_after token (has before.incoming id)
   learner : is_any_learner after id ≡ is_learner_after token false (is_any_learner before id)
 
-learns_or_waits : (token : Option Kind) (out learns waits : Bool) → (is_learner_after token out learns || is_next_after token out waits) ≡ is_learner_after token false (learns || waits)
-learns_or_waits token out learns waits = grind arith
-
 result_of-part : (c : Configuration) (xs : List Change) (q : ℕ) → PartAfter c (result_of c xs) (last_effective xs q) q
-result_of-part c xs q = record {
-  voter = has-incoming_after c xs q;
-  learner =
-      (λ i. has-learners_after c xs q i || has-next_after c xs q i)
-      ∙ learns_or_waits (last_effective xs q) (has c.outgoing q) (has c.learners q) (has c.learners_next q);
-}
+result_of-part c xs q = record { voter = has-incoming_after c xs q; learner = grind (arith, has-learners_after c xs q, has-next_after c xs q) }
 
 outcome-part : (c after : Configuration) (step : Step) (q : ℕ) → outcome c step ≡ Ok after → PartAfter c after (last_effective (changes_of step) q) q
 outcome-part c after (Simple changes) q e =
@@ -46,29 +36,14 @@ outcome-part c after (EnterJoint auto_leave changes) q e =
     subst P (EnterTaken-from_outcome c after auto_leave changes e).made (record { voter = part.voter; learner = part.learner })
 outcome-part c after LeaveJoint q e =
     let P : Configuration → Type 0 = λ d. PartAfter c d None q in
-    subst P (LeaveTaken-from_outcome c after e).made (record {
-      voter = refl;
-      learner = (λ i. has-after_leave c q i || has-no_ids q i) ∙ or-false (is_any_learner c q);
-    })
+    subst P (LeaveTaken-from_outcome c after e).made (record { voter = refl; learner = grind (arith, has-after_leave c q, has-no_ids q) })
 
 -- ---- an id that is not named
-not_counted : (b : Bool) → ◌≡◌ {A = ℕ} (cond b 1 0) 0 → b ≡ false
-not_counted b e = grind arith
-
-no_token : (q : ℕ) (xs : List Change) → count_by (names q) xs ≡ 0 → last_effective xs q ≡ None
-no_token q [] none = refl
-no_token q (x ∷ xs) none =
-    let both : cond (names q x) 1 0 + count_by (names q) xs ≡ 0 = sym (sum_by-cons (λ y. cond (names q y) 1 0) x xs) ∙ none in
-    last_effective-cons x xs q ∙ (λ i. option_or (no_token q xs (omega arith) i) (cond (not_counted (names q x) (omega arith) i) (Some x.kind) None))
-
 outcome-same_part : (c after : Configuration) (step : Step) (q : ℕ) → outcome c step ≡ Ok after → count_by (names q) (changes_of step) ≡ 0 → HasSameRoles c after q
 outcome-same_part c after step q e none =
     let part = outcome-part c after step q e in
-    let without_effect = no_token q (changes_of step) none in
-    record {
-      voter = part.voter ∙ ap (λ token. is_incoming_after token (has c.incoming q)) without_effect;
-      learner = part.learner ∙ ap (λ token. is_learner_after token false (is_any_learner c q)) without_effect;
-    }
+    let without_effect = last_effective-none (changes_of step) q none in
+    record { voter = rw without_effect at part.voter; learner = rw without_effect at part.learner }
 
 pub run-same_part : (before after : Configuration) (steps : List Step) (q : ℕ) → IsRun before steps after → times_named q steps ≡ 0 → HasSameRoles before after q
 run-same_part before after [] q run none = record { voter = ap (λ c. has c.incoming q) (sym run); learner = ap (λ c. is_any_learner c q) (sym run) }
@@ -91,14 +66,7 @@ outgoing_from c after LeaveJoint q e is =
 outcome-is_in : (c after : Configuration) (step : Step) (q : ℕ) → outcome c step ≡ Ok after → count_by (names q) (changes_of step) ≡ 0 → is_in after q ≡ true → is_in c q ≡ true
 outcome-is_in c after step q e none is =
     let same = outcome-same_part c after step q e none in
-    go (has after.incoming q) (has after.outgoing q) refl refl same.voter same.learner is
-  where
-    go : (voter out : Bool) → has after.incoming q ≡ voter → has after.outgoing q ≡ out → has after.incoming q ≡ has c.incoming q → is_any_learner after q ≡ is_any_learner c q
-        → is_in after q ≡ true → is_in c q ≡ true
-    go true out is_voter is_out voters learners all = or_left _ (is_any_learner c q) (or_left _ (has c.outgoing q) (sym voters ∙ is_voter))
-    go false true is_voter is_out voters learners all = or_left _ (is_any_learner c q) (outgoing_from c after step q e is_out)
-    go false false is_voter is_out voters learners all =
-        or_right (has c.incoming q || has c.outgoing q) _ (sym learners ∙ (λ i. sym is_voter i || sym is_out i || is_any_learner after q) ∙ all)
+    grind (arith, same.voter, same.learner, outgoing_from c after step q e, is)
 
 pub run-is_in : (before after : Configuration) (steps : List Step) (q : ℕ) → IsRun before steps after → is_in after q ≡ true → (is_in before q ≡ true) ⊎ (0 < times_named q steps)
 run-is_in before after [] q run is = inl (ap (λ c. is_in c q) run ∙ is)

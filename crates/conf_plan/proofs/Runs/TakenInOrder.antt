@@ -1,6 +1,6 @@
 -- What a changer that takes steps in order comes to.
-use Rattle.std.proofs.Common.{◌≡◌, ◌≢◌, ℕ, zero, suc, ◌+◌, ◌-◌, ◌<◌, List, [], ◌∷◌, ◌++◌, length, take, Some, slice_get, refl, sym, ap, subst, ◌∙◌, arith}
-use Rattle.std.specs.Prelude.{Ok, Err}
+use Rattle.std.proofs.Common.{◌≡◌, ℕ, zero, suc, ◌+◌, ◌-◌, ◌<◌, List, [], ◌∷◌, ◌++◌, length, take, Some, slice_get, refl, sym, ap, subst, ◌∙◌, arith}
+use Rattle.std.specs.Prelude.{Ok}
 use Rattle.std.proofs.lemmas.List.{take-append-le}
 use Rattle.std.proofs.lemmas.Option.{slice_get_within}
 use Rattle.conf_change.specs.Configuration.{Configuration}
@@ -13,14 +13,7 @@ use Rattle.conf_plan.specs.Run.{IsRun, Takes, StopsAt}
 use Rattle.conf_plan.proofs.Runs.Chains.{IsChain-append}
 
 pub Ok-same : (a b : Configuration) → ◌≡◌ {A = Outcome} (Ok a) (Ok b) → a ≡ b
-Ok-same a b e = ap (λ o. or_else o) e
-  where
-    or_else : Outcome → Configuration
-    or_else (Ok c) = c
-    or_else (Err _) = a
-
-ok_err : (a : Configuration) (why : Refused) → ◌≡◌ {A = Outcome} (Ok a) (Err why) → ⊥
-ok_err a why e = cc
+Ok-same a b e = cc
 
 -- one more step
 pub Takes-push : (a b c : ChangerState) (xs : List Step) (x : Step) → Takes a xs b → Accepts b x c → Takes a (xs ++ x ∷ []) c
@@ -34,14 +27,12 @@ Takes-to_target a b (x ∷ xs) target t run =
     let P : Configuration → Type 0 = λ c. IsRun c xs target in
     Takes-to_target t.0 b xs target t.2 (subst P same run.2)
 
-decided : (why : Refused) → (why ≢ NoMemory → ⊥) → why ≡ NoMemory
-decided why f = grind arith
-
 -- along a run nothing is refused but for want of memory
 pub Refuses-for_memory : (a b : ChangerState) (xs ys : List Step) (x : Step) (why : Refused) (target : Configuration)
     → Takes a xs b → Refuses b x why → IsRun a.tracker.config (xs ++ x ∷ ys) target → why ≡ NoMemory
 Refuses-for_memory a b [] ys x why target t refuses run =
-    decided why (λ other. ok_err run.0 why (sym run.1 ∙ ap (λ s. outcome s.tracker.config x) t ∙ refuses other))
+    let accepted = sym (ap (λ s. outcome s.tracker.config x) t) ∙ run.1 in
+    grind (arith, accepted, refuses)
 Refuses-for_memory a b (y ∷ xs) ys x why target t refuses run =
     let same : run.0 ≡ t.0.tracker.config = Ok-same _ _ (sym run.1 ∙ t.1.configuration) in
     let P : Configuration → Type 0 = λ c. IsRun c (xs ++ x ∷ ys) target in

@@ -1,13 +1,10 @@
-use Rattle.std.proofs.Common.{rules, ◌≡◌, ◌∙◌, not, ◌&&◌, ◌||◌, Bool, sym, ap, arith}
+use Rattle.std.proofs.Common.{rules, ◌≡◌, ◌∙◌, not, ◌&&◌, ap, arith}
 use Rattle.std.proofs.lemmas.Result.{IfOk-weaker}
 use Rattle.quorum_sets.specs.Ids.{has, ascending, ids_where, union}
 use Rattle.conf_change.specs.Configuration.{Configuration, is_member}
 use Rattle.conf_plan.specs.Planned.{single_with}
-use Rattle.conf_plan.proofs.BestPlan.PreservedMembers.{is_member-single_with}
+use Rattle.conf_plan.proofs.FindingMoves.ResultingConfiguration.{is_member-single_with}
 use Rattle.conf_plan.proofs.learners_first.newcomers.Goals as goal
-
-neither : (a b : Bool) → (not a && not b) ≡ not (a || b)
-neither a b = grind arith
 
 pub returns : goal.returns
 returns g c =
@@ -19,4 +16,4 @@ returns g c =
     (λ ids is. is ∙ ap (λ s. ids_where (λ id. not (is_member start id)) (ascending s)) voters_are)
     (c.picked.ensures (λ id. not (is_member start id)) (λ id answer given.
     let plain : answer ≡ (not (has incoming id) && not (has learners id)) = search rules in
-    plain ∙ neither (has incoming id) (has learners id) ∙ ap not (sym (is_member-single_with incoming learners id))))
+    grind (arith, plain, is_member-single_with incoming learners id)))

@@ -1,6 +1,4 @@
-use Rattle.std.proofs.Common.{◌≡◌, ◌++◌, ◌||◌, ◌==◌, Bool, ℕ, sym, ap, ◌∙◌}
-use Rattle.std.specs.List.{list_any}
-use Rattle.std.proofs.Math.Bool.{or_assoc}
+use Rattle.std.proofs.Common.{arith, ◌≡◌, ◌++◌, ◌==◌, Bool, ℕ, ap, ◌∙◌}
 use Rattle.std.proofs.lemmas.List.Folds.{list_any-append}
 use Rattle.std.proofs.lemmas.Result.{IfOk-weaker}
 use Rattle.quorum_sets.specs.Ids.{Ids, ids_of, ascending, union}
@@ -11,12 +9,17 @@ use Rattle.conf_plan.proofs.moves.union_of_all.Goals as goal
 all-ids : (a b c d : Ids) → ids_of (((ascending a ++ ascending b) ++ ascending c) ++ ascending d) ≡ union (union a b) (union c d)
 all-ids a b c d = has-same_ids _ _ (λ q.
     let test : ℕ → Bool = λ x. q == x in
-    let two = list_any-append test (ascending a) (ascending b) in
-    let three = list_any-append test (ascending a ++ ascending b) (ascending c) ∙ ap (λ t. t || list_any test (ascending c)) two in
-    let four = list_any-append test ((ascending a ++ ascending b) ++ ascending c) (ascending d) ∙ ap (λ t. t || list_any test (ascending d)) three in
-    has-ids_of _ q ∙ four ∙ or_assoc (list_any test (ascending a) || list_any test (ascending b)) (list_any test (ascending c)) (list_any test (ascending d))
-    ∙ (λ i. (sym (has-ascending a q) i || sym (has-ascending b q) i) || (sym (has-ascending c q) i || sym (has-ascending d q) i))
-    ∙ sym (has-union (union a b) (union c d) q ∙ (λ i. has-union a b q i || has-union c d q i)))
+    grind (
+      arith,
+      has-ids_of (((ascending a ++ ascending b) ++ ascending c) ++ ascending d) q,
+      list_any-append test (ascending a) (ascending b),
+      list_any-append test (ascending a ++ ascending b) (ascending c),
+      list_any-append test ((ascending a ++ ascending b) ++ ascending c) (ascending d),
+      has-ascending,
+      has-union (union a b) (union c d) q,
+      has-union a b q,
+      has-union c d q,
+    ))
 
 pub returns : goal.returns
 returns g c =

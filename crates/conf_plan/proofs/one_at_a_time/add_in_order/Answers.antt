@@ -6,7 +6,7 @@ use Rattle.conf_change.specs.declared.step.Step.{Step}
 use Rattle.conf_plan.specs.OneAtATime as spec
 use Rattle.conf_plan.specs.OneAtATime.{steps_of, in_turn}
 use Rattle.conf_plan.specs.Planned.{single_with}
-use Rattle.conf_plan.specs.Walking.{IsAdded}
+use Rattle.conf_plan.specs.AddedSteps.{IsAdded}
 use Rattle.conf_plan.proofs.OnTheWay.InTurn.{added-further}
 use Rattle.conf_plan.proofs.PlannedSteps.Cases.{OnOk-weaker}
 use Rattle.conf_plan.proofs.one_at_a_time.add_in_order.Goals as goal

@@ -4,7 +4,7 @@ use Rattle.std.specs.List.{cons_option}
 use Rattle.quorum_sets.specs.Ids.{ascending}
 use Rattle.conf_plan.specs.OneAtATime.{steps_of}
 use Rattle.conf_plan.specs.Planned.{single_with}
-use Rattle.conf_plan.specs.Walking.{IsAdded}
+use Rattle.conf_plan.specs.AddedSteps.{IsAdded}
 use Rattle.conf_plan.proofs.OnTheWay.InTurn.{added-one}
 use Rattle.conf_plan.proofs.one_at_a_time.add_steps_of_all.Goals as goal
 

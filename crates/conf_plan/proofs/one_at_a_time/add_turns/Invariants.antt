@@ -2,7 +2,7 @@ use Rattle.std.specs.Prelude.{flat_map, take}
 use Rattle.quorum_sets.specs.Ids.{ascending}
 use Rattle.conf_plan.specs.OneAtATime.{steps_of, in_turn}
 use Rattle.conf_plan.specs.Planned.{single_with}
-use Rattle.conf_plan.specs.Walking.{IsAdded}
+use Rattle.conf_plan.specs.AddedSteps.{IsAdded}
 use Rattle.conf_plan.proofs.one_at_a_time.add_turns.Given as goal
 
 abbrev pub invariant-loop-index : goal.invariant-loop-index

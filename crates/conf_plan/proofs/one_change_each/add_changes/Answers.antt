@@ -4,7 +4,7 @@ use Rattle.std.proofs.lemmas.List.{map-append, take_all, take_more}
 use Rattle.conf_change.specs.declared.change.Change.{Change}
 use Rattle.conf_change.specs.declared.step.Step.{Step}
 use Rattle.conf_change.specs.declared.step.Step.TheVariants.{Simple}
-use Rattle.conf_plan.specs.Walking.{IsAdded}
+use Rattle.conf_plan.specs.AddedSteps.{IsAdded}
 use Rattle.conf_plan.proofs.PlannedSteps.Cases.{added-more}
 use Rattle.conf_plan.proofs.one_change_each.add_changes.Goals as goal
 

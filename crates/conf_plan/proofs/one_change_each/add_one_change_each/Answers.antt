@@ -1,7 +1,7 @@
 use Rattle.std.proofs.Common.{subst}
 use Rattle.conf_change.specs.declared.step.Step.{Step}
 use Rattle.conf_plan.specs.OneChangeEach.{each_change}
-use Rattle.conf_plan.specs.Walking.{IsAdded}
+use Rattle.conf_plan.specs.AddedSteps.{IsAdded}
 use Rattle.conf_plan.proofs.OnTheWay.InTurn.{added-item}
 use Rattle.conf_plan.proofs.one_change_each.add_one_change_each.Goals as goal
 

@@ -1,6 +1,6 @@
 use Rattle.std.specs.Prelude.{flat_map, take}
 use Rattle.conf_plan.specs.OneChangeEach.{each_change}
-use Rattle.conf_plan.specs.Walking.{IsAdded}
+use Rattle.conf_plan.specs.AddedSteps.{IsAdded}
 use Rattle.conf_plan.proofs.one_change_each.add_one_change_each.Given as goal
 
 abbrev pub invariant-loop-step : goal.invariant-loop-step

@@ -1,11 +1,12 @@
 use Rattle.std.proofs.Common.{[], ◌∷◌, sym, ◌∙◌}
 use Rattle.conf_change.specs.declared.step.Step.TheVariants.{LeaveJoint}
-use Rattle.conf_plan.proofs.PlannedSteps.Cases.{OnOk-weaker, path_by-single, path_by-leaving, own-is_valid, left-is_valid, added-leave, added-more}
+use Rattle.conf_plan.proofs.PlannedSteps.Cases.{OnOk-weaker, path_by-single, path_by-leaving, own-is_valid, added-leave, added-more}
+use Rattle.conf_plan.proofs.PlannedSteps.Shapes.{after_leave-is_single}
 use Rattle.conf_plan.proofs.planner.add_path.Goals as goal
 
 pub add_from_single_by-requires-clause-start : goal.add_from_single_by-requires-clause-start
 add_from_single_by-requires-clause-start g c =
-    rw (← c.now.view_is, ← c.in_ok-learners.ensures) at (left-is_valid c.args.now.now c.requires.now (sym c.is_joint.ensures ∙ c.if-is_joint.true))
+    rw (← c.now.view_is, ← c.in_ok-learners.ensures) at (after_leave-is_single c.args.now.now c.requires.now (sym c.is_joint.ensures ∙ c.if-is_joint.true)).valid_with_voter
 
 pub returns-then-is_joint : goal.returns-then-is_joint
 returns-then-is_joint g c =

@@ -1,9 +1,9 @@
-use Rattle.std.proofs.Common.{rules, ◌≡◌, ◌&&◌, sym, ap, ◌∙◌}
+use Rattle.std.proofs.Common.{arith, rules, ◌≡◌, ap, ◌∙◌}
 use Rattle.std.proofs.lemmas.Result.{IfOk-weaker}
 use Rattle.quorum_sets.specs.Ids.{ascending, ids_where, union}
 use Rattle.quorum_sets.proofs.Offered.{has-ascending, has-ids_where, has-same_ids, has-union}
 use Rattle.conf_plan.specs.Planned.{is_shared, single_with}
-use Rattle.conf_plan.proofs.BestPlan.PreservedMembers.{is_member-single_with}
+use Rattle.conf_plan.proofs.FindingMoves.ResultingConfiguration.{is_member-single_with}
 use Rattle.conf_plan.proofs.PlannedSteps.IntoJoint.{has-shared_members}
 use Rattle.conf_plan.proofs.shared_members.shared_members.Goals as goal
 
@@ -18,7 +18,12 @@ returns g c =
     (λ shared is.
     is ∙ ap (λ s. ids_where (is_shared target) (ascending s)) c.in_ok-members.ensures
     ∙ has-same_ids _ _ (λ q.
-    has-ids_where (is_shared target) (ascending all) q
-    ∙ ap (λ b. is_shared target q && b) (sym (has-ascending all q) ∙ has-union voters learners q ∙ sym (is_member-single_with voters learners q))
-    ∙ sym (has-shared_members (single_with voters learners) target q)))
+    grind (
+      arith,
+      has-ids_where (is_shared target) (ascending all) q,
+      has-ascending all q,
+      has-union voters learners q,
+      is_member-single_with voters learners q,
+      has-shared_members (single_with voters learners) target q,
+    )))
     (c.picked.ensures (is_shared target) (λ id answer given. search rules))
