@@ -95,10 +95,7 @@ first-before ids id first index is there apart =
     let within = slice_get_within ids index id there in
     let before : first < index = elim (cases_lt index first) [
       | inl less ↦ absurd (is.none_before index less there)
-      | inr more ↦ elim (cases_lt first index) [
-        | inl less ↦ less
-        | inr same ↦ absurd (apart (omega arith))
-      ]
+      | inr more ↦ omega (arith, more, apart)
     ] in
     let all : length (take index ids) ≡ index = length-take-le index ids (omega arith) in
     let here : get_or (take index ids) first id ≡ id = get_or-take index ids first id before ∙ get_or_from_slice_get ids first id id is.there in

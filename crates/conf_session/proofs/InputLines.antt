@@ -6,10 +6,11 @@ use Rattle.std.specs.List.{list_all}
 use Rattle.std.proofs.Math.Bool.{and-true, and-false}
 use Rattle.std.proofs.lemmas.List.{append_assoc, append-nil}
 use Rattle.std.proofs.lemmas.List.Folds.{list_all-append}
-use Rattle.ascii_text.specs.Lines.{newline, full_lines, before_first_line, line_of, lines_of, without_last}
+use Rattle.ascii_text.specs.Lines.{newline, full_lines, before_first_line, lines_of}
 use Rattle.ascii_text.specs.WhiteSpace.{is_space, is_blank, without_leading_space, without_trailing_space, trimmed}
-use Rattle.ascii_text.proofs.Offered.{without_trailing_space-without_last, blank-after, ends-before_blank, ends-before_other, is_blank-without_trailing_space, leads-blank, leads-after_blank, leads-after_other, leads-ends, tokens_in-at_space, tokens_in-ends}
+use Rattle.ascii_text.proofs.Offered.{blank-after, ends-before_blank, ends-before_other, is_blank-without_trailing_space, leads-blank, leads-after_blank, leads-after_other, leads-ends, tokens_in-at_space, tokens_in-ends}
 use Rattle.ascii_text.specs.Tokens.{tokens_in}
+use Rattle.dd_file.proofs.Offered.{lines-ends}
 use Rattle.conf_session.specs.ReplyLines.{is_line_byte}
 
 -- ---- the parts of a text: lines with their newlines, and a last one that may have none
@@ -88,19 +89,13 @@ trimmed-cut text ps (Line line rest more is) =
       at false false e f ih = two-lines line rest (sym (blank-after line newline refl) ∙ e) f
 
 -- ---- the same by the lines of a text: a line is its part but for white space at the end
-ends-line_of : (ps : List (List ℕ)) → map without_trailing_space (map line_of ps) ≡ map without_trailing_space ps
-ends-line_of [] = refl
-ends-line_of (p ∷ ps) =
-    ap (λ t. t ∷ map without_trailing_space (map line_of ps)) (without_trailing_space-without_last 13 (without_last 10 p) refl ∙ without_trailing_space-without_last 10 p refl)
-    ∙ ap (λ ts. without_trailing_space p ∷ ts) (ends-line_of ps)
-
 abbrev pub ends_of : List ℕ → List (List ℕ)
 ends_of text = map without_trailing_space (lines_of text)
 
 pub tokens_in-in_lines : (text : List ℕ) → tokens_in text ≡ flat_map tokens_in (ends_of text)
-tokens_in-in_lines text = tokens_in-cut text (full_lines text) (full_lines-cut text) ∙ ap (flat_map tokens_in) (sym (ends-line_of (full_lines text)))
+tokens_in-in_lines text = tokens_in-cut text (full_lines text) (full_lines-cut text) ∙ ap (flat_map tokens_in) (sym (lines-ends (full_lines text)))
 
 pub trimmed-in_lines : (text : List ℕ) → IsOneLine (has_one (ends_of text)) (first_line (ends_of text)) (trimmed text)
 trimmed-in_lines text =
-    subst (λ ls. IsOneLine (has_one ls) (first_line ls) (trimmed text)) (sym (ends-line_of (full_lines text)))
+    subst (λ ls. IsOneLine (has_one ls) (first_line ls) (trimmed text)) (sym (lines-ends (full_lines text)))
     (trimmed-cut text (full_lines text) (full_lines-cut text))

@@ -1,6 +1,6 @@
 -- What one more argument adds to the values that are read.
 use Rattle.std.proofs.Common.{◌≡◌, ℕ, ◌+◌, ◌≤◌, take, drop, Bool, true, false, cond, List, [], ◌∷◌, ◌++◌, filter_map, refl, sym, ap, ◌∙◌, subst, arith}
-use Rattle.std.specs.Prelude.{◌||◌, Option, Some, None, option_map, option_and_then, unwrap_or, IsSomeAnd, Ok, bytes_eq, slice_get, nat_lt}
+use Rattle.std.specs.Prelude.{Option, Some, None, option_map, option_and_then, unwrap_or, IsSomeAnd, Ok, bytes_eq, slice_get}
 use Rattle.std.specs.Option.{option_or}
 use Rattle.std.specs.List.{find, list_any}
 use Rattle.std.proofs.lemmas.Bool.Decides.{nat_tests}
@@ -20,17 +20,11 @@ use Rattle.conf_session.specs.declared.parameter.Parameter.TheVariants.{AutoLeav
 -- ---- what is found
 find-none : {X : Type 0} (p : X → Bool) (xs : List X) → list_any p xs ≡ false → find p xs ≡ None
 find-none p [] e = refl
-find-none p (x ∷ xs) e = at (p x) refl (find-none p xs) where
-  at : (b : Bool) → p x ≡ b → (list_any p xs ≡ false → find p xs ≡ None) → find p (x ∷ xs) ≡ None
-  at true is rest = let some : true ≡ false = ap (λ b. b || list_any p xs) (sym is) ∙ e in cc
-  at false is rest = rw is (rest (ap (λ b. b || list_any p xs) (sym is) ∙ e))
+find-none p (x ∷ xs) e = grind (arith, find-none p xs)
 
 find-some : {X : Type 0} (p : X → Bool) (xs : List X) (x : X) → find p xs ≡ Some x → p x ≡ true
 find-some p [] x e = cc
-find-some p (y ∷ ys) x e = at (p y) refl (find-some p ys x) e where
-  at : (b : Bool) → p y ≡ b → (find p ys ≡ Some x → p x ≡ true) → cond b (Some y) (find p ys) ≡ Some x → p x ≡ true
-  at true is rest e = let same : y ≡ x = cc in ap p (sym same) ∙ is
-  at false is rest e = rest e
+find-some p (y ∷ ys) x e = grind (arith, find-some p ys x)
 
 or-none : {X : Type 0} (o : Option X) → option_or o None ≡ o
 or-none o = grind arith
@@ -105,13 +99,8 @@ good-here ps args i a here so_far good =
     ∙ sym (ap (first_bad ps (take i args)) (drop-here args i a here) ∙ ap (λ b. cond b (first_bad ps (take i args ++ a ∷ []) (drop (i + 1) args)) (Some a.key)) good) ∙ so_far
 
 -- ---- at least one change is undone
-some-number : (small : Bool) (n : ℕ) → nat_lt n 1 ≡ small → 1 ≤ unwrap_or (cond small None (Some n)) 1
-some-number true n e = omega arith
-some-number false n e = grind (arith, nat_tests)
-
 some-read : (read : Option ℕ) → 1 ≤ unwrap_or (option_and_then (at_least 1) read) 1
-some-read None = omega arith
-some-read (Some n) = some-number (nat_lt n 1) n refl
+some-read read = grind (arith, nat_tests)
 
 some-values : (values : List (List ℕ)) → 1 ≤ unwrap_or (number_from 1 values) 1
 some-values [] = omega arith

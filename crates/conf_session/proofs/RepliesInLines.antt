@@ -1,8 +1,7 @@
 -- Each reply is reply lines.
 use Rattle.std.proofs.Common.{◌≡◌, ℕ, Bool, true, false, cond, not, List, [], ◌∷◌, ◌++◌, refl, sym, ap, ◌∙◌, subst, arith}
-use Rattle.std.specs.Prelude.{◌==◌, Option, Some, None, Result, Ok, Err, codes}
+use Rattle.std.specs.Prelude.{Option, Some, None, Result, Ok, Err, codes}
 use Rattle.std.specs.List.{list_all, slice_split, onto_first}
-use Rattle.std.proofs.lemmas.Bool.{eqb-true, false_from_ne_true, not_from_false}
 use Rattle.std.proofs.lemmas.Bool.Decides.{nat_tests}
 use Rattle.quorum_sets.specs.Committed.{joint_committed_index}
 use Rattle.quorum_sets.specs.Ids.{ascending, union}
@@ -29,7 +28,7 @@ use Rattle.conf_change.specs.declared.refused.Refused.{Refused}
 use Rattle.conf_change.specs.declared.step.Step.{Step}
 use Rattle.conf_change.specs.declared.step.Step.TheVariants.{Simple as SimpleStep, EnterJoint as EnterStep, LeaveJoint as LeaveStep}
 use Rattle.conf_session.specs.Parameter.{key_of}
-use Rattle.conf_session.specs.Arguments.{is_good, first_bad, bad_argument, missing_argument}
+use Rattle.conf_session.specs.Arguments.{first_bad, bad_argument, missing_argument}
 use Rattle.conf_session.specs.SessionState.{SessionState}
 use Rattle.conf_session.specs.Reply.{Reply, replied_line}
 use Rattle.conf_session.specs.Undo.{undo_plan_of, undo_fault_text, undone_changer}
@@ -46,7 +45,7 @@ use Rattle.conf_session.specs.declared.input.InputKind.TheVariants.{Changes, NoC
 use Rattle.conf_session.specs.declared.commands.Command.{Command}
 use Rattle.conf_session.specs.declared.commands.Command.TheVariants.{Simple, EnterJoint, LeaveJoint, ConfChange, ConfState, Restore, Undo, Ack, CommitIndex, Committed, Vote, Unknown}
 use Rattle.conf_session.proofs.ChartLines.{chart-in_lines, index-in_lines, vote-in_lines}
-use Rattle.conf_session.proofs.ReplyLines.{and-first, and-second, and-both, all-weaker, reply_line-append, progress-in_lines, refused-in_lines, undo_fault-in_lines, conf_state-in_lines, line-in_lines, reply_text-append, plan-in_lines, tracker-in_lines}
+use Rattle.conf_session.proofs.ReplyLines.{and-first, and-second, all-weaker, reply_line-append, progress-in_lines, refused-in_lines, undo_fault-in_lines, conf_state-in_lines, line-in_lines, reply_text-append, plan-in_lines, tracker-in_lines}
 
 abbrev HasReplyText : Reply → Type 0
 HasReplyText reply = IsReplyText reply.actual
@@ -62,9 +61,7 @@ split-whole : (text : List ℕ) → list_all has_no_white (slice_split is_space 
 split-whole [] = refl
 split-whole (b ∷ text) = at (is_space b) refl (slice_split is_space text) (split-whole text) where
   at : (white : Bool) → is_space b ≡ white → (parts : List (List ℕ)) → list_all has_no_white parts ≡ true → list_all has_no_white (cond white ([] ∷ parts) (onto_first b parts)) ≡ true
-  at true e parts h = h
-  at false e [] h = rw e refl
-  at false e (part ∷ parts) h = rw e h
+  at white e parts h = grind arith
 
 tokens_in-whole : (text : List ℕ) → list_all has_no_white (tokens_in text) ≡ true
 tokens_in-whole text = all-filter has_no_white has_bytes (slice_split is_space text) (split-whole text)
@@ -108,20 +105,12 @@ input-in_lines first_bads Nothing [] actual e = cc
 input-in_lines first_bads Nothing (b ∷ text) actual e = let same : no_input_line ≡ actual = cc in subst IsReplyText same no_input-in_lines
 
 -- ---- the arguments
-apart : (b n : ℕ) → is_key_byte n ≡ false → is_key_byte b ≡ true → not (b == n) ≡ true
-apart b n e h = not_from_false (b == n) (false_from_ne_true (b == n) (λ same. let f : is_key_byte b ≡ is_key_byte n = ap is_key_byte (eqb-true b n same) in cc))
-
 byte-key : (b : ℕ) → is_key_byte b ≡ true → is_line_byte b ≡ true
-byte-key b h = and-both _ _ (apart b 10 refl h) (apart b 13 refl h)
-
-bad-step : (argument : ArgumentText) (rest : Option (List ℕ)) (good : Bool) (key : List ℕ) → is_key argument.key ≡ true → (rest ≡ Some key → is_key key ≡ true) → cond good rest (Some argument.key) ≡ Some key → is_key key ≡ true
-bad-step argument rest true key h k e = k e
-bad-step argument rest false key h k e = let same : argument.key ≡ key = cc in ap is_key (sym same) ∙ h
+byte-key b h = grind (arith, nat_tests)
 
 bad-key : (parameters : List Parameter) (before arguments : List ArgumentText) (key : List ℕ) → has_keys arguments ≡ true → first_bad parameters before arguments ≡ Some key → is_key key ≡ true
 bad-key parameters before [] key h e = cc
-bad-key parameters before (argument ∷ arguments) key h e =
-    bad-step argument (first_bad parameters (before ++ argument ∷ []) arguments) (is_good parameters before argument) key (and-first _ _ h) (bad-key parameters (before ++ argument ∷ []) arguments key (and-second _ _ h)) e
+bad-key parameters before (argument ∷ arguments) key h e = grind (arith, bad-key parameters (before ++ argument ∷ []) arguments key)
 
 parameter-bytes : (parameter : Parameter) → list_all is_line_byte (key_of parameter) ≡ true
 parameter-bytes parameter = grind arith

@@ -7,7 +7,7 @@ use Rattle.std.specs.FinMap as finite
 use Rattle.std.specs.Str.Parse.{AllDigits}
 use Rattle.std.proofs.lemmas.List.{append-nil, length-append}
 use Rattle.std.proofs.lemmas.List.Concat.{flat_map-append}
-use Rattle.std.proofs.lemmas.List.Folds.{list_all-append, list_any-append}
+use Rattle.std.proofs.lemmas.List.Folds.{flat_map-map, list_all-append, list_any-append}
 use Rattle.std.proofs.lemmas.Bool.Decides.{nat_tests}
 use Rattle.std.proofs.lemmas.Slice.Eq.{bytes_eq-Decides}
 use Rattle.std.proofs.lemmas.Str.Parse.{digit_at}
@@ -64,13 +64,9 @@ is_mark b = not (is_space b || b == 45)
 any-prefix : {X : Type 0} (p : X → Bool) (xs ys : List X) → list_any p xs ≡ true → list_any p (xs ++ ys) ≡ true
 any-prefix p xs ys h = list_any-append p xs ys ∙ ap (λ found. found || list_any p ys) h
 
-space-step : (space dash some all : Bool) → (not (space || dash) || some) ≡ true → (some ≡ true → all ≡ false) → (space && all) ≡ false
-space-step true dash some all h k = k h
-space-step false dash some all h k = refl
-
 no_blank : (bytes : List ℕ) → list_any is_mark bytes ≡ true → is_blank bytes ≡ false
 no_blank [] h = cc
-no_blank (b ∷ bs) h = space-step (is_space b) (b == 45) (list_any is_mark bs) (is_blank bs) h (no_blank bs)
+no_blank (b ∷ bs) h = grind (arith, no_blank bs)
 
 no_dashes-if : (bytes : List ℕ) (dashes : Bool) → is_dashes bytes ≡ dashes → list_any is_mark bytes ≡ true → dashes ≡ false
 no_dashes-if bytes true e h =
@@ -225,13 +221,9 @@ pub rows-in_lines : {X : Type 0} (head : List ℕ) (row : X → List ℕ) (xs : 
 rows-in_lines head row xs first each = record {
   lines = head ∷ map row xs;
   some = omega arith;
-  whole = ap (λ rest. line head ++ rest) (whole xs);
+  whole = ap (λ rest. line head ++ rest) (sym (flat_map-map line row xs));
   valid = and-both _ _ first (valid xs);
 } where
-  whole : (xs : List _) → flat_map (λ x. line (row x)) xs ≡ text_of (map row xs)
-  whole [] = refl
-  whole (x ∷ xs) = ap (λ rest. line (row x) ++ rest) (whole xs)
-
   valid : (xs : List _) → list_all is_reply_line (map row xs) ≡ true
   valid [] = refl
   valid (x ∷ xs) = and-both _ _ (each x) (valid xs)

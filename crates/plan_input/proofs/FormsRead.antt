@@ -43,10 +43,8 @@ current-denoted lines printed form text saved h =
     ap (λ (f : Form). configuration_as f text) (form-denoted form text saved h) ∙ configuration_as-denoted lines printed form text saved h
 
 target_as-denoted : (form : Form) (now : Configuration) (text : List ℕ) (saved : ConfStateLists) → DenotesIn form text saved → target_as now form text ≡ configuration_as form text
-target_as-denoted Json now text saved h = refl
-target_as-denoted ConfStateLine now text saved h = refl
-target_as-denoted Printed now text saved h = refl
 target_as-denoted Other now text saved h = absurd h
+target_as-denoted form now text saved h = refl
 
 pub target-denoted : LinesAreRead → PrintedAreRead → (form : Form) (now : Configuration) (text : List ℕ) (saved : ConfStateLists) → DenotesIn form text saved → target_in now text ≡ as_text (valid_of saved)
 target-denoted lines printed form now text saved h =

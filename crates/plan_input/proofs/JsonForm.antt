@@ -7,9 +7,9 @@ use Rattle.std.proofs.lemmas.Bool.Decides.{nat_tests}
 use Rattle.json.specs.Ascii as ascii
 use Rattle.json.specs.Json as json
 use Rattle.json.specs.Json.{if_last, parse_map, value}
-use Rattle.json.specs.Lex.{Class, quote, backslash, operator, space, other, Lexeme, token, comma, colon, between, begins_colon, class, fresh, lex, lex_byte, punctuate, string_token, tokens}
+use Rattle.json.specs.Lex.{Class, quote, backslash, operator, space, other, Lexeme, token, comma, colon, between, class, fresh, lex, lex_byte, punctuate, string_token, tokens}
 use Rattle.json.specs.Text.{content, plain}
-use Rattle.json.specs.Token.{Token, begin_object, end_object, begin_array, end_array, key, string, number, boolean, null, bad}
+use Rattle.json.specs.Token.{Token, begin_object, end_object, begin_array, end_array, number, boolean, null, bad}
 use Rattle.json.specs.Word as words
 use Rattle.json.specs.Word.{after_number, number_before, word}
 use Rattle.serde_json.specs.Data as values
@@ -40,67 +40,35 @@ no_array_read saved (Some (items, t ∷ ts)) e = cc
 object-first : (saved : ConfStateLists) (ts : List Token) → saved_in_read (value max_depth ts) ≡ Some saved → (rest : List Token) × (ts ≡ begin_object ∷ rest)
 unfolding value
 object-first saved [] e = absurd cc
-object-first saved (begin_object ∷ ts) e = (ts, refl)
-object-first saved (end_object ∷ ts) e = absurd cc
 object-first saved (begin_array ∷ ts) e = absurd (no_array_read saved (json.items (value 126) (length ts) ts) e)
-object-first saved (end_array ∷ ts) e = absurd cc
-object-first saved (key s ∷ ts) e = absurd cc
-object-first saved (string s ∷ []) e = absurd cc
-object-first saved (string s ∷ t ∷ ts) e = absurd cc
 object-first saved (number s ∷ []) e = absurd (no_number saved (number_of s) e)
-object-first saved (number s ∷ t ∷ ts) e = absurd cc
-object-first saved (boolean b ∷ []) e = absurd cc
-object-first saved (boolean b ∷ t ∷ ts) e = absurd cc
-object-first saved (null ∷ []) e = absurd cc
-object-first saved (null ∷ t ∷ ts) e = absurd cc
-object-first saved (bad ∷ ts) e = absurd cc
+object-first saved (t ∷ ts) e = (ts, grind arith)
 
 -- ---- an object begins with a brace
 -- the first lexeme is the brace
 brace-lexeme : (l : Lexeme) (ls : List Lexeme) (rest : List Token) → punctuate fresh (l ∷ ls) ≡ begin_object ∷ rest → l ≡ token begin_object
 unfolding punctuate
-brace-lexeme (token begin_object) ls rest e = refl
-brace-lexeme (token end_object) ls rest e = absurd cc
-brace-lexeme (token begin_array) ls rest e = absurd cc
-brace-lexeme (token end_array) ls rest e = absurd cc
-brace-lexeme (token (key s)) ls rest e = absurd cc
-brace-lexeme (token (string s)) ls rest e = by_colon (begins_colon ls) refl where
-  by_colon : (before_colon : Bool) → begins_colon ls ≡ before_colon → token (string s) ≡ token begin_object
-  by_colon true is = let f = rw is at e in absurd cc
-  by_colon false is = let f = rw is at e in absurd cc
-brace-lexeme (token (number s)) ls rest e = absurd cc
-brace-lexeme (token (boolean b)) ls rest e = absurd cc
-brace-lexeme (token null) ls rest e = absurd cc
-brace-lexeme (token bad) ls rest e = absurd cc
-brace-lexeme comma ls rest e = absurd cc
-brace-lexeme colon ls rest e = absurd cc
+brace-lexeme l ls rest e = grind arith
 
 no_string : (s : Option (List ℕ)) → token (string_token s) ≡ token begin_object → ⊥
 no_string s e = grind arith
 
-no_cond : (b : Bool) (t u : Token) → (t ≡ begin_object → ⊥) → (u ≡ begin_object → ⊥) → cond b t u ≡ begin_object → ⊥
-no_cond true t u not_t not_u e = not_t e
-no_cond false t u not_t not_u e = not_u e
-
 no_number_before : (text : List ℕ) (rest : Option (List ℕ)) → number_before text rest ≡ begin_object → ⊥
-no_number_before text None e = cc
-no_number_before text (Some rest) e = no_cond (words.ends_word rest) _ bad (λ f. cc) (λ f. cc) e
+no_number_before text rest e = grind arith
 
-no_literal : (name : List ℕ) (t : Token) (text : List ℕ) → (t ≡ begin_object → ⊥) → words.literal name t text ≡ begin_object → ⊥
-no_literal name t text not_t e = no_cond (starts_with nat_eq text name && words.ends_word (drop (length name) text)) t bad not_t (λ f. cc) e
+no_cond : (b : Bool) (t u : Token) → (t ≡ begin_object → ⊥) → (u ≡ begin_object → ⊥) → cond b t u ≡ begin_object → ⊥
+no_cond b t u not_t not_u e = grind (arith, not_t, not_u)
+
+no_literal : (name text : List ℕ) (t u : Token) (begins : Bool) → (t ≡ begin_object → ⊥) → (u ≡ begin_object → ⊥) → cond begins (words.literal name t text) u ≡ begin_object → ⊥
+no_literal name text t u begins not_t not_u e = no_cond begins _ u (no_cond (starts_with nat_eq text name && words.ends_word (drop (length name) text)) t bad not_t (λ f. cc)) not_u e
 
 no_word : (text : List ℕ) → word text ≡ begin_object → ⊥
 unfolding word
 no_word text e =
     let first = words.head text in
-    let of_null = words.literal ascii.null_text null text in
-    let of_false = words.literal ascii.false_text (boolean false) text in
-    let numbers = number_before text (after_number text) in
-    let nulls = cond (first == ascii.lower_n) of_null numbers in
-    no_cond (first == ascii.lower_t) (words.literal ascii.true_text (boolean true) text) (cond (first == ascii.lower_f) of_false nulls)
-    (no_literal ascii.true_text (boolean true) text (λ f. cc))
-    (no_cond (first == ascii.lower_f) of_false nulls (no_literal ascii.false_text (boolean false) text (λ f. cc))
-    (no_cond (first == ascii.lower_n) of_null numbers (no_literal ascii.null_text null text (λ f. cc)) (no_number_before text (after_number text)))) e
+    no_literal ascii.true_text text (boolean true) _ (first == ascii.lower_t) (λ f. cc)
+    (no_literal ascii.false_text text (boolean false) _ (first == ascii.lower_f) (λ f. cc)
+    (no_literal ascii.null_text text null _ (first == ascii.lower_n) (λ f. cc) (no_number_before text (after_number text)))) e
 
 brace-operator : (a b c d e : Bool) → cond a (token begin_object) (cond b (token end_object) (cond c (token begin_array) (cond d (token end_array) (cond e comma colon)))) ≡ token begin_object → a ≡ true
 brace-operator a b c d e is = grind arith

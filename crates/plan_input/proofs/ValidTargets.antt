@@ -1,6 +1,7 @@
 -- What is read is valid.
-use Rattle.std.proofs.Common.{◌≡◌, ℕ, Bool, true, false, cond, List, refl, sym, ap, ◌∙◌}
+use Rattle.std.proofs.Common.{◌≡◌, ℕ, true, false, cond, List, refl, sym, ap, ◌∙◌, inl, inr}
 use Rattle.std.specs.Prelude.{Option, Some, None, Result, Ok, Err}
+use Rattle.std.proofs.lemmas.Bool.{cases_Bool}
 use Rattle.quorum_sets.proofs.Offered.{written_out}
 use Rattle.conf_change.specs.ChangeList.{BadToken, changes_in}
 use Rattle.conf_change.specs.Configuration.{Configuration, empty_configuration, is_joint, is_valid}
@@ -27,10 +28,10 @@ step-valid : (c after : Configuration) (step : Step) → is_valid c ≡ true →
 step-valid c after step valid is = is_valid-from_members after (outcome-is_valid c after step (ValidByMember-from_is_valid c valid) is)
 
 when_left-valid : (c : Configuration) → is_valid c ≡ true → is_valid (when_left c) ≡ true
-when_left-valid c valid = by_test (is_joint c) refl where
-  by_test : (joint : Bool) → is_joint c ≡ joint → is_valid (cond joint (after_leave c) c) ≡ true
-  by_test true is = step-valid c (after_leave c) LeaveJoint valid (ap (λ joint. cond {A = Outcome} joint (Ok (after_leave c)) (Err NotJoint)) is)
-  by_test false is = valid
+when_left-valid c valid = elim (cases_Bool (is_joint c)) [
+  | inl is ↦ rw is (step-valid c (after_leave c) LeaveJoint valid (ap (λ joint. cond {A = Outcome} joint (Ok (after_leave c)) (Err NotJoint)) is))
+  | inr is ↦ rw is valid
+]
 
 empty-valid : is_valid empty_configuration ≡ true
 empty-valid = simp written_out refl
@@ -67,10 +68,8 @@ of_changes-valid now (Ok changes) c valid e = let same : after_changes now chang
 of_changes-valid now (Err bad) c valid e = cc
 
 target_as-valid : (now : Configuration) (form : Form) (text : List ℕ) (c : Configuration) → is_valid now ≡ true → ◌≡◌ {A = Text} (target_as now form text) (Ok c) → is_valid c ≡ true
-target_as-valid now Json text c valid e = configuration_as-valid Json text c e
-target_as-valid now ConfStateLine text c valid e = configuration_as-valid ConfStateLine text c e
-target_as-valid now Printed text c valid e = configuration_as-valid Printed text c e
 target_as-valid now Other text c valid e = of_changes-valid now (changes_in text) c valid e
+target_as-valid now form text c valid e = configuration_as-valid form text c e
 
 pub target_in-valid : (now : Configuration) (text : List ℕ) (c : Configuration) → is_valid now ≡ true → ◌≡◌ {A = Text} (target_in now text) (Ok c) → is_valid c ≡ true
 target_in-valid now text c valid e = target_as-valid now (form_of text) text c valid e

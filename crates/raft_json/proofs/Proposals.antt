@@ -12,7 +12,7 @@ use Rattle.conf_change.specs.Outcome.{Outcome, outcome, with_outgoing, after_lea
 use Rattle.conf_change.specs.Transition.{step_for}
 use Rattle.conf_change.specs.declared.change.Change.{Change}
 use Rattle.conf_change.specs.declared.change.Kind.{Kind}
-use Rattle.conf_change.specs.declared.change.Kind.TheVariants.{Voter, Learner, Remove, Update}
+use Rattle.conf_change.specs.declared.change.Kind.TheVariants.{Update}
 use Rattle.conf_change.specs.declared.refused.Refused.TheVariants.{AlreadyJoint, ZeroVoterJoint, SimpleInJoint, RemovedAllVoters, MoreThanOneVoter}
 use Rattle.conf_change.specs.declared.transition.Transition.TheVariants.{Auto}
 use Rattle.conf_change.specs.declared.step.Step.{Step}
@@ -72,11 +72,7 @@ final_outcome-simple before after changes valid e = ap after_auto_leave e ∙ af
 
 -- ---- through a joint configuration and out of it
 joined_learners : (o : Option Kind) (out was next : Bool) → next ≡ false → (is_learner_after o out was || is_next_after o out next) ≡ is_learner_after o false was
-joined_learners None out was next e = grind arith
-joined_learners (Some Voter) out was next e = refl
-joined_learners (Some Learner) out was next e = grind arith
-joined_learners (Some Remove) out was next e = refl
-joined_learners (Some Update) out was next e = grind arith
+joined_learners o out was next e = grind arith
 
 no_next : (o : Option Kind) (next : Bool) → next ≡ false → is_next_after o false next ≡ false
 no_next o next e = grind arith

@@ -1,7 +1,8 @@
 -- Lists of ids, and the configurations that they describe.
-use Rattle.std.proofs.Common.{arith, ◌≡◌, ℕ, Bool, true, false, cond, ◌&&◌, List, length, refl, sym, ap, subst, ◌∙◌, eq-eqb, eqb-true}
+use Rattle.std.proofs.Common.{arith, ◌≡◌, ℕ, true, cond, ◌&&◌, List, length, refl, sym, ap, subst, ◌∙◌, eq-eqb, eqb-true}
 use Rattle.std.specs.Prelude.{Option, Some, None}
 use Rattle.std.proofs.lemmas.Bool.{and_parts, and_from}
+use Rattle.std.proofs.lemmas.Option.{cond_some}
 use Rattle.quorum_sets.specs.Ids.{Ids, ascending, size, ids_of}
 use Rattle.quorum_sets.proofs.Offered.{has-same_ids, has-ids_of, has-ascending}
 use Rattle.conf_change.specs.Configuration.{Configuration, is_restorable}
@@ -80,14 +81,10 @@ pub record IsDescribed (saved : ConfStateLists) (c : Configuration) : Type 0 whe
   pub restorable : is_restorable c ≡ true
 
 pub IsDescribed-from_restored : (saved : ConfStateLists) (c : Configuration) → restored saved ≡ Some c → IsDescribed saved c
-IsDescribed-from_restored saved c e = of_test (names_each_once saved && is_restorable (named_by saved)) refl e
-  where
-    of_test : (b : Bool) → (names_each_once saved && is_restorable (named_by saved)) ≡ b → cond b (Some (named_by saved)) None ≡ Some c → IsDescribed saved c
-    of_test true is e =
-        let parts = and_parts (names_each_once saved) (is_restorable (named_by saved)) is in
-        let same : named_by saved ≡ c = cc in
-        subst (IsDescribed saved) same (record { describes = Describes-from_names_each_once saved parts.0; restorable = parts.1 })
-    of_test false is e = cc
+IsDescribed-from_restored saved c e =
+    let found = cond_some (names_each_once saved && is_restorable (named_by saved)) (named_by saved) c e in
+    let tests = and_parts (names_each_once saved) (is_restorable (named_by saved)) found.0 in
+    subst (IsDescribed saved) found.1 (record { describes = Describes-from_names_each_once saved tests.0; restorable = tests.1 })
 
 pub restored-none : (saved : ConfStateLists) → ((c : Configuration) → Describes saved c → is_restorable c ≡ true → ⊥) → restored saved ≡ None
 restored-none saved none = of_option (restored saved) refl

@@ -4,6 +4,7 @@ use Rattle.std.specs.Prelude.{Option, Some, None, Ok, find, option_map, option_a
 use Rattle.std.specs.Option.{option_or}
 use Rattle.std.specs.List.{list_all}
 use Rattle.std.proofs.Math.Bool.{not-not}
+use Rattle.std.proofs.lemmas.Option.{cond_some}
 use Rattle.quorum_sets.specs.Ids.{has, ascending, size, ids_of}
 use Rattle.quorum_sets.proofs.Offered.{ascending-no_ids, size-with_id}
 use Rattle.conf_change.specs.Configuration.{Configuration, keeps, is_joint, is_valid, invariants, first_broken}
@@ -27,9 +28,8 @@ neither_passes a b [] e = refl
 neither_passes a b (x ∷ xs) e = grind (arith, neither_passes a b xs)
 
 none_first : (joint : Bool) (xs : List ℕ) → slice_get xs 0 ≡ None → (joint || nat_eq (length xs) 0) ≡ true
-none_first true xs e = refl
-none_first false [] e = refl
-none_first false (x ∷ xs) e = cc
+none_first joint [] e = grind arith
+none_first joint (x ∷ xs) e = cc
 
 mapped_none : {A B : Type 0} (f : A → B) (o : Option A) → option_map f o ≡ None → o ≡ None
 mapped_none f o e = grind arith
@@ -94,14 +94,11 @@ names_once-from_none : (list : List ℕ) → first_repeat list ≡ None → name
 names_once-from_none list e = eq-eqb (length list) (size (ids_of list)) (sym (size-once list e))
 
 none-from_names_once : (list : List ℕ) → names_once list ≡ true → first_repeat list ≡ None
-none-from_names_once list once = by_repeat (first_repeat list) refl
-  where
-    by_repeat : (o : Option ℕ) → first_repeat list ≡ o → first_repeat list ≡ None
-    by_repeat None e = e
-    by_repeat (Some id) e =
-        let same = eqb-true (length list) (size (ids_of list)) once in
-        let fewer = size-twice list id e in
-        let bad : ⊥ = omega arith in absurd bad
+none-from_names_once list once =
+    elim (first_repeat list) as (λ o. first_repeat list ≡ o → o ≡ None) [
+      | None ↦ λ _. refl
+      | Some id ↦ λ e. absurd (omega (arith, eqb-true (length list) (size (ids_of list)) once, size-twice list id e))
+    ] refl
 
 -- a form that is described names no id twice, and its configuration is the one that it names
 pub record IsNamed (saved : ConfStateLists) (c : Configuration) : Type 0 where
@@ -109,15 +106,12 @@ pub record IsNamed (saved : ConfStateLists) (c : Configuration) : Type 0 where
   pub once : repeat_in saved ≡ None
 
 pub IsNamed-from_described : (saved : ConfStateLists) (c : Configuration) → described saved ≡ Some c → IsNamed saved c
-IsNamed-from_described saved c e = by_once (names_each_once saved) refl e
-  where
-    by_once : (b : Bool) → names_each_once saved ≡ b → cond b (Some (named_by saved)) None ≡ Some c → IsNamed saved c
-    by_once false is e = cc
-    by_once true is e =
-        record {
-          named = cc;
-          once = grind (arith, none-from_names_once saved.voters, none-from_names_once saved.voters_outgoing, none-from_names_once saved.learners, none-from_names_once saved.learners_next);
-        }
+IsNamed-from_described saved c e =
+    let parts = cond_some (names_each_once saved) (named_by saved) c e in
+    record {
+      named = parts.1;
+      once = grind (arith, parts.0, none-from_names_once saved.voters, none-from_names_once saved.voters_outgoing, none-from_names_once saved.learners, none-from_names_once saved.learners_next);
+    }
 
 names_each_once-from_none : (saved : ConfStateLists) → repeat_in saved ≡ None → names_each_once saved ≡ true
 names_each_once-from_none saved e =
@@ -141,19 +135,17 @@ pub record IsValidOf (saved : ConfStateLists) (c : Configuration) : Type 0 where
   pub describes : Describes saved c
   pub valid : is_valid c ≡ true
 
-pub IsValidOf-from_valid_of : (saved : ConfStateLists) (c : Configuration) → valid_of saved ≡ Ok c → IsValidOf saved c
-IsValidOf-from_valid_of saved c e = by_repeat (repeat_in saved) refl e
-  where
-    by_violation : (d : Configuration) (o : Option Violation) → violation_of d ≡ o → unless_violated d o ≡ Ok c → Describes saved d → IsValidOf saved c
-    by_violation d None none e is =
-        let same : d ≡ c = cc in
-        subst (IsValidOf saved) same (record { describes = is; valid = is_valid-from_none d none })
-    by_violation d (Some violation) none e is = cc
+valid_parts : (repeat : Option ℕ) (violation : Option Violation) (d c : Configuration) → unless_violated d (option_or (option_map ListedTwice repeat) violation) ≡ Ok c
+    → (repeat ≡ None) × (violation ≡ None) × (d ≡ c)
+valid_parts repeat violation d c e = (grind arith, grind arith, grind arith)
 
-    by_repeat : (o : Option ℕ) → repeat_in saved ≡ o → unless_violated (named_by saved) (option_or (option_map ListedTwice o) (violation_of (named_by saved))) ≡ Ok c → IsValidOf saved c
-    by_repeat None none e =
-        by_violation (named_by saved) (violation_of (named_by saved)) refl e (Describes-from_names_each_once saved (names_each_once-from_none saved none))
-    by_repeat (Some id) none e = cc
+pub IsValidOf-from_valid_of : (saved : ConfStateLists) (c : Configuration) → valid_of saved ≡ Ok c → IsValidOf saved c
+IsValidOf-from_valid_of saved c e =
+    let parts = valid_parts (repeat_in saved) (violation_of (named_by saved)) (named_by saved) c e in
+    subst (IsValidOf saved) parts.2 (record {
+      describes = Describes-from_names_each_once saved (names_each_once-from_none saved parts.0);
+      valid = is_valid-from_none (named_by saved) parts.1;
+    })
 
 pub valid_of-from_Describes : (saved : ConfStateLists) (c : Configuration) → Describes saved c → is_valid c ≡ true → valid_of saved ≡ Ok c
 valid_of-from_Describes saved c is valid =

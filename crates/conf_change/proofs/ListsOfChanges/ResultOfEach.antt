@@ -1,5 +1,5 @@
 -- What a list of changes makes of each id.
-use Rattle.std.proofs.Common.{◌≡◌, ℕ, Bool, true, false, cond, not, ◌&&◌, ◌||◌, ◌==◌, List, [], ◌∷◌, ◌++◌, map, reverse, refl, sym, ap, subst, ◌∙◌, T, ◌≢◌, eqb→eq, ◌+◌, ◌<◌, length, take, get_or, arith}
+use Rattle.std.proofs.Common.{◌≡◌, ℕ, Bool, true, false, cond, ◌&&◌, ◌||◌, ◌==◌, List, [], ◌∷◌, ◌++◌, map, reverse, refl, sym, ap, ◌∙◌, ◌≢◌, ◌+◌, ◌<◌, length, take, get_or, arith}
 use Rattle.std.specs.Prelude.{Option, Some, None, find, option_map, is_some}
 use Rattle.std.proofs.Math.Bool.{or-false}
 use Rattle.std.proofs.lemmas.Bool.{or_right}
@@ -49,12 +49,11 @@ named_among id [] e = e
 named_among id (x ∷ xs) e = grind (arith, nat_tests, named_among id xs)
 
 -- ---- what is decided by the last effective change alone
-some_of_map : (o : Option Change) (k : Kind) → option_map (λ change. change.kind) o ≡ Some k → is_some o ≡ true
-some_of_map o k e = grind arith
+some_of_map : (o : Option Change) → is_some (option_map (λ change. change.kind) o) ≡ true → is_some o ≡ true
+some_of_map o e = grind arith
 
-pub last_effective-is_named : (xs : List Change) (id : ℕ) (k : Kind) → last_effective xs id ≡ Some k → list_any (λ m. id == m) (map (λ change. change.id) xs) ≡ true
-last_effective-is_named xs id k e =
-    named_among id xs (sym (any_reverse (names id) xs) ∙ sym (is_some-find (names id) (reverse xs)) ∙ some_of_map _ k e)
+pub last_effective-is_named : (xs : List Change) (id : ℕ) → is_some (last_effective xs id) ≡ true → list_any (λ m. id == m) (map (λ change. change.id) xs) ≡ true
+last_effective-is_named xs id e = named_among id xs (sym (any_reverse (names id) xs) ∙ sym (is_some-find (names id) (reverse xs)) ∙ some_of_map _ e)
 
 pub all_in : (t a : Bool) → (t ≡ true → a ≡ true) → (t && a) ≡ t
 all_in t a f = grind arith
@@ -64,7 +63,7 @@ among : (decide : Option Kind → Bool → Bool) → ((was : Bool) → decide No
 among decide same s xs q None e d =
     list_any-append _ (map (λ change. change.id) xs) (ascending s) ∙ or_right _ _ (sym (has-ascending s q) ∙ sym (same (has s q)) ∙ d)
 among decide same s xs q (Some k) e d =
-    list_any-append _ (map (λ change. change.id) xs) (ascending s) ∙ ap (λ b. b || list_any (λ m. q == m) (ascending s)) (last_effective-is_named xs q k e)
+    list_any-append _ (map (λ change. change.id) xs) (ascending s) ∙ ap (λ b. b || list_any (λ m. q == m) (ascending s)) (last_effective-is_named xs q (ap is_some e))
 
 has-decided : (decide : ℕ → Option Kind → Bool → Bool) → ((id : ℕ) (was : Bool) → decide id None was ≡ was) → (s : Ids) (xs : List Change) (q : ℕ)
     → has (ids_where (λ id. decide id (last_effective xs id) (has s id)) (named_or_in xs s)) q ≡ decide q (last_effective xs q) (has s q)
@@ -115,20 +114,11 @@ has-put_to : (b : Bool) (s : Ids) (id q : ℕ) → has (put_to b s id) q ≡ con
 has-put_to true s id q = grind (arith, has-with_id s id q)
 has-put_to false s id q = grind (arith, has-without_id s id q)
 
-at_same : (f : ℕ → Bool) (q id : ℕ) (w b : Bool) → (q == id) ≡ b → cond b (f id) w ≡ cond b (f q) w
-at_same f q id w true e = ap f (sym (eqb→eq q id (subst T (sym e) tt)))
-at_same f q id w false e = refl
-
-of_decided : (f : Option Kind → Bool) (kind : Kind) (w b : Bool) → f None ≡ w → cond b (f (Some kind)) w ≡ f (cond b (Some kind) None)
-of_decided f kind w b e = grind arith
-
 set_made : (decide : ℕ → Option Kind → Bool → Bool) → ((id : ℕ) (was : Bool) → decide id None was ≡ was) → (kind : Kind) (s t : Ids) (id : ℕ)
     → id ≢ 0 → is_update kind ≡ false → t ≡ put_to (decide id (Some kind) (has s id)) s id
     → (q : ℕ) → has t q ≡ decide q (last_effective (only kind id) q) (has s q)
 set_made decide same kind s t id apart e made q =
-    ap (λ u. has u q) made ∙ has-put_to _ s id q ∙ at_same (λ x. decide x (Some kind) (has s x)) q id (has s q) (q == id) refl
-    ∙ of_decided (λ o. decide q o (has s q)) kind (has s q) (q == id) (same q (has s q))
-    ∙ ap (λ o. decide q o (has s q)) (sym (last_effective-only kind q id apart e))
+    rw made (grind (arith, nat_tests, has-put_to (decide id (Some kind) (has s id)) s id q, same q (has s q), last_effective-only kind q id apart e))
 
 -- where the id is put where the change states, and nothing else is altered
 pub result_of-change : (kind : Kind) (c d : Configuration) (id : ℕ) (out : Bool) → id ≢ 0 → is_update kind ≡ false → has c.outgoing id ≡ out
@@ -178,35 +168,15 @@ pub result_of-zero : (c : Configuration) (x : Change) → x.id ≡ 0 → c ≡ r
 result_of-zero c x zero = no_effect c (x ∷ []) (λ q. no_names x q (grind (arith, nat_tests, zero)))
 
 -- ---- one change after others
-incoming_absorbs : (k : Kind) (m w : Bool) (o : Option Kind)
-    → is_incoming_after (cond (m && not (is_update k)) (Some k) None) (is_incoming_after o w) ≡ is_incoming_after (cond (m && not (is_update k)) (Some k) o) w
-incoming_absorbs k m w o = grind arith
-
-learners_absorb : (k : Kind) (m out w : Bool) (o : Option Kind)
-    → is_learner_after (cond (m && not (is_update k)) (Some k) None) out (is_learner_after o out w) ≡ is_learner_after (cond (m && not (is_update k)) (Some k) o) out w
-learners_absorb k m out w o = grind arith
-
-next_absorbs : (k : Kind) (m out w : Bool) (o : Option Kind)
-    → is_next_after (cond (m && not (is_update k)) (Some k) None) out (is_next_after o out w) ≡ is_next_after (cond (m && not (is_update k)) (Some k) o) out w
-next_absorbs k m out w o = grind arith
-
--- the changes one after another are the whole list
 pub result_of-push : (c : Configuration) (xs : List Change) (x : Change) → result_of (result_of c xs) (x ∷ []) ≡ result_of c (xs ++ x ∷ [])
 result_of-push c xs x =
-    configuration-by_members (result_of (result_of c xs) (x ∷ [])) (result_of c (xs ++ x ∷ []))
-    (λ q. has-incoming_after (result_of c xs) (x ∷ []) q
-    ∙ (λ i. is_incoming_after (of_cond (names q x) x None i) (has-incoming_after c xs q i))
-    ∙ incoming_absorbs x.kind ((x.id == q) && not (q == 0)) (has c.incoming q) (last_effective xs q)
-    ∙ sym (has-incoming_after c (xs ++ x ∷ []) q ∙ ap (λ o. is_incoming_after o (has c.incoming q)) (last_effective-push xs x q)))
+    let now = result_of c xs in
+    let all = xs ++ x ∷ [] in
+    configuration-by_members (result_of now (x ∷ [])) (result_of c all)
+    (λ q. grind (arith, has-incoming_after now (x ∷ []) q, has-incoming_after c xs q, has-incoming_after c all q, last_effective-push xs x q, last_effective-one x q))
     refl
-    (λ q. has-learners_after (result_of c xs) (x ∷ []) q
-    ∙ (λ i. is_learner_after (of_cond (names q x) x None i) (has c.outgoing q) (has-learners_after c xs q i))
-    ∙ learners_absorb x.kind ((x.id == q) && not (q == 0)) (has c.outgoing q) (has c.learners q) (last_effective xs q)
-    ∙ sym (has-learners_after c (xs ++ x ∷ []) q ∙ ap (λ o. is_learner_after o (has c.outgoing q) (has c.learners q)) (last_effective-push xs x q)))
-    (λ q. has-next_after (result_of c xs) (x ∷ []) q
-    ∙ (λ i. is_next_after (of_cond (names q x) x None i) (has c.outgoing q) (has-next_after c xs q i))
-    ∙ next_absorbs x.kind ((x.id == q) && not (q == 0)) (has c.outgoing q) (has c.learners_next q) (last_effective xs q)
-    ∙ sym (has-next_after c (xs ++ x ∷ []) q ∙ ap (λ o. is_next_after o (has c.outgoing q) (has c.learners_next q)) (last_effective-push xs x q)))
+    (λ q. grind (arith, has-learners_after now (x ∷ []) q, has-learners_after c xs q, has-learners_after c all q, last_effective-push xs x q, last_effective-one x q))
+    (λ q. grind (arith, has-next_after now (x ∷ []) q, has-next_after c xs q, has-next_after c all q, last_effective-push xs x q, last_effective-one x q))
     refl
 
 -- one more change of a list

@@ -1,10 +1,11 @@
 -- What the walk over the last effective changes makes.
-use Rattle.std.proofs.Common.{◌≡◌, ℕ, ◌+◌, ◌<◌, length, take, get_or, inl, inr, Bool, true, false, cond, ◌&&◌, ◌||◌, ◌==◌, List, [], ◌∷◌, ◌++◌, map, refl, sym, ap, subst, ◌∙◌, eqb-true, arith}
+use Rattle.std.proofs.Common.{◌≡◌, ℕ, ◌+◌, ◌<◌, length, take, get_or, Bool, true, false, cond, ◌||◌, ◌==◌, List, [], ◌∷◌, ◌++◌, map, refl, sym, ap, subst, ◌∙◌, arith}
 use Rattle.std.specs.Prelude.{Option, Some, None, is_some}
 use Rattle.std.specs.Ordering.{nat_cmp}
 use Rattle.std.specs.FinMap as finite
 use Rattle.std.specs.List.{list_any}
-use Rattle.std.proofs.lemmas.Bool.{or_cases, or_left, or_right, and_parts}
+use Rattle.std.proofs.lemmas.Bool.Decides.{nat_tests}
+use Rattle.std.proofs.lemmas.Bool.{or_left, or_right, and_parts}
 use Rattle.std.proofs.lemmas.List.{flat_map_more, map_more}
 use Rattle.std.proofs.lemmas.List.Folds.{list_any-append}
 use Rattle.quorum_sets.specs.Ids.{Ids, no_ids, has, with_id, ids_where}
@@ -18,7 +19,6 @@ use Rattle.conf_change.specs.TrackerState.{TrackerState}
 use Rattle.conf_change.specs.TrackerEdits.{beginning, entry_of, progress_left, progress_left_after, entries_of, Applies}
 use Rattle.conf_change.specs.Changer.{IsSound, tracker_of}
 use Rattle.conf_change.specs.declared.change.Change.{Change}
-use Rattle.conf_change.specs.declared.change.Kind.{Kind}
 use Rattle.conf_change.specs.declared.floor.Floor.{Floor}
 use Rattle.conf_change.specs.declared.change_summary.ChangeSummary.{ChangeSummary}
 use Rattle.conf_change.specs.declared.progress.Progress.{Progress}
@@ -64,12 +64,6 @@ walked-none next_index t xs incoming learners next members i l n m = record {
   members_are = m;
 }
 
-one_more : (b e a t : Bool) → (e ≡ true → t ≡ b) → cond b (e || (t && a)) (t && a) ≡ (t && (a || (e || false)))
-one_more true true a t same = rw (same refl) (grind arith)
-one_more true false a t same = grind arith
-one_more false true a t same = rw (same refl) refl
-one_more false false a t same = grind arith
-
 has-cond : (b : Bool) (s : Ids) (x q : ℕ) → has (cond b (with_id s x) s) q ≡ cond b ((q == x) || has s q) (has s q)
 has-cond true s x q = has-with_id s x q
 has-cond false s x q = refl
@@ -77,10 +71,8 @@ has-cond false s x q = refl
 where_more : (p : ℕ → Bool) (passed : List ℕ) (x : ℕ) (s after : Ids) → s ≡ ids_where p passed → after ≡ cond (p x) (with_id s x) s → after ≡ ids_where p (passed ++ x ∷ [])
 where_more p passed x s after was is =
     has-same_ids _ _ (λ q.
-    let had : has s q ≡ (p q && list_any (λ y. q == y) passed) = ap (λ u. has u q) was ∙ has-ids_where p passed q in
-    ap (λ u. has u q) is ∙ has-cond (p x) s x q ∙ (λ i. cond (p x) ((q == x) || had i) (had i))
-    ∙ one_more (p x) (q == x) (list_any (λ y. q == y) passed) (p q) (λ e. ap p (eqb-true q x e))
-    ∙ sym (has-ids_where p (passed ++ x ∷ []) q ∙ ap (λ b. p q && b) (list_any-append (λ y. q == y) passed (x ∷ []))))
+    let made : has after q ≡ has (cond (p x) (with_id (ids_where p passed) x) (ids_where p passed)) q = ap (λ u. has u q) (is ∙ ap (λ u. cond (p x) (with_id u x) u) was) in
+    grind (arith, nat_tests, made, has-cond (p x) (ids_where p passed) x q, has-ids_where p passed q, has-ids_where p (passed ++ x ∷ []) q, list_any-append (λ y. q == y) passed (x ∷ [])))
 
 pub walked-one_more : (next_index : ℕ) (t : TrackerState) (xs : List Change) (summaries : List (ℕ × ChangeSummary)) (k : ℕ) (d : ℕ × ChangeSummary)
     (incoming learners next incoming' learners' next' : Ids) (members members' : List (ℕ × Progress)) (sat roles : Roles) (entry : Option Progress)
@@ -119,7 +111,7 @@ second_test_suffices a m p f = grind arith
 
 -- an id that has a last effective change, or was a member, is passed
 record Covers (before : TrackerState) (xs : List Change) (passed : List ℕ) : Type 0 where
-  named : (q : ℕ) (kind : Kind) → last_effective xs q ≡ Some kind → list_any (λ x. q == x) passed ≡ true
+  named : (q : ℕ) → is_some (last_effective xs q) ≡ true → list_any (λ x. q == x) passed ≡ true
   known : (q : ℕ) → is_member before.config q ≡ true → list_any (λ x. q == x) passed ≡ true
 
 covers : (before : TrackerState) (es : List (ℕ × Progress)) (xs : List Change) (summaries : List (ℕ × ChangeSummary)) → IsSound before → finite.from_entries {R = nat_cmp} es ≡ before.progress
@@ -128,16 +120,11 @@ covers before es xs summaries sound same are =
     let passed : (q : ℕ) → list_any (λ x. q == x) (keys summaries) ≡ (list_any (λ id. q == id) (map (λ (m : ℕ × Progress). m.0) es) || list_any (λ change. q == change.id) xs) =
     λ q. sym (keys-find summaries q) ∙ are.entries q in
     record {
-      named = λ q kind e. passed q ∙ or_right (list_any (λ id. q == id) (map (λ (m : ℕ × Progress). m.0) es)) _ (sym (any-named xs q) ∙ last_effective-is_named xs q kind e);
+      named = λ q e. passed q ∙ or_right (list_any (λ id. q == id) (map (λ (m : ℕ × Progress). m.0) es)) _ (sym (any-named xs q) ∙ last_effective-is_named xs q e);
       known = λ q e.
           passed q
           ∙ or_left _ (list_any (λ change. q == change.id) xs) (sym (keys-get es q) ∙ ap (λ m. is_some (finite.get m q)) same ∙ sound.of_members q ∙ e);
     }
-
-covered_by : (before : TrackerState) (xs : List Change) (passed : List ℕ) → Covers before xs passed → (q : ℕ) (f : Option Kind → Bool) → (f None ≡ true → is_member before.config q ≡ true)
-    → (o : Option Kind) → last_effective xs q ≡ o → f o ≡ true → list_any (λ x. q == x) passed ≡ true
-covered_by before xs passed c q f was None e d = c.known q (was d)
-covered_by before xs passed c q f was (Some kind) e d = c.named q kind e
 
 pub walked-applies : (next_index : ℕ) (before : TrackerState) (floor : Floor) (outgoing : Ids) (auto_leave : Bool) (es : List (ℕ × Progress)) (xs : List Change) (summaries : List (ℕ × ChangeSummary))
     (incoming learners next : Ids) (members : List (ℕ × Progress))
@@ -151,17 +138,10 @@ walked-applies next_index before floor outgoing auto_leave es xs summaries incom
     let c = covers before es xs summaries sound same are in
     let old = before.config in
     let valid = ValidByMember-from_is_valid old (and_parts _ _ sound.restorable).0 in
-    let in_covered : (q : ℕ) → incoming_then t xs q ≡ true → list_any (λ x. q == x) passed ≡ true =
-    λ q. covered_by before xs passed c q (λ o. is_incoming_after o (has old.incoming q)) (λ h. or_left (has old.incoming q || has old.outgoing q) (has old.learners q) (or_left (has old.incoming q) (has old.outgoing q) h)) (last_effective xs q) refl in
-    let learner_covered : (q : ℕ) → learner_then t xs q ≡ true → list_any (λ x. q == x) passed ≡ true =
-    λ q. covered_by before xs passed c q (λ o. is_learner_after o (has outgoing q) (has old.learners q)) (λ h. or_right (has old.incoming q || has old.outgoing q) (has old.learners q) h) (last_effective xs q) refl in
-    let next_covered : (q : ℕ) → next_then t xs q ≡ true → list_any (λ x. q == x) passed ≡ true =
-    λ q. covered_by before xs passed c q (λ o. is_next_after o (has outgoing q) (has old.learners_next q)) (λ h. or_left (has old.incoming q || has old.outgoing q) (has old.learners q) (or_right (has old.incoming q) (has old.outgoing q) (valid.next_outgoing q h))) (last_effective xs q) refl in
-    let member_covered : (q : ℕ) → member_then t xs q ≡ true → list_any (λ x. q == x) passed ≡ true =
-    λ q m. elim (or_cases (incoming_then t xs q || has outgoing q) (learner_then t xs q) m) [
-      | inl first ↦ (elim (or_cases (incoming_then t xs q) (has outgoing q) first) [ inl i ↦ in_covered q i | inr o ↦ c.known q (inside q o) ])
-      | inr l ↦ learner_covered q l
-    ] in
+    let in_covered : (q : ℕ) → incoming_then t xs q ≡ true → list_any (λ x. q == x) passed ≡ true = λ q e. grind (arith, c.named q, c.known q) in
+    let learner_covered : (q : ℕ) → learner_then t xs q ≡ true → list_any (λ x. q == x) passed ≡ true = λ q e. grind (arith, c.named q, c.known q) in
+    let next_covered : (q : ℕ) → next_then t xs q ≡ true → list_any (λ x. q == x) passed ≡ true = λ q e. grind (arith, c.named q, c.known q, valid.next_outgoing q) in
+    let member_covered : (q : ℕ) → member_then t xs q ≡ true → list_any (λ x. q == x) passed ≡ true = λ q e. grind (arith, c.named q, c.known q, inside q) in
     let in_is : (q : ℕ) → has incoming q ≡ incoming_then t xs q =
     λ q. ap (λ s. has s q) walked.incoming_is ∙ has-where (incoming_then t xs) passed q (in_covered q) in
     let learner_is : (q : ℕ) → has learners q ≡ learner_then t xs q =

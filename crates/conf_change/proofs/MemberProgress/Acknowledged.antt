@@ -13,7 +13,6 @@ use Rattle.conf_change.specs.Changer.{TrackerState, ChangerState, IsSound, track
 use Rattle.conf_change.specs.Floor.{IsAhead}
 use Rattle.conf_change.specs.declared.acknowledgement.AckFault.TheVariants.{IndexTooLarge}
 use Rattle.conf_change.specs.declared.floor.Floor.{Floor}
-use Rattle.conf_change.specs.declared.floor.Floor.TheVariants.{Zero, One}
 use Rattle.conf_change.specs.declared.progress.Progress.{Progress}
 
 -- ---- the match of each member
@@ -51,8 +50,7 @@ marked-acknowledged : (index : ℕ) (was : Progress) → (acknowledged index was
 marked-acknowledged index was = grind arith
 
 ahead-acknowledged : (floor : Floor) (index : ℕ) (was : Progress) → IsAhead floor was → IsAhead floor (acknowledged index was)
-ahead-acknowledged Zero index was ahead = grind arith
-ahead-acknowledged One index was ahead = grind arith
+ahead-acknowledged floor index was ahead = grind arith
 
 -- an acknowledgement leaves a tracker sound
 pub ack-is_sound : (t : TrackerState) (id index : ℕ) (was p : Progress) → IsSound t → finite.get t.progress id ≡ Some was → p ≡ acknowledged index was

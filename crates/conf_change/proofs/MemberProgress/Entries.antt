@@ -9,6 +9,7 @@ use Rattle.std.specs.List.{insert, remove}
 use Rattle.std.specs.Ordering.{ordering_index}
 use Rattle.std.specs.Cmp.{unsigned_tied}
 use Rattle.std.proofs.lemmas.Bool.{ne_eqb, cases_lt, cases_order}
+use Rattle.std.proofs.lemmas.Bool.Decides.{nat_tests}
 use Rattle.std.proofs.lemmas.Option.{slice_get_past, slice_get-get_or, slice_get_within, get_or_from_slice_get}
 use Rattle.std.proofs.lemmas.List.{length-map, length-drop, get_or_default, get_or-map, get_or-drop, map-append, map-set, set-get_or, set_split, take-map, take-append-drop, drop-map, drop_more}
 use Rattle.std.proofs.lemmas.List.Folds.{list_any_none}
@@ -186,11 +187,10 @@ find-remove : {X : Type 0} (es : List (ℕ × X)) (id i : ℕ) (d : ℕ × X) �
 find-remove {X} es id i d up at q =
     let s = standing es id i d up at in
     find-from es (drop (suc i) es) i id q None (omega (arith, s.within)) s.below
-    (none (q == id) refl s.later ∙ over (q == id) None (Some (get_or es i d).1) (find nat_cmp q (drop (suc i) es)) ∙ ap (cond (q == id) None) (sym (s.here q)))
+    (none s.later ∙ over (q == id) None (Some (get_or es i d).1) (find nat_cmp q (drop (suc i) es)) ∙ ap (cond (q == id) None) (sym (s.here q)))
   where
-    none : (b : Bool) → (q == id) ≡ b → None ≡ find nat_cmp id (drop (suc i) es) → find nat_cmp q (drop (suc i) es) ≡ cond b None (find nat_cmp q (drop (suc i) es))
-    none true same e = ap (λ n. find nat_cmp n (drop (suc i) es)) (eqb-true q id same) ∙ sym e
-    none false other e = refl
+    none : None ≡ find nat_cmp id (drop (suc i) es) → find nat_cmp q (drop (suc i) es) ≡ cond (q == id) None (find nat_cmp q (drop (suc i) es))
+    none e = grind (arith, nat_tests)
 
 pub keys-set : {X : Type 0} (es : List (ℕ × X)) (id i : ℕ) (v : X) → IsAtPosition (keys es) id i → keys (set es i (id, v)) ≡ keys es
 keys-set es id i v at = map-set (λ m. m.0) es i (id, v) ∙ ap (set (keys es) i) (sym at.there) ∙ set-get_or (keys es) i 0
@@ -258,7 +258,4 @@ get-taken es id i up at q =
     found (remove es i) q ∙ find-remove es id i (0, record { matched = 0; next = 0; learner = false }) up at q ∙ ap (cond (q == id) None) (sym (found es q))
 
 pub get-absent : (es : Members) (id i : ℕ) → IsInsertionPoint (keys es) id i → (q : ℕ) → progress_in es q ≡ cond (q == id) None (progress_in es q)
-get-absent es id i goes q = by (q == id) refl where
-  by : (b : Bool) → (q == id) ≡ b → progress_in es q ≡ cond b None (progress_in es q)
-  by true same = ap (progress_in es) (eqb-true q id same) ∙ sym (get-missing es id i goes)
-  by false other = refl
+get-absent es id i goes q = grind (arith, nat_tests, get-missing es id i goes)

@@ -1,11 +1,12 @@
 -- What progress each id has.
-use Rattle.std.proofs.Common.{◌≡◌, ℕ, Bool, true, false, cond, ◌||◌, ◌==◌, List, [], ◌∷◌, ◌++◌, map, refl, sym, ap, subst, ◌∙◌, T, eqb→eq}
+use Rattle.std.proofs.Common.{◌≡◌, ℕ, cond, ◌||◌, ◌==◌, List, [], ◌∷◌, ◌++◌, map, refl, sym, ap, subst, ◌∙◌, arith}
 use Rattle.std.specs.Prelude.{Some, None, if◌then◌else◌}
 use Rattle.std.specs.Ordering.{nat_cmp}
 use Rattle.std.specs.Cmp.{nat_cmp_total, unsigned_tied}
 use Rattle.std.specs.FinMap as finite
 use Rattle.std.specs.FinMap.{find, nat_cmp-IsAntisymmetric}
 use Rattle.std.specs.List.{list_any}
+use Rattle.std.proofs.lemmas.Bool.Decides.{nat_tests}
 use Rattle.std.proofs.lemmas.List.Folds.{list_any-append}
 use Rattle.quorum_sets.specs.Ids.{Ids, has, ascending, union}
 use Rattle.quorum_sets.specs.AscendingLists.{IsAscending}
@@ -14,18 +15,11 @@ use Rattle.conf_change.specs.Configuration.{Configuration, is_member, members}
 use Rattle.conf_change.specs.Progress.{progress_by}
 use Rattle.conf_change.specs.declared.progress.Progress.{Progress}
 
-same_value : (of : ℕ → Progress) (q x : ℕ) (b rest : Bool) → (q == x) ≡ b
-    → cond b (Some (of x)) (cond rest (Some (of q)) None) ≡ cond (b || rest) (Some (of q)) None
-same_value of q x true rest e = ap (λ n. Some (of n)) (sym (eqb→eq q x (subst T (sym e) tt)))
-same_value of q x false rest e = refl
-
 -- in a list of ids, each with its own, an id of the list has its own
 pub find-of_each : (of : ℕ → Progress) (q : ℕ) (xs : List ℕ)
     → find nat_cmp q (map (λ id. (id, of id)) xs) ≡ cond (list_any (λ x. q == x) xs) (Some (of q)) None
 find-of_each of q [] = refl
-find-of_each of q (x ∷ xs) =
-    (λ i. cond (unsigned_tied q x i) (Some (of x)) (find-of_each of q xs i))
-    ∙ same_value of q x (q == x) (list_any (λ y. q == y) xs) refl
+find-of_each of q (x ∷ xs) = grind (arith, nat_tests, unsigned_tied q x, find-of_each of q xs)
 
 -- the list of the members has the members
 pub any-members : (c : Configuration) (q : ℕ) → list_any (λ x. q == x) (members c) ≡ is_member c q

@@ -1,5 +1,5 @@
 -- What an accepted step keeps: the voters stay neighbours, a voter stays, and the tracker stays sound.
-use Rattle.std.proofs.Common.{◌≡◌, ℕ, ◌≤◌, Bool, true, false, cond, not, ◌&&◌, ◌||◌, ◌==◌, List, [], ◌∷◌, refl, sym, ap, subst, ◌∙◌, inl, inr, arith, ltb-false, is_some}
+use Rattle.std.proofs.Common.{◌≡◌, ℕ, ◌≤◌, Bool, true, false, cond, ◌&&◌, ◌||◌, List, [], ◌∷◌, refl, sym, ap, subst, ◌∙◌, inl, inr, arith, ltb-false, is_some}
 use Rattle.std.specs.Prelude.{Option, Some, None, IfSome, unwrap_or, Ok, find, reverse, option_map, if◌then◌else◌}
 use Rattle.std.specs.FinMap as finite
 use Rattle.std.proofs.lemmas.Bool.{or_cases, and_parts, and_from, or_left, not-true, not-false, true≢false}
@@ -8,15 +8,13 @@ use Rattle.quorum_sets.specs.Overlap.{Overlap}
 use Rattle.quorum_sets.specs.Voters.{AreNeighbours}
 use Rattle.quorum_sets.proofs.Offered.{has-no_ids, has-union, QuorumsMeet-from_neighbours, QuorumsMeet-from_neighbours_back, CommittedMeetsWon-from_neighbours, CommittedMeetsWon-from_neighbours_back}
 use Rattle.conf_change.specs.Configuration.{Configuration, voters_of, is_joint, has_voter, is_valid, is_restorable, is_member}
-use Rattle.conf_change.specs.Change.{names, last_effective, is_update, is_incoming_after, is_learner_after, is_next_after, result_of}
+use Rattle.conf_change.specs.Change.{names, last_effective, is_incoming_after, is_learner_after, is_next_after, result_of}
 use Rattle.conf_change.specs.Outcome.{outcome, with_outgoing, after_leave}
 use Rattle.conf_change.specs.Progress.{fresh_next_of, fresh_progress, with_mark, keeps_progress, progress_after}
 use Rattle.conf_change.specs.Floor.{fresh_next, IsAhead}
-use Rattle.conf_change.specs.Changer.{ChangerState, IsSound, begun_with, moved_to}
+use Rattle.conf_change.specs.Changer.{TrackerState, ChangerState, IsSound, begun_with, moved_to}
 use Rattle.conf_change.specs.declared.change.Change.{Change}
-use Rattle.conf_change.specs.declared.change.Kind.{Kind}
 use Rattle.conf_change.specs.declared.floor.Floor.{Floor}
-use Rattle.conf_change.specs.declared.floor.Floor.TheVariants.{Zero, One}
 use Rattle.conf_change.specs.declared.progress.Progress.{Progress}
 use Rattle.conf_change.specs.declared.step.Step.{Step}
 use Rattle.conf_change.specs.declared.step.Step.TheVariants.{Simple, EnterJoint, LeaveJoint}
@@ -69,28 +67,13 @@ outcome-has_voter c after (EnterJoint auto_leave changes) ok e = let t = EnterTa
 outcome-has_voter c after LeaveJoint ok e = let t = LeaveTaken-from_outcome c after e in sym (ap has_voter t.made) ∙ has_voter-joint c ok t.joint
 
 -- ---- validity stays
-ignores_zero : (a b : Bool) → (a && false && b) ≡ false
-ignores_zero a b = grind arith
-
 find-zero : (xs : List Change) → find (names 0) xs ≡ None
 find-zero [] = refl
-find-zero (x ∷ xs) = ap (λ b. cond b (Some x) (find (names 0) xs)) (ignores_zero (x.id == 0) (not (is_update x.kind))) ∙ find-zero xs
+find-zero (x ∷ xs) = grind (arith, find-zero xs)
 
 -- no change has a say on 0
 last_effective-zero : (xs : List Change) → last_effective xs 0 ≡ None
 last_effective-zero xs = ap (option_map (λ change. change.kind)) (find-zero (reverse xs))
-
-next_after-outgoing : (o : Option Kind) (out was : Bool) → (was ≡ true → out ≡ true) → is_next_after o out was ≡ true → out ≡ true
-next_after-outgoing o out was f e = grind arith
-
-next_after-incoming : (o : Option Kind) (out was inside : Bool) → (was ≡ true → inside ≡ false) → is_next_after o out was ≡ true → is_incoming_after o inside ≡ false
-next_after-incoming o out was inside f e = grind arith
-
-learner_after-incoming : (o : Option Kind) (out was inside : Bool) → (was ≡ true → inside ≡ false) → is_learner_after o out was ≡ true → is_incoming_after o inside ≡ false
-learner_after-incoming o out was inside f e = grind arith
-
-learner_after-outgoing : (o : Option Kind) (out was : Bool) → (was ≡ true → out ≡ false) → is_learner_after o out was ≡ true → out ≡ false
-learner_after-outgoing o out was f e = grind arith
 
 -- a list of changes keeps validity
 result_of-is_valid : (c : Configuration) (xs : List Change) → ValidByMember c → ValidByMember (result_of c xs)
@@ -99,14 +82,10 @@ result_of-is_valid c xs m = record {
   zero_outgoing = m.zero_outgoing;
   zero_learners = has-learners_after c xs 0 ∙ ap (λ o. is_learner_after o (has c.outgoing 0) (has c.learners 0)) (last_effective-zero xs) ∙ m.zero_learners;
   zero_next = has-next_after c xs 0 ∙ ap (λ o. is_next_after o (has c.outgoing 0) (has c.learners_next 0)) (last_effective-zero xs) ∙ m.zero_next;
-  next_outgoing = λ q here. next_after-outgoing (last_effective xs q) (has c.outgoing q) (has c.learners_next q) (m.next_outgoing q) (sym (has-next_after c xs q) ∙ here);
-  next_incoming = λ q here.
-      has-incoming_after c xs q
-      ∙ next_after-incoming (last_effective xs q) (has c.outgoing q) (has c.learners_next q) (has c.incoming q) (m.next_incoming q) (sym (has-next_after c xs q) ∙ here);
-  learner_incoming = λ q here.
-      has-incoming_after c xs q
-      ∙ learner_after-incoming (last_effective xs q) (has c.outgoing q) (has c.learners q) (has c.incoming q) (m.learner_incoming q) (sym (has-learners_after c xs q) ∙ here);
-  learner_outgoing = λ q here. learner_after-outgoing (last_effective xs q) (has c.outgoing q) (has c.learners q) (m.learner_outgoing q) (sym (has-learners_after c xs q) ∙ here);
+  next_outgoing = λ q here. grind (arith, has-next_after c xs q, m.next_outgoing q);
+  next_incoming = λ q here. grind (arith, has-next_after c xs q, has-incoming_after c xs q, m.next_incoming q);
+  learner_incoming = λ q here. grind (arith, has-learners_after c xs q, has-incoming_after c xs q, m.learner_incoming q);
+  learner_outgoing = λ q here. grind (arith, has-learners_after c xs q, m.learner_outgoing q);
   auto_leave = m.auto_leave;
 }
 
@@ -156,11 +135,21 @@ outcome-is_restorable c after step ok e =
     (or_left (has_voter after) _ (outcome-has_voter c after step ok e))
 
 -- ---- the tracker stays sound
-is_some-cond : (b : Bool) (p : Progress) → is_some (cond b (Some p) None) ≡ b
-is_some-cond b p = grind arith
+-- a tracker in which each member has its own progress
+sound_by_each : (t : TrackerState) (own : ℕ → Progress) → is_restorable t.config ≡ true → ((id : ℕ) → finite.get t.progress id ≡ cond (is_member t.config id) (Some (own id)) None)
+    → ((id : ℕ) → (own id).learner ≡ has t.config.learners id) → ((id : ℕ) → IsAhead t.floor (own id)) → IsSound t
+sound_by_each t own restorable each marked ahead = record {
+  restorable = restorable;
+  of_members = λ id. ap is_some (each id) ∙ is_some-cond (is_member t.config id) (own id);
+  marked = λ id. let P : Option Progress → Type 0 = λ o. IfSome o (λ p. p.learner ≡ has t.config.learners id) in subst P (sym (each id)) (of_member (is_member t.config id) (own id) _ (marked id));
+  ahead = λ id. let P : Option Progress → Type 0 = λ o. IfSome o (IsAhead t.floor) in subst P (sym (each id)) (of_member (is_member t.config id) (own id) _ (ahead id));
+}
+  where
+    is_some-cond : (b : Bool) (p : Progress) → is_some (cond b (Some p) None) ≡ b
+    is_some-cond b p = grind arith
 
-of_member : (b : Bool) (p : Progress) (P : Progress → Type 0) → P p → IfSome (cond b (Some p) None) P
-of_member b p P h = grind arith
+    of_member : (b : Bool) (p : Progress) (P : Progress → Type 0) → P p → IfSome (cond b (Some p) None) P
+    of_member b p P h = grind arith
 
 of_kept : (b : Bool) (p q : Progress) (P : Progress → Type 0) → P p → P q → P (cond b p q)
 of_kept b p q P h k = grind arith
@@ -173,8 +162,7 @@ fresh-is_ahead floor last_index learner = grind arith
 
 -- the mark has no part in it
 marked-is_ahead : (floor : Floor) (learner : Bool) (p : Progress) → IsAhead floor p → IsAhead floor (with_mark learner p)
-marked-is_ahead Zero learner p ahead = ahead
-marked-is_ahead One learner p ahead = ahead
+marked-is_ahead floor learner p ahead = grind arith
 
 -- what an id has after the step, if it is a member then
 abbrev pub own_progress : ChangerState → Step → Configuration → ℕ → Progress
@@ -203,29 +191,12 @@ own_progress-ahead before step after id sound =
 
 pub moved_to-is_sound : (before : ChangerState) (step : Step) (after : Configuration)
     → IsSound before.tracker → outcome before.tracker.config step ≡ Ok after → IsSound (moved_to before step after).tracker
-moved_to-is_sound before step after sound e = record {
-  restorable = outcome-is_restorable before.tracker.config after step sound.restorable e;
-  of_members = λ id. ap is_some (get-after before step after id) ∙ is_some-cond (is_member after id) _;
-  marked = λ id.
-      let Marked : Option Progress → Type 0 = λ o. IfSome o (λ p. p.learner ≡ has after.learners id) in
-      subst Marked (sym (get-after before step after id))
-      (of_member (is_member after id) _ (λ p. p.learner ≡ has after.learners id) (own_progress-marked before step after id));
-  ahead = λ id.
-      let Ahead : Option Progress → Type 0 = λ o. IfSome o (IsAhead before.tracker.floor) in
-      subst Ahead (sym (get-after before step after id)) (of_member (is_member after id) _ (IsAhead before.tracker.floor) (own_progress-ahead before step after id sound));
-}
+moved_to-is_sound before step after sound e =
+    sound_by_each (moved_to before step after).tracker (own_progress before step after) (outcome-is_restorable before.tracker.config after step sound.restorable e)
+    (get-after before step after) (own_progress-marked before step after) (λ id. own_progress-ahead before step after id sound)
 
 -- a tracker whose progress is all fresh is sound too
 pub begun_with-is_sound : (floor : Floor) (last_index : ℕ) (c : Configuration) → is_restorable c ≡ true → IsSound (begun_with floor last_index c).tracker
 begun_with-is_sound floor last_index c ok =
-    let of : ℕ → Progress = λ id. fresh_progress (fresh_next floor last_index) (has c.learners id) in
-    record {
-      restorable = ok;
-      of_members = λ id. ap is_some (get-progress_by c of id) ∙ is_some-cond (is_member c id) (of id);
-      marked = λ id.
-          let Marked : Option Progress → Type 0 = λ o. IfSome o (λ p. p.learner ≡ has c.learners id) in
-          subst Marked (sym (get-progress_by c of id)) (of_member (is_member c id) (of id) (λ p. p.learner ≡ has c.learners id) refl);
-      ahead = λ id.
-          let Ahead : Option Progress → Type 0 = λ o. IfSome o (IsAhead floor) in
-          subst Ahead (sym (get-progress_by c of id)) (of_member (is_member c id) (of id) (IsAhead floor) (fresh-is_ahead floor last_index (has c.learners id)));
-    }
+    let own : ℕ → Progress = λ id. fresh_progress (fresh_next floor last_index) (has c.learners id) in
+    sound_by_each (begun_with floor last_index c).tracker own ok (get-progress_by c own) (λ id. refl) (λ id. fresh-is_ahead floor last_index (has c.learners id))

@@ -1,9 +1,9 @@
 -- The function that reads change lists, against the relation.
-use Rattle.std.proofs.Common.{◌≡◌, ◌≢◌, ℕ, suc, ◌<◌, List, [], ◌∷◌, ◌++◌, length, Option, Some, None, Result, Ok, Err, refl, ap, ◌∙◌, arith}
+use Rattle.std.proofs.Common.{◌≡◌, ◌≢◌, ℕ, ◌<◌, List, [], ◌∷◌, ◌++◌, length, Option, Some, None, Result, Ok, Err, refl, ap, ◌∙◌, arith}
 use Rattle.std.specs.List.{AllZip}
 use Rattle.std.proofs.lemmas.Bool.Decides.{nat_tests}
 use Rattle.ascii_text.specs.Number.{ParsesToNumber, number_in}
-use Rattle.conf_change.specs.ChangeList.{letter_of, ParsesTo, BadToken, unknown_token, unknown_input, bad_number, token_of, HasReason, IsFirstBad, kind_in, change_in, changes_in_tokens}
+use Rattle.conf_change.specs.ChangeList.{letter_of, ParsesTo, BadToken, unknown_token, unknown_input, bad_number, token_of, HasReason, IsFirstBad, kind_in, with_kind, change_in, changes_in_tokens}
 use Rattle.conf_change.specs.declared.change.Change.{Change}
 use Rattle.conf_change.specs.declared.change.Kind.{Kind}
 use Rattle.conf_change.specs.declared.change.Kind.TheVariants.{Voter, Learner, Remove, Update}
@@ -32,21 +32,20 @@ change_in-ok token change h = go h.number h.letter_first h.id_after where
   go [] is parsed = absurd (omega (arith, parsed.numeral.0))
   go (digit ∷ rest) is parsed = ap change_in is ∙ change_in-some (letter_of change.kind) digit change.id rest change.kind (kind_in-letter_of change.kind) (number_in-ok (digit ∷ rest) change.id parsed)
 
+-- a change that was read has the kind of its letter and the number after it
+parsed_parts : (token rest : List ℕ) (kind : Option Kind) (change : Change) → with_kind token kind rest ≡ Ok change → (kind ≡ Some change.kind) × (number_in rest ≡ Some change.id)
+parsed_parts token rest kind change e = (grind arith, grind arith)
+
 ParsesTo-from_ok : (token : List ℕ) (change : Change) → change_in token ≡ Ok change → ParsesTo token change
 ParsesTo-from_ok [] change e = absurd cc
 ParsesTo-from_ok (letter ∷ []) change e = absurd cc
-ParsesTo-from_ok (letter ∷ digit ∷ rest) change e = go (kind_in letter) (number_in (digit ∷ rest)) refl refl where
-  go : (k : Option Kind) (n : Option ℕ) → kind_in letter ≡ k → number_in (digit ∷ rest) ≡ n → ParsesTo (letter ∷ digit ∷ rest) change
-  go None n is_kind is_number = let f = rw is_kind at e in absurd cc
-  go (Some kind) None is_kind is_number = let f = rw (is_kind, is_number) at e in absurd cc
-  go (Some kind) (Some id) is_kind is_number =
-      let f = rw (is_kind, is_number) at e in
-      let same : change ≡ record { kind = kind; id = id } = cc in
-      rw same (record {
-        number = digit ∷ rest;
-        letter_first = ap (λ first. first ∷ digit ∷ rest) (letter_from_kind letter kind is_kind);
-        id_after = ParsesToNumber-from_some (digit ∷ rest) id is_number;
-      })
+ParsesTo-from_ok (letter ∷ digit ∷ rest) change e =
+    let both = parsed_parts (letter ∷ digit ∷ rest) (digit ∷ rest) (kind_in letter) change e in
+    record {
+      number = digit ∷ rest;
+      letter_first = ap (λ first. first ∷ digit ∷ rest) (letter_from_kind letter change.kind both.0);
+      id_after = ParsesToNumber-from_some (digit ∷ rest) change.id both.1;
+    }
 
 not_parsed : (number : List ℕ) → number_in number ≡ None → (id : ℕ) → ¬ (ParsesToNumber number id)
 not_parsed number none id h = let some = number_in-ok number id h in cc
@@ -95,29 +94,17 @@ changes_in_tokens-ok (token ∷ tokens) (change ∷ changes) h = rw (change_in-o
 pub AllZip-from_ok : (tokens : List (List ℕ)) (changes : List Change) → changes_in_tokens tokens ≡ Ok changes → AllZip ParsesTo tokens changes
 AllZip-from_ok [] [] e = tt
 AllZip-from_ok [] (change ∷ changes) e = absurd cc
-AllZip-from_ok (token ∷ tokens) all e = go (change_in token) (changes_in_tokens tokens) refl refl (AllZip-from_ok tokens) where
-  go : (first : Result Change BadToken) (more : Result (List Change) BadToken) → change_in token ≡ first → changes_in_tokens tokens ≡ more → ((changes : List Change) → changes_in_tokens tokens ≡ Ok changes → AllZip ParsesTo tokens changes) → AllZip ParsesTo (token ∷ tokens) all
-  go (Err bad) more is_first is_more later = let f = rw is_first at e in absurd cc
-  go (Ok change) (Err bad) is_first is_more later = let f = rw (is_first, is_more) at e in absurd cc
-  go (Ok change) (Ok changes) is_first is_more later =
-      let f = rw (is_first, is_more) at e in
-      let same : all ≡ change ∷ changes = cc in
-      rw same (ParsesTo-from_ok token change is_first, later changes is_more)
+AllZip-from_ok (token ∷ tokens) [] e = absurd (grind arith)
+AllZip-from_ok (token ∷ tokens) (change ∷ changes) e = (ParsesTo-from_ok token change (grind arith), AllZip-from_ok tokens changes (grind arith))
 
 pub IsFirstBad-from_err : (tokens : List (List ℕ)) (bad : BadToken) → changes_in_tokens tokens ≡ Err bad → IsFirstBad tokens bad
 IsFirstBad-from_err [] bad e = absurd cc
-IsFirstBad-from_err (token ∷ tokens) bad e = go (change_in token) (changes_in_tokens tokens) refl refl (IsFirstBad-from_err tokens bad) where
-  go : (first : Result Change BadToken) (more : Result (List Change) BadToken) → change_in token ≡ first → changes_in_tokens tokens ≡ more → (changes_in_tokens tokens ≡ Err bad → IsFirstBad tokens bad) → IsFirstBad (token ∷ tokens) bad
-  go (Err found) more is_first is_more rest =
-      let f = rw is_first at e in
-      let same : found ≡ bad = cc in
-      let blames = Blames-from_err token bad (is_first ∙ ap (λ b. Err b) same) in
+IsFirstBad-from_err (token ∷ tokens) bad e = elim (change_in token) as (λ first. change_in token ≡ first → IsFirstBad (token ∷ tokens) bad) [
+  | Err found ↦ λ is_first.
+      let blames = Blames-from_err token bad (grind (arith, e, is_first)) in
       record { before = []; after = tokens; changes = []; position = ap (λ t. t ∷ tokens) blames.0; parsed = tt; reason = blames.1 }
-  go (Ok change) (Ok changes) is_first is_more rest = let f = rw (is_first, is_more) at e in absurd cc
-  go (Ok change) (Err found) is_first is_more rest =
-      let f = rw (is_first, is_more) at e in
-      let same : found ≡ bad = cc in
-      let later = rest (is_more ∙ ap (λ b. Err b) same) in
+  | Ok change ↦ λ is_first.
+      let later = IsFirstBad-from_err tokens bad (grind (arith, e, is_first)) in
       record {
         before = token ∷ later.before;
         after = later.after;
@@ -126,15 +113,10 @@ IsFirstBad-from_err (token ∷ tokens) bad e = go (change_in token) (changes_in_
         parsed = (ParsesTo-from_ok token change is_first, later.parsed);
         reason = later.reason;
       }
+] refl
 
 pub changes_in_tokens-err : (before : List (List ℕ)) (changes : List Change) (bad : BadToken) (after : List (List ℕ)) → AllZip ParsesTo before changes → HasReason bad → changes_in_tokens (before ++ token_of bad ∷ after) ≡ Err bad
 changes_in_tokens-err [] changes bad after parsed reason = rw (change_in-err bad reason) refl
 changes_in_tokens-err (token ∷ before) [] bad after parsed reason = absurd parsed
 changes_in_tokens-err (token ∷ before) (change ∷ changes) bad after parsed reason =
     rw (change_in-ok token change parsed.0, changes_in_tokens-err before changes bad after parsed.1 reason) refl
-
-pub length-parsed : (tokens : List (List ℕ)) (changes : List Change) → AllZip ParsesTo tokens changes → length changes ≡ length tokens
-length-parsed [] [] h = refl
-length-parsed [] (change ∷ changes) h = absurd h
-length-parsed (token ∷ tokens) [] h = absurd h
-length-parsed (token ∷ tokens) (change ∷ changes) h = ap suc (length-parsed tokens changes h.1)

@@ -1,19 +1,19 @@
 -- The function that reads the line of a saved configuration, against the relation.
-use Rattle.std.proofs.Common.{◌≡◌, ℕ, ◌<◌, ◌≤◌, ◌^◌, Bool, true, false, List, [], ◌∷◌, ◌++◌, length, take, drop, get_or, map, Option, Some, None, refl, sym, ap, ◌∙◌, subst, arith}
+use Rattle.std.proofs.Common.{◌≡◌, ℕ, ◌<◌, ◌≤◌, ◌^◌, Bool, true, false, cond, List, [], ◌∷◌, ◌++◌, length, take, drop, get_or, map, Option, Some, None, refl, sym, ap, ◌∙◌, arith}
 use Rattle.std.specs.Prelude.{codes, decimal, option_map, option_and_then, bytes_eq}
-use Rattle.std.specs.List.{All, AllZip, join_with_byte, slice_split, position_or_len}
+use Rattle.std.specs.List.{All, AllZip, before_first, join_with_byte, slice_split, position_or_len}
 use Rattle.std.specs.Str.Parse.{AllDigits}
 use Rattle.std.proofs.lemmas.Bool.{ne_eqb, lt-ltb}
 use Rattle.std.proofs.lemmas.List.{append_assoc, take_at, drop_at, get_or_at, get_or_append_left, take-append-drop, length-append}
 use Rattle.std.proofs.lemmas.List.Elements.{All-nil, All-append, All-cons, All-head, All-tail, All-from_get_or}
 use Rattle.std.proofs.lemmas.List.Splits.{slice_split_none, slice_split_at, join_with_byte-slice_split}
 use Rattle.std.proofs.lemmas.List.Sums.{position_or_len_is}
-use Rattle.std.proofs.lemmas.Option.{cond_some}
+use Rattle.std.proofs.lemmas.Option.{option_and_then_some, same_Some}
 use Rattle.std.proofs.lemmas.Fmt.{decimal_is_IsNumeral}
 use Rattle.std.proofs.lemmas.Str.Parse.{digit_at}
 use Rattle.std.proofs.lemmas.Slice.Eq.{bytes_eq-Decides}
 use Rattle.ascii_text.specs.WhiteSpace.{trimmed, without_leading_space}
-use Rattle.ascii_text.specs.Number.{ParsesToNumber, number_in}
+use Rattle.ascii_text.specs.Number.{ParsesToNumber}
 use Rattle.conf_change.specs.Text.{spaced_numbers}
 use Rattle.conf_change.specs.ConfState.{ConfStateLists}
 use Rattle.conf_change.specs.ConfStateLine.{truth_text, bracketed_line, conf_state_text, ParsesToNumbers, DenotesConfState, after_prefix, numbers_in_tokens, is_space_byte, numbers_in, is_close, field_in, auto_leave_in, conf_state_in}
@@ -57,14 +57,8 @@ numbers_in_tokens-ok (token ∷ tokens) (number ∷ numbers) h = rw (number_in-o
 AllZip-from_some : (tokens : List (List ℕ)) (numbers : List ℕ) → numbers_in_tokens tokens ≡ Some numbers → AllZip ParsesToNumber tokens numbers
 AllZip-from_some [] [] e = tt
 AllZip-from_some [] (number ∷ numbers) e = absurd cc
-AllZip-from_some (token ∷ tokens) all e = go (number_in token) (numbers_in_tokens tokens) refl refl (AllZip-from_some tokens) where
-  go : (first : Option ℕ) (more : Option (List ℕ)) → number_in token ≡ first → numbers_in_tokens tokens ≡ more → ((numbers : List ℕ) → numbers_in_tokens tokens ≡ Some numbers → AllZip ParsesToNumber tokens numbers) → AllZip ParsesToNumber (token ∷ tokens) all
-  go None more is_first is_more later = let f = rw is_first at e in absurd cc
-  go (Some number) None is_first is_more later = let f = rw (is_first, is_more) at e in absurd cc
-  go (Some number) (Some numbers) is_first is_more later =
-      let f = rw (is_first, is_more) at e in
-      let same : all ≡ number ∷ numbers = cc in
-      rw same (ParsesToNumber-from_some token number is_first, later numbers is_more)
+AllZip-from_some (token ∷ tokens) [] e = absurd (grind arith)
+AllZip-from_some (token ∷ tokens) (number ∷ numbers) e = (ParsesToNumber-from_some token number (grind arith), AllZip-from_some tokens numbers (grind arith))
 
 numbers_in-not_empty : (text : List ℕ) → 0 < length text → numbers_in text ≡ numbers_in_tokens (slice_split is_space_byte text)
 numbers_in-not_empty text some = rw (lt-ltb 0 (length text) some) refl
@@ -102,13 +96,6 @@ after_prefix-append : (prefix body : List ℕ) → after_prefix prefix (prefix +
 after_prefix-append prefix body =
     rw (take_at prefix body (length prefix) refl, drop_at prefix body (length prefix) refl, (bytes_eq-Decides prefix prefix).1 refl) refl
 
-append-after_prefix : (prefix text body : List ℕ) → after_prefix prefix text ≡ Some body → text ≡ prefix ++ body
-append-after_prefix prefix text body e =
-    let n = length prefix in
-    let found = cond_some (bytes_eq (take n text) prefix) (drop n text) body e in
-    let beginning = (bytes_eq-Decides (take n text) prefix).0 found.0 in
-    sym (take-append-drop n text) ∙ rw (beginning, found.1) refl
-
 position_or_len-close : (inside rest : List ℕ) → All (λ b. is_close b ≡ false) inside → position_or_len is_close (inside ++ 93 ∷ rest) ≡ length inside
 position_or_len-close inside rest none =
     position_or_len_is is_close (inside ++ 93 ∷ rest) (length inside) 0 (omega (arith, length-append inside (93 ∷ rest)))
@@ -121,48 +108,42 @@ field_in-ok prefix inside rest numbers h =
     rw (after_prefix-append prefix (inside ++ 93 ∷ rest))
     (rw (position_or_len-close inside rest none, take_at inside (93 ∷ rest) (length inside) refl, drop_at inside (93 ∷ rest) (length inside) refl, numbers_in-ok inside numbers h) refl)
 
--- the first step of two gave something
-pub some_from_then : {A B : Type 0} (found : Option A) (more : A → Option B) (y : B) → option_and_then more found ≡ Some y → (x : A) × (found ≡ Some x) × (more x ≡ Some y)
-some_from_then None more y e = absurd cc
-some_from_then (Some x) more y e = (x, refl, e)
-
-some_from_map : {A B : Type 0} (found : Option A) (f : A → B) (y : B) → option_map f found ≡ Some y → (x : A) × (found ≡ Some x) × (Some (f x) ≡ Some y)
-some_from_map None f y e = absurd cc
-some_from_map (Some x) f y e = (x, refl, e)
-
-pub some_injective : {A : Type 0} (x y : A) → Some x ≡ Some y → x ≡ y
-some_injective x y e = cc
-
-record Field (prefix text numbers rest : List ℕ) : Type 0 where
+-- a field that was read, and what the rest gave
+record Field (prefix text : List ℕ) (read : List ℕ × List ℕ) : Type 0 where
   inside : List ℕ
-  whole : text ≡ prefix ++ (inside ++ rest)
-  parsed : ParsesToNumbers inside numbers
+  whole : text ≡ prefix ++ (inside ++ read.1)
+  parsed : ParsesToNumbers inside read.0
 
-Field-from_some : (prefix text numbers rest : List ℕ) → field_in prefix text ≡ Some (numbers, rest) → Field prefix text numbers rest
-Field-from_some prefix text numbers rest e =
-    let n : List ℕ → ℕ = λ body. position_or_len is_close body in
-    let beginning = some_from_then (after_prefix prefix text) (λ body. option_map (λ (ns : List ℕ). (ns, drop (n body) body)) (numbers_in (take (n body) body))) (numbers, rest) e in
-    let body = beginning.0 in
-    let read = some_from_map (numbers_in (take (n body) body)) (λ (ns : List ℕ). (ns, drop (n body) body)) (numbers, rest) beginning.2 in
-    let pair = some_injective (read.0, drop (n body) body) (numbers, rest) read.2 in
-    let same_numbers : read.0 ≡ numbers = ap (λ (p : List ℕ × List ℕ). p.0) pair in
-    let same_rest : drop (n body) body ≡ rest = ap (λ (p : List ℕ × List ℕ). p.1) pair in
+field_parts : (begins : Bool) (body : List ℕ) (numbers : List ℕ → Option (List ℕ)) (rest : List ℕ → List ℕ) (read : List ℕ × List ℕ)
+    → option_and_then (λ b. option_map (λ ns. (ns, rest b)) (numbers b)) (cond begins (Some body) None) ≡ Some read → (begins ≡ true) × (numbers body ≡ Some read.0) × (rest body ≡ read.1)
+field_parts begins body numbers rest read e = (grind arith, grind arith, grind arith)
+
+Field-from_some : (prefix text : List ℕ) (read : List ℕ × List ℕ) → field_in prefix text ≡ Some read → Field prefix text read
+Field-from_some prefix text read e =
+    let n = length prefix in
+    let body = drop n text in
+    let inside = before_first is_close body in
+    let parts = field_parts (bytes_eq (take n text) prefix) body (λ b. numbers_in (before_first is_close b)) (λ b. drop (position_or_len is_close b) b) read e in
     record {
-      inside = take (n body) body;
-      whole = append-after_prefix prefix text body beginning.1 ∙ ap (λ b. prefix ++ b) (sym (take-append-drop (n body) body) ∙ ap (λ r. take (n body) body ++ r) same_rest);
-      parsed = ParsesToNumbers-from_some (take (n body) body) numbers (read.1 ∙ ap (λ ns. Some ns) same_numbers);
+      inside = inside;
+      whole =
+          sym (take-append-drop n text) ∙ ap (λ t. t ++ body) ((bytes_eq-Decides (take n text) prefix).0 parts.0)
+          ∙ ap (λ t. prefix ++ t) (sym (take-append-drop (position_or_len is_close body) body) ∙ ap (λ t. inside ++ t) parts.2);
+      parsed = ParsesToNumbers-from_some inside read.0 parts.1;
     }
+
+-- a field that was read, and what was made of it and the text after it
+field-then : (prefix text : List ℕ) (more : List ℕ × List ℕ → Option ConfStateLists) (saved : ConfStateLists) → option_and_then more (field_in prefix text) ≡ Some saved
+    → (read : List ℕ × List ℕ) × Field prefix text read × (more read ≡ Some saved)
+field-then prefix text more saved e = option_and_then_some more (field_in prefix text) saved e (λ read is rest. (read, Field-from_some prefix text read is, rest))
 
 -- ---- the flag
 auto_leave_in-text : (flag : Bool) → auto_leave_in (codes "] AutoLeave:" ++ truth_text flag) ≡ Some flag
 auto_leave_in-text flag = grind arith
 
 text-flag_in : (text : List ℕ) (flag : Bool) → auto_leave_in text ≡ Some flag → text ≡ codes "] AutoLeave:" ++ truth_text flag
-text-flag_in text flag e = go (bytes_eq text (codes "] AutoLeave:true")) (bytes_eq text (codes "] AutoLeave:false")) refl refl where
-  go : (t u : Bool) → bytes_eq text (codes "] AutoLeave:true") ≡ t → bytes_eq text (codes "] AutoLeave:false") ≡ u → text ≡ codes "] AutoLeave:" ++ truth_text flag
-  go true u first second = let f = rw first at e in let same : flag ≡ true = cc in rw same ((bytes_eq-Decides text (codes "] AutoLeave:true")).0 first)
-  go false true first second = let f = rw (first, second) at e in let same : flag ≡ false = cc in rw same ((bytes_eq-Decides text (codes "] AutoLeave:false")).0 second)
-  go false false first second = let f = rw (first, second) at e in absurd cc
+text-flag_in text true e = (bytes_eq-Decides text (codes "] AutoLeave:true")).0 (grind arith)
+text-flag_in text false e = (bytes_eq-Decides text (codes "] AutoLeave:false")).0 (grind arith)
 
 -- ---- the line
 -- the line, part by part from its end
@@ -189,29 +170,21 @@ joined text a after_a b after_b c after_c d after_d flag is_text is_a is_b is_c 
 
 pub DenotesConfState-from_some : (text : List ℕ) (saved : ConfStateLists) → conf_state_in text ≡ Some saved → DenotesConfState text saved
 DenotesConfState-from_some text saved e =
-    let first = some_from_then (field_in (codes "Voters:[") (trimmed text)) _ saved e in
-    let second = some_from_then (field_in (codes "] VotersOutgoing:[") first.0.1) _ saved first.2 in
-    let third = some_from_then (field_in (codes "] Learners:[") second.0.1) _ saved second.2 in
-    let fourth = some_from_then (field_in (codes "] LearnersNext:[") third.0.1) _ saved third.2 in
-    let last = some_from_then (auto_leave_in fourth.0.1) _ saved fourth.2 in
-    let voters = Field-from_some (codes "Voters:[") (trimmed text) first.0.0 first.0.1 first.1 in
-    let voters_outgoing = Field-from_some (codes "] VotersOutgoing:[") first.0.1 second.0.0 second.0.1 second.1 in
-    let learners = Field-from_some (codes "] Learners:[") second.0.1 third.0.0 third.0.1 third.1 in
-    let learners_next = Field-from_some (codes "] LearnersNext:[") third.0.1 fourth.0.0 fourth.0.1 fourth.1 in
-    let flag = text-flag_in fourth.0.1 last.0 last.1 in
-    let lists : ConfStateLists = record { voters = first.0.0; voters_outgoing = second.0.0; learners = third.0.0; learners_next = fourth.0.0; auto_leave = last.0 } in
-    let holds : DenotesConfState text lists = record {
-      voters = voters.inside;
-      voters_outgoing = voters_outgoing.inside;
-      learners = learners.inside;
-      learners_next = learners_next.inside;
-      line = joined (trimmed text) voters.inside first.0.1 voters_outgoing.inside second.0.1 learners.inside third.0.1 learners_next.inside fourth.0.1 last.0 voters.whole voters_outgoing.whole learners.whole learners_next.whole flag;
-      parsed_voters = voters.parsed;
-      parsed_voters_outgoing = voters_outgoing.parsed;
-      parsed_learners = learners.parsed;
-      parsed_learners_next = learners_next.parsed;
-    } in
-    subst (DenotesConfState text) (some_injective lists saved last.2) holds
+    let voters = field-then (codes "Voters:[") (trimmed text) _ saved e in
+    let outgoing = field-then (codes "] VotersOutgoing:[") voters.0.1 _ saved voters.2 in
+    let learners = field-then (codes "] Learners:[") outgoing.0.1 _ saved outgoing.2 in
+    let next = field-then (codes "] LearnersNext:[") learners.0.1 _ saved learners.2 in
+    option_and_then_some _ (auto_leave_in next.0.1) saved next.2 (λ flag is same. rw (sym (same_Some _ saved same)) (record {
+      voters = voters.1.inside;
+      voters_outgoing = outgoing.1.inside;
+      learners = learners.1.inside;
+      learners_next = next.1.inside;
+      line = joined (trimmed text) voters.1.inside voters.0.1 outgoing.1.inside outgoing.0.1 learners.1.inside learners.0.1 next.1.inside next.0.1 flag voters.1.whole outgoing.1.whole learners.1.whole next.1.whole (text-flag_in next.0.1 flag is);
+      parsed_voters = voters.1.parsed;
+      parsed_voters_outgoing = outgoing.1.parsed;
+      parsed_learners = learners.1.parsed;
+      parsed_learners_next = next.1.parsed;
+    }))
 
 -- ---- the printed line
 trimmed-from_first : (text more beginning : List ℕ) → text ≡ 86 ∷ more → text ≡ beginning ++ 101 ∷ [] → trimmed text ≡ text
@@ -242,17 +215,8 @@ DenotesConfState-printed saved voters voters_outgoing learners learners_next = r
   parsed_learners_next = learners_next;
 }
 
-line_grouped : (old p a q b r c s d t f : List ℕ) → old ++ (p ++ a) ++ (q ++ b) ++ (r ++ c) ++ (s ++ d) ++ t ++ f ≡ old ++ (p ++ a ++ q ++ b ++ r ++ c ++ s ++ d ++ t ++ f)
+pub line_grouped : (old p a q b r c s d t f : List ℕ) → old ++ (p ++ a) ++ (q ++ b) ++ (r ++ c) ++ (s ++ d) ++ t ++ f ≡ old ++ (p ++ a ++ q ++ b ++ r ++ c ++ s ++ d ++ t ++ f)
 line_grouped old p a q b r c s d t f = simp append_assoc
-
-pub conf_state_text-appended : (old t1 t2 t3 t4 t5 t6 voters voters_outgoing learners learners_next flag : List ℕ) (saved : ConfStateLists)
-    → voters ≡ saved.voters → voters_outgoing ≡ saved.voters_outgoing → learners ≡ saved.learners → learners_next ≡ saved.learners_next → flag ≡ truth_text saved.auto_leave
-    → t1 ≡ old ++ (codes "Voters:[" ++ spaced_numbers voters) → t2 ≡ t1 ++ (codes "] VotersOutgoing:[" ++ spaced_numbers voters_outgoing)
-    → t3 ≡ t2 ++ (codes "] Learners:[" ++ spaced_numbers learners) → t4 ≡ t3 ++ (codes "] LearnersNext:[" ++ spaced_numbers learners_next)
-    → t5 ≡ t4 ++ codes "] AutoLeave:" → t6 ≡ t5 ++ flag → t6 ≡ old ++ conf_state_text saved
-conf_state_text-appended old t1 t2 t3 t4 t5 t6 voters voters_outgoing learners learners_next flag saved a b c d f is1 is2 is3 is4 is5 is6 =
-    is6 ∙ rw (is5, is4, is3, is2, is1, a, b, c, d, f)
-    (line_grouped old (codes "Voters:[") (spaced_numbers saved.voters) (codes "] VotersOutgoing:[") (spaced_numbers saved.voters_outgoing) (codes "] Learners:[") (spaced_numbers saved.learners) (codes "] LearnersNext:[") (spaced_numbers saved.learners_next) (codes "] AutoLeave:") (truth_text saved.auto_leave))
 
 -- ---- the parts, one by one
 -- numbers that were read, before those of the parts that are left

@@ -1,9 +1,9 @@
 -- The keys of the arguments that a text and the items of a script have.
-use Rattle.std.proofs.Common.{◌≡◌, ℕ, zero, suc, ◌+◌, Bool, true, false, not, cond, ◌&&◌, List, [], ◌∷◌, length, take, refl, sym, ◌∙◌, ap, arith}
+use Rattle.std.proofs.Common.{◌≡◌, ℕ, zero, suc, ◌+◌, Bool, true, false, cond, ◌&&◌, List, [], ◌∷◌, length, refl, sym, ◌∙◌, ap, arith}
 use Rattle.std.specs.Prelude.{◌==◌, Option, Some, None, option_map}
 use Rattle.std.specs.List.{list_all, prefix_len}
 use Rattle.ascii_text.specs.WhiteSpace.{without_leading_space}
-use Rattle.dd_file.specs.DirectiveLine.{ArgumentText, CommandText, Leading, leading, bytes_while, with_key, is_key_byte, is_key, is_equals, values_at, after_key, ends_token, as_token, argument_at, before_others, from_token, arguments_within, arguments_of, has_keys, is_name, command_of}
+use Rattle.dd_file.specs.DirectiveLine.{ArgumentText, CommandText, Leading, leading, bytes_while, with_key, is_key_byte, is_key, is_equals, values_at, after_key, as_token, argument_at, before_others, from_token, arguments_within, arguments_of, has_keys, is_name, command_of}
 use Rattle.dd_file.specs.Script.{joined}
 use Rattle.dd_file.specs.Laws.{AreWellFormed, item_has_keys}
 use Rattle.dd_file.specs.declared.item.Item.{Item}
@@ -12,28 +12,15 @@ use Rattle.dd_file.proofs.ScriptGrammar.LinesOfItem.{ReadItem, ReadComment, Read
 -- the leading bytes pass
 leading-all : (test : ℕ → Bool) (text : List ℕ) → list_all test (bytes_while test text).value ≡ true
 leading-all test [] = refl
-leading-all test (x ∷ xs) = at (test x) refl (leading-all test xs) where
-  n : ℕ
-  n = prefix_len test xs
-
-  at : (c : Bool) → test x ≡ c → list_all test (take n xs) ≡ true → list_all test (take (cond c (1 + n) 0) (x ∷ xs)) ≡ true
-  at true is ih = let one : 1 + n ≡ suc n = omega arith in ap (λ k. list_all test (take k (x ∷ xs))) one ∙ ap (λ c. c && list_all test (take n xs)) is ∙ ih
-  at false is ih = refl
+leading-all test (x ∷ xs) = let one : 1 + prefix_len test xs ≡ suc (prefix_len test xs) = omega arith in rw one (grind (arith, leading-all test xs))
 
 -- an argument has the key that was read
-as_token-is : {A : Type 0} (found : Leading A) (whole : Leading A) → as_token (Some found) ≡ Some whole → found ≡ whole
-as_token-is found whole is = at (ends_token found.rest) is where
-  at : (c : Bool) → cond c (Some found) None ≡ Some whole → found ≡ whole
-  at c e = grind arith
-
 after_key-key : (key rest : List ℕ) (found : Leading ArgumentText) → as_token (after_key key rest) ≡ Some found → found.value.key ≡ key
-after_key-key key [] found is = ap (λ (l : Leading ArgumentText). l.value.key) (sym (as_token-is (leading (with_key key []) []) found is))
+after_key-key key [] found is = grind arith
 after_key-key key (b ∷ rest) found is = at (is_equals b) (values_at rest) is where
   at : (c : Bool) (values : Option (Leading (List (List ℕ)))) →
       as_token (cond c (option_map (λ v. leading (with_key key v.value) v.rest) values) (Some (leading (with_key key []) (b ∷ rest)))) ≡ Some found → found.value.key ≡ key
-  at true None e = cc
-  at true (Some v) e = ap (λ (l : Leading ArgumentText). l.value.key) (sym (as_token-is (leading (with_key key v.value) v.rest) found e))
-  at false values e = ap (λ (l : Leading ArgumentText). l.value.key) (sym (as_token-is (leading (with_key key []) (b ∷ rest)) found e))
+  at c values e = grind arith
 
 argument_at-key : (text : List ℕ) (found : Leading ArgumentText) → argument_at text ≡ Some found → is_key found.value.key ≡ true
 argument_at-key text found is = at (length key.value == 0) refl is where
@@ -41,8 +28,7 @@ argument_at-key text found is = at (length key.value == 0) refl is where
   key = bytes_while is_key_byte text
 
   at : (c : Bool) → (length key.value == 0) ≡ c → cond c None (as_token (after_key key.value key.rest)) ≡ Some found → is_key found.value.key ≡ true
-  at true none e = cc
-  at false some e = ap is_key (after_key-key key.value key.rest found e) ∙ ap (λ c. not c && list_all is_key_byte key.value) some ∙ leading-all is_key_byte text
+  at c is e = grind (arith, after_key-key key.value key.rest found, leading-all is_key_byte text)
 
 -- the arguments of a text
 before_others-keys : (others : List ℕ → Option (List ArgumentText)) (begun : List ℕ) (found : Option (Leading ArgumentText)) (arguments : List ArgumentText) → ((text : List ℕ) (rest : List ArgumentText) → others text ≡ Some rest → has_keys rest ≡ true) →

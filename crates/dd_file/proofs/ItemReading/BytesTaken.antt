@@ -1,22 +1,21 @@
 -- What holds of whatever comes next: lines and items are grammars.
-use Rattle.std.proofs.Common.{◌≡◌, ℕ, zero, suc, ◌+◌, ◌-◌, ◌<◌, ◌≤◌, Bool, true, false, cond, List, [], ◌∷◌, length, take, drop, map, refl, sym, ◌∙◌, ap, subst, arith, rules}
-use Rattle.std.specs.Prelude.{filter, Result, Ok, Err}
+use Rattle.std.proofs.Common.{◌≡◌, ℕ, zero, suc, ◌+◌, ◌-◌, ◌<◌, ◌≤◌, Bool, true, false, List, [], ◌∷◌, length, take, drop, map, refl, sym, ◌∙◌, ap, subst, arith, rules}
+use Rattle.std.specs.Prelude.{Result, Ok, Err}
 use Rattle.std.specs.List.{concat}
 use Rattle.std.proofs.lemmas.List.{length-append, length-drop}
-use Rattle.ascii_text.specs.Lines.{first_len, full_lines, line_of, ends_in_newline}
+use Rattle.ascii_text.specs.Lines.{first_len, full_lines, line_of}
 use Rattle.dd_file.specs.Script.{FirstItem, NoItem, Ended, Open, result_of, first_of}
 use Rattle.dd_file.specs.Position.{Position, longest_input}
 use Rattle.dd_file.specs.Grammar.{next_line, next_item, from_full_lines, from_first_item, with_count, at_end, is_too_long, full_lines_within}
 use Rattle.dd_file.specs.InOrder.{TakesBytes}
 use Rattle.dd_file.specs.Answer.{IsLineFault, IsItemFault}
-use Rattle.dd_file.specs.Buffered.{IsInterruption}
 use Rattle.dd_file.specs.declared.item.Item.{Item}
 use Rattle.dd_file.specs.declared.fault.SyntaxFault.{SyntaxFault}
 use Rattle.dd_file.specs.declared.fault.SyntaxFault.TheVariants.{BadDirective, AfterDouble, UnclosedDouble}
 use Rattle.dd_file.specs.declared.fault.FileFault.{FileFault}
-use Rattle.dd_file.specs.declared.fault.FileFault.TheVariants.{Read, NoMemory, Syntax, InputTooLong}
+use Rattle.dd_file.specs.declared.fault.FileFault.TheVariants.{InputTooLong}
 use Rattle.ascii_text.proofs.Offered.{full_lines-first, first_len-some, length-first}
-use Rattle.dd_file.proofs.LineReading.BufferFilled.{IsSound, IsGrammar}
+use Rattle.dd_file.proofs.LineReading.BufferFilled.{IsSound, IsGrammar, interruption}
 use Rattle.dd_file.proofs.ScriptGrammar.MoreLines.{fewest, first_of-left, first_of-fewest, first_of-none}
 
 -- this many full lines, at least one, have a byte
@@ -33,9 +32,7 @@ drop-shorter consumed bytes some has = simp length-drop (omega (arith, some, has
 
 -- no bytes have no full lines, and others have one within the limit
 none-within : (limit : ℕ) (position : Position) → full_lines_within limit position [] ≡ []
-none-within limit position = at (is_too_long limit position []) (limit - position.bytes) where
-  at : (c : Bool) (k : ℕ) → cond c (filter ends_in_newline (full_lines (take k []))) [] ≡ []
-  at c k = grind arith
+none-within limit position = grind arith
 
 some-within : {P : Type 0} (limit : ℕ) (position : Position) (b : ℕ) (bytes : List ℕ) → is_too_long limit position (b ∷ bytes) ≡ false → full_lines_within limit position (b ∷ bytes) ≡ [] → P
 some-within limit position b bytes short none = let bad = sym (full_lines-first (b ∷ bytes) (omega arith)) ∙ rw short at none in cc
@@ -84,23 +81,11 @@ next_item-sound limit position (b ∷ bytes) = at (is_too_long limit position (b
 within : (limit : ℕ) (position : Position) → position.bytes ≤ limit → is_too_long limit position [] ≡ false
 within limit position le = search (rules, arith)
 
-line-fault : (position : Position) (fault : FileFault) → IsInterruption fault → IsLineFault position fault
-line-fault position Read i = tt
-line-fault position NoMemory i = tt
-line-fault position (InputTooLong line) i = absurd i
-line-fault position (Syntax line fault) i = absurd i
-
-item-fault : (position : Position) (fault : FileFault) → IsInterruption fault → IsItemFault position fault
-item-fault position Read i = tt
-item-fault position NoMemory i = tt
-item-fault position (InputTooLong line) i = absurd i
-item-fault position (Syntax line fault) i = absurd i
-
 pub next_line-grammar : IsGrammar (next_line longest_input) IsLineFault
-next_line-grammar = record { sound = next_line-sound longest_input; over = λ position fits. rw (within longest_input position fits) refl; interrupted = line-fault }
+next_line-grammar = record { sound = next_line-sound longest_input; over = λ position fits. rw (within longest_input position fits) refl; interrupted = λ position. interruption (IsLineFault position) tt tt }
 
 pub next_item-grammar : IsGrammar (next_item longest_input) IsItemFault
-next_item-grammar = record { sound = next_item-sound longest_input; over = λ position fits. rw (within longest_input position fits) refl; interrupted = item-fault }
+next_item-grammar = record { sound = next_item-sound longest_input; over = λ position fits. rw (within longest_input position fits) refl; interrupted = λ position. interruption (IsItemFault position) tt tt }
 
 pub next_line-takes : (limit : ℕ) → TakesBytes (next_line limit)
 next_line-takes limit position suffix bytes left line e = (subst (IsSound IsLineFault position bytes) e (next_line-sound limit position bytes)).0

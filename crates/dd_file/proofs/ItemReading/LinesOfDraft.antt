@@ -11,13 +11,11 @@ use Rattle.dd_file.specs.declared.scan.Scan.{Scan}
 use Rattle.dd_file.proofs.LineReading.FirstFullLine.{whole-text}
 use Rattle.dd_file.proofs.LineReading.NoNewline.{full_lines-one, none-nothing, none-cut, none-more, none-in, first_len-none}
 use Rattle.dd_file.proofs.ScriptGrammar.AllItems.{full_lines-length}
-use Rattle.dd_file.proofs.TextLines.TextAfter.{full_lines-append}
+use Rattle.dd_file.proofs.TextLines.TextAfter.{full_lines-append, whole-after}
 
 whole-append : (xs ys : List ℕ) → ends_in_newline ys ≡ true → is_whole_text (xs ++ ys) ≡ true
-whole-append [] ys h = whole-text ys h
-whole-append (b ∷ []) [] h = cc
-whole-append (b ∷ []) (y ∷ ys) h = whole-text (y ∷ ys) h
-whole-append (b ∷ c ∷ xs) ys h = whole-append (c ∷ xs) ys h
+whole-append xs [] h = cc
+whole-append xs (y ∷ ys) h = whole-after xs y ys ∙ whole-text (y ∷ ys) h
 
 module _ (draft : DraftText) (scan : Scan) (bytes : List ℕ) (d : DraftOf draft scan bytes) where
   -- the lines and the bytes that were searched are there

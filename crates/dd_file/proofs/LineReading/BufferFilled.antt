@@ -12,7 +12,7 @@ use Rattle.dd_file.specs.ReaderState.{ReaderState}
 use Rattle.dd_file.specs.Answer.{Agrees, ReadsOn, IsInterrupted, next_in_answer, is_read_fault, fault_of}
 use Rattle.dd_file.specs.Buffered.{FilledBy, IsInterruption, passed, ended}
 use Rattle.dd_file.specs.declared.fault.FileFault.{FileFault}
-use Rattle.dd_file.specs.declared.fault.FileFault.TheVariants.{Read, NoMemory, Syntax, InputTooLong}
+use Rattle.dd_file.specs.declared.fault.FileFault.TheVariants.{Read, NoMemory, InputTooLong}
 use Rattle.dd_file.proofs.ScriptGrammar.CallAfterCall.{consumes-append}
 
 -- nothing comes next only at the end of the bytes; an item or line has a byte and a line; an error is one of the input
@@ -34,6 +34,12 @@ pub record Filled {R : Type 0} (remaining : R → Option (List ℕ)) (has_failed
   pub same : now ≡ record old { buffered = now.buffered }
   pub buffered : now.buffered ≡ old.buffered ++ bytes_read
   pub sound : has_failed after ≡ has_failed before
+
+-- an interruption is a failed read or a lack of memory
+pub interruption : (P : FileFault → Type 0) → P Read → P NoMemory → (fault : FileFault) → IsInterruption fault → P fault
+interruption P read memory Read i = read
+interruption P read memory NoMemory i = memory
+interruption P read memory fault i = absurd i
 
 keeps : (bytes : Option (List ℕ)) → Consumes bytes bytes []
 keeps bytes = grind arith
@@ -171,7 +177,7 @@ module _ {R : Type 0} {remaining : R → Option (List ℕ)} {has_failed : R → 
           new ≡ record now { buffered = new.buffered } → has_failed after ≡ (has_failed between || is_read_fault {X = Bool} (Err fault)) → IsInterruption fault →
           ReadsOn remaining has_failed next IsFault old (record new { fault = Some fault }) before after (Err fault)
       interrupted between after new fault filled lost same sound interrupts = record {
-        answers = λ _ input more agrees. inl (at fault interrupts);
+        answers = λ _ input more agrees. inl (interruption (λ f. IsInterrupted {X = Option A} (Err f)) (inl refl) (inr refl) fault interrupts);
         moves = record {
           consumed = (filled.bytes_read ++ lost.0, consumes-append (remaining before) (remaining between) (remaining after) filled.bytes_read lost.0 filled.consumed lost.1);
           met = λ e. let open_end = ap (λ (s : ReaderState). s.is_ended) (same ∙ ap (λ (s : ReaderState). record s { buffered = new.buffered }) filled.same) in cc;
@@ -190,12 +196,6 @@ module _ {R : Type 0} {remaining : R → Option (List ℕ)} {has_failed : R → 
       } where
         same-read : (fault : FileFault) → is_read_fault {X = Bool} (Err fault) ≡ is_read_fault {X = Option A} (Err fault)
         same-read fault = grind arith
-
-        at : (fault : FileFault) → IsInterruption fault → IsInterrupted {X = Option A} (Err fault)
-        at Read i = inl refl
-        at NoMemory i = inr refl
-        at (InputTooLong line) i = absurd i
-        at (Syntax line f) i = absurd i
 
       -- no memory is left, with no read after those that filled the buffer
       pub no-memory : (after : R) (new : ReaderState) → Filled remaining has_failed old now before after → new ≡ record now { buffered = new.buffered } →

@@ -1,7 +1,7 @@
 -- Bytes that were searched for a newline and have none.
-use Rattle.std.proofs.Common.{◌≡◌, ℕ, zero, suc, ◌+◌, ◌≤◌, ◌<◌, Bool, true, false, cond, List, [], ◌∷◌, ◌++◌, length, take, drop, refl, sym, ◌∙◌, ap, subst, add-zero, arith}
+use Rattle.std.proofs.Common.{◌≡◌, ℕ, zero, suc, ◌+◌, ◌≤◌, ◌<◌, Bool, true, false, List, [], ◌∷◌, ◌++◌, length, take, drop, refl, sym, ◌∙◌, ap, subst, add-zero, arith}
 use Rattle.std.proofs.lemmas.Bool.{or_parts}
-use Rattle.std.specs.Prelude.{◌==◌, ◌||◌, filter}
+use Rattle.std.specs.Prelude.{◌==◌, filter}
 use Rattle.std.specs.List.{list_any}
 use Rattle.std.proofs.lemmas.List.{append_assoc, append-nil, take-append-drop, take_all, take-take, take-append-le, length-append, length-take}
 use Rattle.std.proofs.lemmas.List.Elements.{filter-append}
@@ -23,22 +23,14 @@ first_len-beyond zero bytes clear = omega arith
 first_len-beyond (suc count) [] clear = let h = clear.within in absurd (omega (arith, h))
 first_len-beyond (suc count) (b ∷ bytes) clear =
     let parts = or_parts (b == 10) (has_newline (take count bytes)) clear.none in
-    let within = clear.within in
-    let rest = first_len-beyond count bytes (record { within = omega (arith, within); none = parts.1 }) in
+    let rest = first_len-beyond count bytes (record { within = omega (arith, clear.within); none = parts.1 }) in
     rw (parts.0) (omega (arith, rest))
 
 -- a first full line that is not whole
-unfinished-step : (c : Bool) (b : ℕ) (bytes : List ℕ) → (b == 10) ≡ c → (ends_in_newline (take (first_len bytes) bytes) ≡ false → has_newline bytes ≡ false) →
-    ends_in_newline (take (cond c 1 (suc (first_len bytes))) (b ∷ bytes)) ≡ false → (c || has_newline bytes) ≡ false
-unfinished-step true b bytes e ih h = let bad : true ≡ false = sym e ∙ h in cc
-unfinished-step false b [] e ih h = refl
-unfinished-step false b (x ∷ bytes) e ih h = ih (at (x == 10) h) where
-  at : (c : Bool) → ends_in_newline (b ∷ take (cond c 1 (suc (first_len bytes))) (x ∷ bytes)) ≡ false → ends_in_newline (take (cond c 1 (suc (first_len bytes))) (x ∷ bytes)) ≡ false
-  at c h = grind arith
-
 unfinished-none : (bytes : List ℕ) → ends_in_newline (take (first_len bytes) bytes) ≡ false → has_newline bytes ≡ false
 unfinished-none [] h = refl
-unfinished-none (b ∷ bytes) h = unfinished-step (b == 10) b bytes refl (unfinished-none bytes) h
+unfinished-none (b ∷ []) h = grind arith
+unfinished-none (b ∷ x ∷ bytes) h = grind (arith, unfinished-none (x ∷ bytes))
 
 pub none-all : (bytes : List ℕ) → has_newline bytes ≡ false → HasNoNewline (length bytes) bytes
 none-all bytes none = record { within = omega arith; none = ap has_newline (take-length bytes) ∙ none }
@@ -46,7 +38,7 @@ none-all bytes none = record { within = omega arith; none = ap has_newline (take
 -- bytes without a newline are one full line, which is not whole
 pub first_len-none : (bytes : List ℕ) → has_newline bytes ≡ false → first_len bytes ≡ length bytes
 first_len-none [] none = refl
-first_len-none (b ∷ bytes) none = let parts = or_parts (b == 10) (has_newline bytes) none in rw (parts.0) (ap suc (first_len-none bytes parts.1))
+first_len-none (b ∷ bytes) none = grind (arith, first_len-none bytes)
 
 pub none-ends : (bytes : List ℕ) → has_newline bytes ≡ false → ends_in_newline bytes ≡ false
 none-ends [] none = refl

@@ -1,5 +1,5 @@
 -- An item that is written is read again as that item.
-use Rattle.std.proofs.Common.{◌≡◌, ℕ, Bool, true, false, not, ◌&&◌, ◌||◌, List, [], ◌∷◌, ◌++◌, map, refl, sym, ◌∙◌, ap, subst, arith}
+use Rattle.std.proofs.Common.{◌≡◌, ℕ, Bool, true, false, ◌&&◌, List, [], ◌∷◌, ◌++◌, map, refl, sym, ◌∙◌, ap, subst, arith}
 use Rattle.std.proofs.lemmas.Bool.{and_parts}
 use Rattle.std.specs.Prelude.{Some, Ok}
 use Rattle.std.specs.List.{list_all, list_any}
@@ -82,15 +82,12 @@ found_as false item more = Open (Ok item)
 
 -- no line of an output is four dashes, so the first is not, and there is no pair
 output_line-dashes : (line : List ℕ) → is_output_line line ≡ true → is_dashes line ≡ false
-output_line-dashes line h = at (is_dashes line) _ h where
-  at : (c r : Bool) → not (c || r) ≡ true → c ≡ false
-  at c r k = grind arith
+output_line-dashes line h = grind arith
 
 no-pair : (lines : List (List ℕ)) → list_all is_output_line lines ≡ true → has_pair (lines ++ dashes_line ∷ []) ≡ false
 no-pair [] h = refl
-no-pair (line ∷ []) h = rw (output_line-dashes line (and_parts (is_output_line line) true h).0) refl
-no-pair (line ∷ next ∷ lines) h =
-    let k = and_parts (is_output_line line) (list_all is_output_line (next ∷ lines)) h in rw (output_line-dashes line k.0) (no-pair (next ∷ lines) k.1)
+no-pair (line ∷ []) h = grind (arith, output_line-dashes line)
+no-pair (line ∷ next ∷ lines) h = grind (arith, output_line-dashes line, no-pair (next ∷ lines))
 
 -- an output after a separator, read again
 module _ (command : CommandText) (directive_lines input lines : List (List ℕ)) (output : list_all is_output_line lines ≡ true) where

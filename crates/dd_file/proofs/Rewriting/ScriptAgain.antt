@@ -2,14 +2,15 @@
 use Rattle.std.proofs.Common.{◌≡◌, ℕ, ◌+◌, ◌≤◌, Bool, true, false, not, cond, ◌&&◌, List, [], ◌∷◌, ◌++◌, inl, inr, length, map, refl, sym, ◌∙◌, ap, subst, arith, rules}
 use Rattle.std.proofs.lemmas.Bool.{and_parts}
 use Rattle.std.proofs.lemmas.Bool.Decides.{nat_tests}
-use Rattle.std.specs.Prelude.{◌==◌, nat_eq, Some, None, flat_map}
+use Rattle.std.specs.Prelude.{Ok, ◌==◌, nat_eq, Some, None, flat_map}
 use Rattle.std.specs.List.{list_all, list_any}
 use Rattle.std.proofs.lemmas.List.{append_assoc, append-nil}
 use Rattle.std.proofs.lemmas.List.Folds.{list_all-append}
-use Rattle.ascii_text.specs.Lines.{newline, line_of, lines_of, text_of}
+use Rattle.ascii_text.specs.Lines.{newline, lines_of, text_of}
 use Rattle.ascii_text.specs.WhiteSpace.{is_blank}
 use Rattle.dd_file.specs.DirectiveLine.{CommandText, command_of}
-use Rattle.dd_file.specs.Script.{first_of, joined, is_comment, is_separator, directive, at_line}
+use Rattle.dd_file.specs.Script.{Ended, Open, first_of, joined, is_comment, is_separator, directive, at_line}
+use Rattle.dd_file.specs.Buffered.{is_whole_text}
 use Rattle.dd_file.specs.Draft.{dashes_line}
 use Rattle.dd_file.specs.Position.{longest_input}
 use Rattle.dd_file.specs.Grammar.{Script, script_of, with_first}
@@ -19,9 +20,10 @@ use Rattle.dd_file.specs.declared.item.Item.{Item}
 use Rattle.dd_file.specs.declared.item.Item.TheVariants.{Comment, Blank}
 use Rattle.ascii_text.proofs.Offered.{list-by_last}
 use Rattle.dd_file.proofs.TextLines.LastNewlines.{double_end-pushed}
-use Rattle.dd_file.proofs.TextLines.CutAgain.{lines-lines, full_lines-text_of, text_of-append, text_of-end, output-lines}
+use Rattle.dd_file.proofs.TextLines.CutAgain.{text_of-append, text_of-end, text_of-whole, output-lines}
+use Rattle.dd_file.proofs.TextLines.TextAfter.{lines-append}
 use Rattle.dd_file.proofs.ScriptGrammar.LinesOfItem.{IsHead, ReadItem, ReadComment, ReadBlank, ReadBlankHead, ReadDirective, given-read}
-use Rattle.dd_file.proofs.ScriptGrammar.AllItems.{items_of, items_of-ended, items_of-open, script_of-lines}
+use Rattle.dd_file.proofs.ScriptGrammar.AllItems.{items_of, items_of-first, script_of-lines}
 use Rattle.dd_file.proofs.Rewriting.ItemAgain.{read-again, directive-again, directive-text, lines_of_written, lines_of_written-are, output_after}
 
 -- the entries are read again as the items of this script, which has no fault
@@ -54,11 +56,6 @@ entry-lines item found output (ReadDirective n command line rest input expected 
       lines_of_written-are true (has_blank_line found) raw found_is.0 are found_is.1.are_lines,
     )
 
--- the lines of such a text, and then those of what follows it
-lines-append : (text more : List ℕ) → HasLines text → lines_of (text ++ more) ≡ lines_of text ++ lines_of more
-lines-append text more has =
-    ap (λ t. lines_of (t ++ more)) has.1 ∙ lines-lines has.0 more has.2 ∙ sym (ap (λ t. lines_of t ++ lines_of more) has.1 ∙ ap (λ ps. map line_of ps ++ lines_of more) (full_lines-text_of has.0 has.2))
-
 -- an entry that is read again first, and others after it
 read-first : (before m : ℕ) (lines left : List (List ℕ)) (e : Entry) (entries : List Entry) (again : Item) → items_of before lines ≡ with_first (at_line (before + 1) again) (items_of m left) →
     IsSameItem (before + 1) e.output e.item (at_line (before + 1) again) → IsAgain entries (items_of m left) → IsAgain (e ∷ entries) (items_of before lines)
@@ -70,9 +67,10 @@ again-first : (before : ℕ) (e : Entry) (entries : List Entry) (more : List ℕ
 again-first before e entries more read output rest =
     let text = entry_text e.item e.output in
     let again = read-again (before + 1) (lines_of more) e.item e.output output read in
-    let lines = lines-append text more (entry-lines e.item e.output output read) in
+    let own = entry-lines e.item e.output output read in
+    let lines = lines-append text more (ap is_whole_text own.1 ∙ text_of-whole own.0) in
     read-first before _ (lines_of (text ++ more)) (lines_of more) e entries again.0
-    (items_of-ended before (lines_of (text ++ more)) (lines_of more) again.0 (ap first_of lines ∙ again.1)) again.2 (rest _)
+    (items_of-first before (lines_of (text ++ more)) (Ended (Ok again.0) (lines_of more)) again.0 (ap first_of lines ∙ again.1) refl) again.2 (rest _)
 
 no-entries : (k : ℕ) → IsAgain [] (items_of k [])
 no-entries k = (refl, AreOver)
@@ -152,7 +150,7 @@ directive-left before n command line rest input expected found output is parses 
     let again = λ (m : ℕ). directive-again false n (m + 1) command line rest input expected [] lines found is parses command_is none are found_is.1 in (
       text_of left,
       ap (λ t. without_double_end (before ++ t)) whole ∙ empty-dropped before line (lines_of_written false (rest ++ input) double lines),
-      λ m. read-first m m (lines_of (text_of left)) [] e [] (again m).0 (items_of-open m (lines_of (text_of left)) (again m).0 (ap first_of (sym (append-nil (lines_of (text_of left)))) ∙ (again m).1)) (again m).2 (no-entries m),
+      λ m. read-first m m (lines_of (text_of left)) [] e [] (again m).0 (items_of-first m (lines_of (text_of left)) (Open (Ok (again m).0)) (again m).0 (ap first_of (sym (append-nil (lines_of (text_of left)))) ∙ (again m).1) refl) (again m).2 (no-entries m),
     )
 
 last-left : (before : List ℕ) (lines : List (List ℕ)) (item : Item) (found : List ℕ) → before ≡ text_of lines → ReadItem item → is_output found ≡ true → ends_in_long_blank (item ∷ []) ≡ false →

@@ -1,6 +1,5 @@
 -- Each item of a script is given by the grammar for some lines.
-use Rattle.std.proofs.Common.{◌≡◌, ℕ, zero, suc, Bool, true, false, not, cond, ◌&&◌, ◌+◌, ◌-◌, List, [], ◌∷◌, length, take, map, refl, ◌∙◌, ap, arith}
-use Rattle.std.proofs.lemmas.Bool.{and_parts}
+use Rattle.std.proofs.Common.{◌≡◌, ℕ, zero, suc, Bool, true, false, not, cond, ◌+◌, ◌-◌, List, [], ◌∷◌, length, take, map, refl, ap, arith}
 use Rattle.std.specs.Prelude.{◌==◌, Some, Result, Ok, Err, filter}
 use Rattle.std.specs.List.{list_all}
 use Rattle.ascii_text.specs.Lines.{newline, full_lines, before_first_line, without_last, line_of, ends_in_newline}
@@ -14,17 +13,12 @@ use Rattle.dd_file.specs.declared.fault.SyntaxFault.{SyntaxFault}
 -- what all elements are, those of a part are
 pub all-filter : {X : Type 0} (test kept : X → Bool) (xs : List X) → list_all test xs ≡ true → list_all test (filter kept xs) ≡ true
 all-filter test kept [] h = refl
-all-filter test kept (x ∷ xs) h = let k = and_parts (test x) (list_all test xs) h in at (kept x) k.0 (all-filter test kept xs k.1) where
-  at : (c : Bool) → test x ≡ true → list_all test (filter kept xs) ≡ true → list_all test (cond c (x ∷ filter kept xs) (filter kept xs)) ≡ true
-  at true here ih = ap (λ b. b && list_all test (filter kept xs)) here ∙ ih
-  at false here ih = ih
+all-filter test kept (x ∷ xs) h = grind (arith, all-filter test kept xs)
 
 all-without_last : (test : ℕ → Bool) (b : ℕ) (xs : List ℕ) → list_all test xs ≡ true → list_all test (without_last b xs) ≡ true
 all-without_last test b [] h = refl
-all-without_last test b (x ∷ []) h = at (x == b) where
-  at : (c : Bool) → list_all test (cond c [] (x ∷ [])) ≡ true
-  at c = grind arith
-all-without_last test b (x ∷ y ∷ xs) h = let k = and_parts (test x) (list_all test (y ∷ xs)) h in ap (λ c. c && list_all test (without_last b (y ∷ xs))) k.0 ∙ all-without_last test b (y ∷ xs) k.1
+all-without_last test b (x ∷ []) h = grind arith
+all-without_last test b (x ∷ y ∷ xs) h = grind (arith, all-without_last test b (y ∷ xs))
 
 -- a full line has no newline but at its end
 abbrev is_full_line : List ℕ → Bool
@@ -33,21 +27,13 @@ is_full_line full_line = is_line (without_last 10 full_line)
 full_lines-are : (bytes : List ℕ) → list_all is_full_line (full_lines bytes) ≡ true
 full_lines-are [] = refl
 full_lines-are (b ∷ bytes) = at (b == 10) refl (full_lines bytes) (full_lines-are bytes) where
-  more : (b == 10) ≡ false → (full_line : List ℕ) → is_full_line full_line ≡ true → is_full_line (b ∷ full_line) ≡ true
-  more e [] h = rw (e, e) refl
-  more e (x ∷ full_line) h = rw e h
-
   at : (c : Bool) → (b == 10) ≡ c → (ps : List (List ℕ)) → list_all is_full_line ps ≡ true → list_all is_full_line (cond c (newline ∷ ps) (before_first_line b ps)) ≡ true
-  at true e ps h = h
-  at false e [] h = ap (λ c. c && true) (more e [] refl)
-  at false e (full_line ∷ ps) h = let k = and_parts (is_full_line full_line) (list_all is_full_line ps) h in ap (λ c. c && list_all is_full_line ps) (more e full_line k.0) ∙ k.1
+  at c e ps h = grind arith
 
 -- the lines of some full lines have no newline
 lines-are : (ps : List (List ℕ)) → list_all is_full_line ps ≡ true → list_all is_line (map line_of ps) ≡ true
 lines-are [] h = refl
-lines-are (full_line ∷ ps) h =
-    let k = and_parts (is_full_line full_line) (list_all is_full_line ps) h in
-    ap (λ c. c && list_all is_line (map line_of ps)) (all-without_last (λ b. not (b == 10)) 13 (without_last 10 full_line) k.0) ∙ lines-are ps k.1
+lines-are (full_line ∷ ps) h = grind (arith, all-without_last (λ b. not (b == 10)) 13 (without_last 10 full_line), lines-are ps)
 
 full_lines_within-are : (limit : ℕ) (position : Position) (bytes : List ℕ) → list_all is_line (map line_of (full_lines_within limit position bytes)) ≡ true
 full_lines_within-are limit position bytes = at (is_too_long limit position bytes) where

@@ -1,58 +1,18 @@
 -- The items of a complete script, two newlines and any text.
-use Rattle.std.proofs.Common.{◌≡◌, ℕ, ◌+◌, ◌-◌, ◌≤◌, Bool, true, false, not, cond, ◌&&◌, ◌||◌, List, [], ◌∷◌, ◌++◌, ◌⊎◌, inl, inr, length, map, refl, sym, ◌∙◌, ap, subst, length-append, arith, rules}
-use Rattle.std.proofs.lemmas.Bool.{and_parts, not-true}
-use Rattle.std.specs.Prelude.{◌==◌, Some, option_map, Ok}
-use Rattle.std.specs.List.{list_all, list_any}
-use Rattle.std.proofs.lemmas.List.{append_assoc, append-nil, map-append}
-use Rattle.std.proofs.lemmas.List.Folds.{list_all-append}
-use Rattle.ascii_text.specs.Lines.{newline, full_lines, line_of, lines_of, text_of, without_last}
+use Rattle.std.proofs.Common.{◌≡◌, ℕ, ◌+◌, ◌-◌, ◌≤◌, Bool, true, false, List, [], ◌∷◌, ◌++◌, ◌⊎◌, inl, inr, length, map, refl, sym, ◌∙◌, ap, subst, length-append, arith}
+use Rattle.std.specs.Prelude.{Some, option_map, Ok}
+use Rattle.std.proofs.lemmas.List.{append_assoc, append-nil}
+use Rattle.ascii_text.specs.Lines.{newline, lines_of}
 use Rattle.dd_file.specs.Script.{FirstItem, NoItem, Ended, Open, result_of, lines_left, first_of, at_line}
 use Rattle.dd_file.specs.Position.{longest_input}
 use Rattle.dd_file.specs.Grammar.{Script, script_of, with_first}
-use Rattle.dd_file.specs.Laws.{is_line, has_separator, IsComplete, Done, More, directive_in, directives_of, moved, moved_fault}
+use Rattle.dd_file.specs.Laws.{has_separator, IsComplete, Done, More, directive_in, directives_of, moved, moved_fault}
 use Rattle.dd_file.specs.declared.item.Item.{Item}
-use Rattle.dd_file.specs.declared.item.Item.TheVariants.{Comment, Blank, Directive}
-use Rattle.dd_file.proofs.TextLines.CarriageReturns.{without_return}
-use Rattle.dd_file.proofs.TextLines.CutAgain.{ended, lines-lines, text_of-append}
-use Rattle.ascii_text.proofs.Offered.{without_last-push}
-use Rattle.dd_file.proofs.LineReading.NoNewline.{full_lines-one, first_len-none}
+use Rattle.dd_file.specs.declared.item.Item.TheVariants.{Blank}
+use Rattle.dd_file.specs.Buffered.{is_whole_text}
+use Rattle.dd_file.proofs.TextLines.TextAfter.{lines-append, whole-after, lines-newline}
 use Rattle.dd_file.proofs.ScriptGrammar.MoreLines.{first_of-local, first_of-left, first_of-closes}
-use Rattle.dd_file.proofs.ScriptGrammar.AllItems.{no_items, items_of, items_of-ended, items_of-open, moved_item, items_of-moved, moved_script, script_of-lines}
-
--- any text is lines, each with its newline, and one more line, which may be empty
-record Cut (text : List ℕ) : Type 0 where
-  lines : List (List ℕ)
-  last : List ℕ
-  is : text ≡ text_of lines ++ last
-  are_lines : list_all is_line lines ≡ true
-  is_last : is_line last ≡ true
-
-cut-byte : (c : Bool) (b : ℕ) (text : List ℕ) → (b == 10) ≡ c → Cut text → Cut (b ∷ text)
-cut-byte true b text e cut = let newline_is : b ≡ 10 = search rules in
-    record { lines = [] ∷ cut.lines; last = cut.last; is = ap (λ x. x ∷ text) newline_is ∙ ap (λ t. 10 ∷ t) cut.is; are_lines = cut.are_lines; is_last = cut.is_last }
-cut-byte false b text e cut = at cut.lines cut.is cut.are_lines where
-  at : (lines : List (List ℕ)) → text ≡ text_of lines ++ cut.last → list_all is_line lines ≡ true → Cut (b ∷ text)
-  at [] is are = record { lines = []; last = b ∷ cut.last; is = ap (λ t. b ∷ t) is; are_lines = refl; is_last = ap (λ c. not c && is_line cut.last) e ∙ cut.is_last }
-  at (line ∷ lines) is are =
-      record { lines = (b ∷ line) ∷ lines; last = cut.last; is = ap (λ t. b ∷ t) is; are_lines = ap (λ c. (not c && is_line line) && list_all is_line lines) e ∙ are; is_last = cut.is_last }
-
-cut_of : (text : List ℕ) → Cut text
-cut_of [] = record { lines = []; last = []; is = refl; are_lines = refl; is_last = refl }
-cut_of (b ∷ text) = cut-byte (b == 10) b text refl (cut_of text)
-
--- a last line without its newline
-no-newline : (line : List ℕ) → is_line line ≡ true → list_any (λ b. b == 10) line ≡ false
-no-newline [] h = refl
-no-newline (b ∷ line) h = let k = and_parts (not (b == 10)) (is_line line) h in ap (λ c. c || list_any (λ b. b == 10) line) (not-true (b == 10) k.0) ∙ no-newline line k.1
-
-full_lines-last : (b : ℕ) (line : List ℕ) → is_line (b ∷ line) ≡ true → full_lines (b ∷ line) ≡ (b ∷ line) ∷ []
-full_lines-last b line h = full_lines-one (b ∷ line) (first_len-none (b ∷ line) (no-newline (b ∷ line) h)) (omega arith)
-
-line_of-last : (b : ℕ) (line : List ℕ) → is_line (b ∷ line) ≡ true → line_of (b ∷ line) ≡ line_of ((b ∷ line) ++ newline)
-line_of-last b line h = ap without_return (none b line h ∙ sym (without_last-push 10 10 (b ∷ line))) where
-  none : (b : ℕ) (line : List ℕ) → is_line (b ∷ line) ≡ true → without_last 10 (b ∷ line) ≡ b ∷ line
-  none b [] k = ap (λ c. cond c [] (b ∷ [])) (not-true (b == 10) (and_parts (not (b == 10)) true k).0)
-  none b (x ∷ line) k = ap (λ t. b ∷ t) (none x line (and_parts (not (b == 10)) (is_line (x ∷ line)) k).1)
+use Rattle.dd_file.proofs.ScriptGrammar.AllItems.{no_items, items_of, items_of-first, moved_item, items_of-moved, moved_script, script_of-lines}
 
 -- the lines of a script and two newlines are its lines, an empty one, and perhaps another
 record IsFollowed (script : List ℕ) : Type 0 where
@@ -61,29 +21,15 @@ record IsFollowed (script : List ℕ) : Type 0 where
   lines : (text : List ℕ) → lines_of (((script ++ newline) ++ newline) ++ text) ≡ lines_of script ++ [] ∷ (more ++ lines_of text)
 
 followed_by : (script : List ℕ) → IsFollowed script
-followed_by script = at (cut_of script).last (cut_of script).is (cut_of script).is_last where
-  whole : (last : List ℕ) → script ≡ text_of (cut_of script).lines ++ last → is_line last ≡ true → (text : List ℕ) →
-      lines_of (((script ++ newline) ++ newline) ++ text) ≡ ended (cut_of script).lines ++ line_of (last ++ newline) ∷ [] ∷ lines_of text
-  whole last is h text =
-      let ls = (cut_of script).lines in
-      let all = ls ++ last ∷ [] ∷ [] in
-      let is_all : ((script ++ newline) ++ newline) ++ text ≡ text_of all ++ text =
-      ap (λ t. ((t ++ newline) ++ newline) ++ text) is ∙ ap (λ t. (t ++ newline) ++ text) (append_assoc (text_of ls) last newline)
-      ∙ ap (λ t. t ++ text) (append_assoc (text_of ls) (last ++ newline) newline) ∙ ap (λ t. t ++ text) (sym (text_of-append ls (last ∷ [] ∷ []))) in
-      let are : list_all is_line all ≡ true = list_all-append is_line ls (last ∷ [] ∷ []) ∙ ap (λ b. b && (is_line last && true)) (cut_of script).are_lines ∙ ap (λ b. b && true) h in
-      ap lines_of is_all ∙ lines-lines all text are ∙ ap (λ t. t ++ lines_of text) (ap (map line_of) (map-append (λ line. line ++ newline) ls (last ∷ [] ∷ [])) ∙ map-append line_of (map (λ line. line ++ newline) ls) _)
-      ∙ append_assoc (ended ls) (line_of (last ++ newline) ∷ [] ∷ []) (lines_of text)
-
-  at : (last : List ℕ) → script ≡ text_of (cut_of script).lines ++ last → is_line last ≡ true → IsFollowed script
-  at [] is h =
-      let ls = (cut_of script).lines in
-      let own : lines_of script ≡ ended ls = ap lines_of is ∙ lines-lines ls [] (cut_of script).are_lines ∙ append-nil (ended ls) in
-      record { more = [] ∷ []; is_more = inr refl; lines = λ text. whole [] is h text ∙ ap (λ t. t ++ [] ∷ [] ∷ lines_of text) (sym own) }
-  at (b ∷ last) is h =
-      let ls = (cut_of script).lines in
-      let own : lines_of script ≡ ended ls ++ line_of ((b ∷ last) ++ newline) ∷ [] =
-      ap lines_of is ∙ lines-lines ls (b ∷ last) (cut_of script).are_lines ∙ ap (λ ps. ended ls ++ map line_of ps) (full_lines-last b last h) ∙ ap (λ l. ended ls ++ l ∷ []) (line_of-last b last h) in
-      record { more = []; is_more = inl refl; lines = λ text. whole (b ∷ last) is h text ∙ sym (ap (λ t. t ++ [] ∷ lines_of text) own ∙ append_assoc (ended ls) (line_of ((b ∷ last) ++ newline) ∷ []) ([] ∷ lines_of text)) }
+followed_by script = at (is_whole_text script) refl where
+  at : (c : Bool) → is_whole_text script ≡ c → IsFollowed script
+  at true whole =
+      record { more = [] ∷ []; is_more = inr refl; lines = λ text. ap lines_of (append_assoc (script ++ newline) newline text ∙ append_assoc script newline (newline ++ text)) ∙ lines-append script (newline ++ (newline ++ text)) whole }
+  at false open_end = record {
+    more = [];
+    is_more = inl refl;
+    lines = λ text. ap lines_of (append_assoc (script ++ newline) newline text) ∙ lines-append (script ++ newline) (newline ++ text) (whole-after script 10 []) ∙ ap (λ ls. ls ++ [] ∷ lines_of text) (lines-newline script open_end);
+  }
 
 -- the directives of one script and then of another, and the fault of the other
 record AreJoined (joined before suffix : Script Item) : Type 0 where
@@ -94,7 +40,7 @@ record AreJoined (joined before suffix : Script Item) : Type 0 where
 items_of-blank : (before : ℕ) (lines : List (List ℕ)) → AreJoined (items_of before ([] ∷ lines)) no_items (items_of (before + 1) lines)
 items_of-blank before lines =
     let count : length ([] ∷ lines) - length lines ≡ 1 = omega arith in
-    let first = items_of-ended before ([] ∷ lines) lines (Blank ([] ∷ [])) refl ∙ ap (λ (k : ℕ). with_first (Blank ([] ∷ [])) (items_of (before + k) lines)) count in
+    let first = items_of-first before ([] ∷ lines) (Ended (Ok (Blank ([] ∷ []))) lines) (Blank ([] ∷ [])) refl refl ∙ ap (λ (k : ℕ). with_first (Blank ([] ∷ [])) (items_of (before + k) lines)) count in
     record { directives = ap (λ (s : Script Item). directives_of s.items) first; fault = ap (λ (s : Script Item). s.fault) first }
 
 -- one item more before the others
@@ -127,25 +73,23 @@ items_of-joined before lines more (More ls item first separated rest) = at (firs
       let count : length (ls ++ [] ∷ more) - length (left ++ [] ∷ more) ≡ length ls - length left = omega (arith, longer, after, all, len) in
       let sum : m + length left + 1 ≡ before + length ls + 1 = omega (arith, all, len) in
       let whole : items_of before (ls ++ [] ∷ more) ≡ with_first (at_line (before + 1) item) (items_of m (left ++ [] ∷ more)) =
-      items_of-ended before (ls ++ [] ∷ more) (left ++ [] ∷ more) item (first_of-local ls left ([] ∷ more) (Ok item) ended)
+      items_of-first before (ls ++ [] ∷ more) (Ended (Ok item) (left ++ [] ∷ more)) item (first_of-local ls left ([] ∷ more) (Ok item) ended) refl
       ∙ ap (λ (k : ℕ). with_first (at_line (before + 1) item) (items_of (before + k) (left ++ [] ∷ more))) count in
       subst (λ (k : ℕ). AreJoined (items_of before (ls ++ [] ∷ more)) (items_of before ls) (items_of k more)) sum
-      (joined-first _ _ _ _ _ (at_line (before + 1) item) whole (items_of-ended before ls left item ended) (ih m))
+      (joined-first _ _ _ _ _ (at_line (before + 1) item) whole (items_of-first before ls (Ended (Ok item) left) item ended refl) (ih m))
   at (Open r) e is sep ih =
       let same : r ≡ Ok item = cc in
       let open_end = e ∙ ap Open same in
       let longer = length-append ls ([] ∷ more) in
       let sum : before + (length (ls ++ [] ∷ more) - length more) ≡ before + length ls + 1 = omega (arith, longer) in
       let whole : items_of before (ls ++ [] ∷ more) ≡ with_first (at_line (before + 1) item) (items_of (before + length ls + 1) more) =
-      items_of-ended before (ls ++ [] ∷ more) more item (first_of-closes ls more item open_end sep) ∙ ap (λ (k : ℕ). with_first (at_line (before + 1) item) (items_of k more)) sum in
-      joined-first (items_of (before + length ls + 1) more) no_items _ _ _ (at_line (before + 1) item) whole (items_of-open before ls item open_end) (record { directives = refl; fault = refl })
+      items_of-first before (ls ++ [] ∷ more) (Ended (Ok item) more) item (first_of-closes ls more item open_end sep) refl ∙ ap (λ (k : ℕ). with_first (at_line (before + 1) item) (items_of k more)) sum in
+      joined-first (items_of (before + length ls + 1) more) no_items _ _ _ (at_line (before + 1) item) whole (items_of-first before ls (Open (Ok item)) item open_end refl) (record { directives = refl; fault = refl })
 
 -- the directives of the same items further down
 directives_of-moved : (k : ℕ) (items : List Item) → directives_of (map (moved_item k) items) ≡ map (moved k) (directives_of items)
 directives_of-moved k [] = refl
-directives_of-moved k (Comment lines ∷ items) = directives_of-moved k items
-directives_of-moved k (Blank lines ∷ items) = directives_of-moved k items
-directives_of-moved k (Directive directive ∷ items) = ap (λ ds. moved k directive ∷ ds) (directives_of-moved k items)
+directives_of-moved k (item ∷ items) = grind (arith, directives_of-moved k items)
 
 -- the second empty line, where there is one
 second-line : (n : ℕ) (more lines : List (List ℕ)) → (more ≡ []) ⊎ (more ≡ [] ∷ []) → AreJoined (items_of n (more ++ lines)) no_items (items_of (n + length more) lines)

@@ -1,7 +1,7 @@
 -- What an item that lines begin with was read from.
 use Rattle.std.proofs.Common.{◌≡◌, ℕ, Bool, true, false, cond, ◌&&◌, List, [], ◌∷◌, ◌++◌, refl, sym, ◌∙◌, ap, subst, arith}
 use Rattle.std.proofs.lemmas.Bool.{and_parts}
-use Rattle.std.specs.Prelude.{Option, Some, None, Ok, Err}
+use Rattle.std.specs.Prelude.{Option, Some, None, Ok}
 use Rattle.std.specs.List.{list_all, list_any}
 use Rattle.std.proofs.lemmas.List.{append_assoc}
 use Rattle.std.proofs.lemmas.List.Folds.{list_all-append}
@@ -12,7 +12,6 @@ use Rattle.dd_file.specs.Script.{Ended, result_of, first_of, is_comment, is_last
 use Rattle.dd_file.specs.Laws.{is_line, IsWellFormed}
 use Rattle.dd_file.specs.declared.item.Item.{Item}
 use Rattle.dd_file.specs.declared.item.Item.TheVariants.{Comment, Blank}
-use Rattle.dd_file.specs.declared.fault.SyntaxFault.TheVariants.{AfterDouble}
 use Rattle.dd_file.proofs.ScriptGrammar.Cuts.{IsCut, IsWhole, IsParted, cut-is, cut-parted}
 
 -- directive lines, which begin with this line: all but the last are continued
@@ -54,9 +53,7 @@ all-parts xs ys h = and_parts (list_all is_line xs) _ (sym (list_all-append is_l
 module _ (item : Item) where
   after_pair-item : (found : Item) (lines : List (List ℕ)) → result_of (after_pair found lines) ≡ Some (Ok item) → found ≡ item
   after_pair-item found [] is = cc
-  after_pair-item found (line ∷ lines) is = at (is_blank line) is where
-    at : (c : Bool) → result_of (cond c (Ended (Ok found) lines) (Ended (Err AfterDouble) lines)) ≡ Some (Ok item) → found ≡ item
-    at c k = grind arith
+  after_pair-item found (line ∷ lines) is = grind arith
 
   module _ (command : CommandText) (directive_lines : List (List ℕ)) where
     -- the directive with these parts is the item

@@ -1,5 +1,5 @@
 -- A line without a carriage return at its end is the same line but for white space at its end.
-use Rattle.std.proofs.Common.{◌≡◌, ℕ, Bool, ◌||◌, List, [], ◌∷◌, ◌++◌, map, refl, ◌∙◌, ap}
+use Rattle.std.proofs.Common.{◌≡◌, ℕ, Bool, ◌||◌, List, [], ◌∷◌, map, refl, ◌∙◌, ap, arith}
 use Rattle.std.specs.List.{list_any}
 use Rattle.ascii_text.specs.WhiteSpace.{without_leading_space, without_trailing_space, trimmed}
 use Rattle.ascii_text.specs.Lines.{without_last}
@@ -19,8 +19,7 @@ trimmed-without_return line = ap without_leading_space (without_trailing_space-w
 -- lines one by one
 pub ends-without_returns : (lines : List (List ℕ)) → map without_trailing_space (without_returns lines) ≡ map without_trailing_space lines
 ends-without_returns [] = refl
-ends-without_returns (line ∷ lines) =
-    ap (λ t. t ∷ map without_trailing_space (without_returns lines)) (without_trailing_space-without_last 13 line refl) ∙ ap (λ ts. without_trailing_space line ∷ ts) (ends-without_returns lines)
+ends-without_returns (line ∷ lines) = grind (arith, without_trailing_space-without_last 13 line refl, ends-without_returns lines)
 
 pub any-without_returns : (test : List ℕ → Bool) → ((line : List ℕ) → test (without_return line) ≡ test line) → (lines : List (List ℕ)) → list_any test (without_returns lines) ≡ list_any test lines
 any-without_returns test same [] = refl
@@ -35,6 +34,4 @@ is_last_line-without_return line = rw (trimmed-without_return line) refl
 pub joined-without_returns : (lines : List (List ℕ)) → joined (without_returns lines) ≡ joined lines
 joined-without_returns [] = refl
 joined-without_returns (line ∷ []) = trimmed-without_return line
-joined-without_returns (line ∷ next ∷ lines) =
-    ap (λ t. (without_last 92 t ++ 32 ∷ []) ++ joined (without_returns (next ∷ lines))) (trimmed-without_return line)
-    ∙ ap (λ t. (without_last 92 (trimmed line) ++ 32 ∷ []) ++ t) (joined-without_returns (next ∷ lines))
+joined-without_returns (line ∷ next ∷ lines) = grind (arith, trimmed-without_return line, joined-without_returns (next ∷ lines))

@@ -5,40 +5,28 @@ use Rattle.std.proofs.lemmas.Bool.Decides.{nat_tests}
 use Rattle.std.proofs.lemmas.List.Concat.{flat_map-append}
 use Rattle.std.specs.Prelude.{◌==◌, nat_eq}
 use Rattle.std.specs.List.{list_all, list_any, ends_with}
-use Rattle.std.proofs.lemmas.List.{append_assoc, append-nil, length-append, map-append}
-use Rattle.ascii_text.specs.Lines.{newline, full_lines, before_first_line, line_of, lines_of, text_of, without_last}
+use Rattle.std.proofs.lemmas.List.{append_assoc, append-nil, length-append}
+use Rattle.ascii_text.specs.Lines.{newline, full_lines, line_of, lines_of, text_of, without_last}
 use Rattle.ascii_text.specs.WhiteSpace.{is_blank}
 use Rattle.dd_file.specs.Script.{is_dashes}
 use Rattle.dd_file.specs.Laws.{is_line}
 use Rattle.dd_file.specs.Rewritten.{is_output, is_output_line, has_blank_line}
+use Rattle.dd_file.specs.Buffered.{is_whole_text}
 use Rattle.dd_file.proofs.TextLines.CarriageReturns.{without_return, without_returns}
+use Rattle.dd_file.proofs.TextLines.TextAfter.{whole-after}
 use Rattle.ascii_text.proofs.Offered.{list-by_last, without_last-push}
 use Rattle.dd_file.proofs.TextLines.LastNewlines.{ends_with-append}
 
 -- a line with its newline is a full line
 pub full_lines-line : (line rest : List ℕ) → is_line line ≡ true → full_lines ((line ++ newline) ++ rest) ≡ (line ++ newline) ∷ full_lines rest
 full_lines-line [] rest h = refl
-full_lines-line (b ∷ line) rest h = at (b == 10) (full_lines-line line rest) h where
-  at : (c : Bool) → (is_line line ≡ true → full_lines ((line ++ newline) ++ rest) ≡ (line ++ newline) ∷ full_lines rest) → (not c && is_line line) ≡ true →
-      cond c (newline ∷ full_lines ((line ++ newline) ++ rest)) (before_first_line b (full_lines ((line ++ newline) ++ rest))) ≡ (b ∷ line ++ newline) ∷ full_lines rest
-  at true ih k = cc
-  at false ih k = ap (before_first_line b) (ih k)
+full_lines-line (b ∷ line) rest h = grind (arith, full_lines-line line rest)
 
--- lines that are written, and what follows them
-full_lines-lines : (lines : List (List ℕ)) (rest : List ℕ) → list_all is_line lines ≡ true → full_lines (text_of lines ++ rest) ≡ map (λ line. line ++ newline) lines ++ full_lines rest
-full_lines-lines [] rest h = refl
-full_lines-lines (line ∷ lines) rest h = let k = and_parts (is_line line) (list_all is_line lines) h in
-    ap full_lines (append_assoc (line ++ newline) (text_of lines) rest) ∙ full_lines-line line (text_of lines ++ rest) k.0 ∙ ap (λ ps. (line ++ newline) ∷ ps) (full_lines-lines lines rest k.1)
-
--- the lines of those full lines
-abbrev pub ended : List (List ℕ) → List (List ℕ)
-ended lines = map line_of (map (λ line. line ++ newline) lines)
-
-pub lines-lines : (lines : List (List ℕ)) (rest : List ℕ) → list_all is_line lines ≡ true → lines_of (text_of lines ++ rest) ≡ ended lines ++ lines_of rest
-lines-lines lines rest h = ap (map line_of) (full_lines-lines lines rest h) ∙ map-append line_of (map (λ line. line ++ newline) lines) (full_lines rest)
-
-pub full_lines-text_of : (lines : List (List ℕ)) → list_all is_line lines ≡ true → full_lines (text_of lines) ≡ map (λ line. line ++ newline) lines
-full_lines-text_of lines h = ap full_lines (sym (append-nil (text_of lines))) ∙ full_lines-lines lines [] h ∙ append-nil (map (λ line. line ++ newline) lines)
+-- lines that are written
+full_lines-text_of : (lines : List (List ℕ)) → list_all is_line lines ≡ true → full_lines (text_of lines) ≡ map (λ line. line ++ newline) lines
+full_lines-text_of [] h = refl
+full_lines-text_of (line ∷ lines) h = let k = and_parts (is_line line) (list_all is_line lines) h in
+    full_lines-line line (text_of lines) k.0 ∙ ap (λ ps. (line ++ newline) ∷ ps) (full_lines-text_of lines k.1)
 
 without_last-newline : (line : List ℕ) → without_last 10 (line ++ newline) ≡ line
 without_last-newline line = without_last-push 10 10 line
@@ -58,17 +46,20 @@ pub text_of-end : (line : List ℕ) (lines : List (List ℕ)) → (part : List �
 text_of-end line [] = (line, append-nil (line ++ newline))
 text_of-end line (next ∷ lines) = let more = text_of-end next lines in ((line ++ newline) ++ more.0, ap (λ t. (line ++ newline) ++ t) more.1 ∙ sym (append_assoc (line ++ newline) more.0 newline))
 
+pub text_of-whole : (lines : List (List ℕ)) → is_whole_text (text_of lines) ≡ true
+text_of-whole [] = refl
+text_of-whole (line ∷ lines) = let end = text_of-end line lines in ap is_whole_text end.1 ∙ whole-after end.0 10 []
+
 -- a text that ends in a newline is lines, each with its newline
 abbrev LinesOf : List ℕ → Type 0
 LinesOf text = (line : List ℕ) × (lines : List (List ℕ)) × (text ≡ text_of (line ∷ lines)) × (list_all is_line (line ∷ lines) ≡ true)
 
-lines-byte : (c : Bool) (b : ℕ) (text : List ℕ) → (b == 10) ≡ c → LinesOf text → LinesOf (b ∷ text)
-lines-byte true b text e is = let newline_is : b ≡ 10 = search rules in ([], is.0 ∷ is.1, ap (λ x. x ∷ text) newline_is ∙ ap (λ t. 10 ∷ t) is.2, is.3)
-lines-byte false b text e is = (b ∷ is.0, is.1, ap (λ t. b ∷ t) is.2, ap (λ c. (not c && is_line is.0) && list_all is_line is.1) e ∙ is.3)
-
 lines-text : (prefix : List ℕ) → LinesOf (prefix ++ newline)
 lines-text [] = ([], [], refl, refl)
-lines-text (b ∷ prefix) = lines-byte (b == 10) b (prefix ++ newline) refl (lines-text prefix)
+lines-text (b ∷ prefix) = at (b == 10) refl (lines-text prefix) where
+  at : (c : Bool) → (b == 10) ≡ c → LinesOf (prefix ++ newline) → LinesOf (b ∷ prefix ++ newline)
+  at true e is = let newline_is : b ≡ 10 = search rules in ([], is.0 ∷ is.1, ap (λ x. x ∷ prefix ++ newline) newline_is ∙ ap (λ t. 10 ∷ t) is.2, is.3)
+  at false e is = (b ∷ is.0, is.1, ap (λ t. b ∷ t) is.2, ap (λ c. (not c && is_line is.0) && list_all is_line is.1) e ∙ is.3)
 
 -- an output is lines
 pub record IsOutputOf (lines : List (List ℕ)) (found : List ℕ) : Type 0 where
@@ -114,8 +105,7 @@ output_line-return line h = elim (list-by_last line) [
       ap without_return p.2 ∙ without_last-push 13 p.1 p.0 ∙ ap (λ c. cond c p.0 (p.0 ++ p.1 ∷ [])) (other p.1 (is_dashes line) k) ∙ sym p.2
 ] where
   other : (b : ℕ) (d : Bool) → not (d || (nat_eq 13 b && true)) ≡ true → (b == 13) ≡ false
-  other b true k = cc
-  other b false k = grind (arith, nat_tests)
+  other b d k = grind (arith, nat_tests)
 
 pub output-returns : (lines : List (List ℕ)) → list_all is_output_line lines ≡ true → without_returns lines ≡ lines
 output-returns [] h = refl

@@ -1,12 +1,11 @@
 -- Texts that differ only in carriage returns before newlines.
-use Rattle.std.proofs.Common.{◌≡◌, ℕ, Bool, true, false, cond, ◌&&◌, List, [], ◌∷◌, ◌++◌, map, refl, sym, ◌∙◌, ap, rules}
+use Rattle.std.proofs.Common.{◌≡◌, ℕ, Bool, true, false, cond, ◌&&◌, List, [], ◌∷◌, ◌++◌, map, refl, sym, ◌∙◌, ap, arith, rules}
 use Rattle.std.specs.Prelude.{◌==◌}
-use Rattle.std.proofs.lemmas.List.{append_assoc}
 use Rattle.ascii_text.specs.Lines.{newline, full_lines, before_first_line, line_of, lines_of, text_of, without_last}
 use Rattle.ascii_text.specs.WhiteSpace.{is_space, is_blank, without_leading_space, without_trailing_space, trimmed}
 use Rattle.dd_file.specs.Laws.{SameButEnds}
 use Rattle.dd_file.proofs.TextLines.CarriageReturns.{without_return, without_returns}
-use Rattle.ascii_text.proofs.Offered.{without_trailing_space-without_last, without_last-push}
+use Rattle.ascii_text.proofs.Offered.{is_blank-without_trailing_space, without_trailing_space-without_last}
 
 -- the second text has a carriage return more before some newlines
 pub data SameText : List ℕ → List ℕ → Type 0 where
@@ -42,39 +41,34 @@ without_trailing_space-same s t (Return s' t' same) = rw (is_blank-same s' t' sa
 trimmed-same : (s t : List ℕ) → SameText s t → SameText (trimmed s) (trimmed t)
 trimmed-same s t same = without_leading_space-same _ _ (without_trailing_space-same s t same)
 
--- what a full line ends as, after some bytes
-abbrev ended : List ℕ → List ℕ → List ℕ
-ended before full_line = without_trailing_space (without_last 10 (before ++ full_line))
+trimmed-twice : (bytes : List ℕ) → without_trailing_space (without_trailing_space bytes) ≡ without_trailing_space bytes
+trimmed-twice [] = refl
+trimmed-twice (b ∷ bytes) = grind (arith, is_blank-without_trailing_space bytes, trimmed-twice bytes)
 
--- full lines that are the same but for what ends them
-data SameFullLines : List (List ℕ) → List (List ℕ) → Type 0 where
-  NoLines : SameFullLines [] []
-  NextLine : (p q : List ℕ) (ps qs : List (List ℕ)) → ((before : List ℕ) → ended before p ≡ ended before q) → SameFullLines ps qs → SameFullLines (p ∷ ps) (q ∷ qs)
+-- the full lines of a text without the white space at their ends, from the first byte on
+abbrev ends_of : List ℕ → List (List ℕ)
+ends_of text = map without_trailing_space (full_lines text)
 
-before_first-same : (b : ℕ) (ps qs : List (List ℕ)) → SameFullLines ps qs → SameFullLines (before_first_line b ps) (before_first_line b qs)
-before_first-same b ps qs NoLines = NextLine (b ∷ []) (b ∷ []) [] [] (λ before. refl) NoLines
-before_first-same b ps qs (NextLine p q ps' qs' h same) = NextLine (b ∷ p) (b ∷ q) ps' qs' more same where
-  more : (before : List ℕ) → ended before (b ∷ p) ≡ ended before (b ∷ q)
-  more before = ap (λ t. without_trailing_space (without_last 10 t)) (sym (append_assoc before (b ∷ []) p)) ∙ h (before ++ b ∷ []) ∙ ap (λ t. without_trailing_space (without_last 10 t)) (append_assoc before (b ∷ []) q)
+abbrev before_first_end : ℕ → List (List ℕ) → List (List ℕ)
+before_first_end b [] = without_trailing_space (b ∷ []) ∷ []
+before_first_end b (line ∷ lines) = without_trailing_space (b ∷ line) ∷ lines
 
-full_lines-same : (s t : List ℕ) → SameText s t → SameFullLines (full_lines s) (full_lines t)
-full_lines-same s t Empty = NoLines
-full_lines-same s t (Byte b s' t' same) = at (b == 10) (full_lines-same s' t' same) where
-  at : (c : Bool) → SameFullLines (full_lines s') (full_lines t') → SameFullLines (cond c (newline ∷ full_lines s') (before_first_line b (full_lines s'))) (cond c (newline ∷ full_lines t') (before_first_line b (full_lines t')))
-  at true ih = NextLine newline newline _ _ (λ before. refl) ih
-  at false ih = before_first-same b _ _ ih
-full_lines-same s t (Return s' t' same) = NextLine newline (13 ∷ newline) _ _ return (full_lines-same s' t' same) where
-  return : (before : List ℕ) → ended before newline ≡ ended before (13 ∷ newline)
-  return before = ap without_trailing_space (without_last-push 10 10 before)
-      ∙ sym (ap without_trailing_space (ap (without_last 10) (sym (append_assoc before (13 ∷ []) newline)) ∙ without_last-push 10 10 (before ++ 13 ∷ []))
-      ∙ sym (without_trailing_space-without_last 13 (before ++ 13 ∷ []) refl) ∙ ap without_trailing_space (without_last-push 13 13 before))
+ends_of-first : (b : ℕ) (bytes : List ℕ) → ends_of (b ∷ bytes) ≡ cond (b == 10) ([] ∷ ends_of bytes) (before_first_end b (ends_of bytes))
+ends_of-first b bytes = at (b == 10) (full_lines bytes) where
+  at : (c : Bool) (ps : List (List ℕ)) →
+      map without_trailing_space (cond c (newline ∷ ps) (before_first_line b ps)) ≡ cond c ([] ∷ map without_trailing_space ps) (before_first_end b (map without_trailing_space ps))
+  at true ps = refl
+  at false [] = refl
+  at false (p ∷ ps) = grind (arith, is_blank-without_trailing_space p, trimmed-twice p)
 
-lines-same : (ps qs : List (List ℕ)) → SameFullLines ps qs → SameButEnds (map line_of ps) (map line_of qs)
-lines-same ps qs NoLines = refl
-lines-same ps qs (NextLine p q ps' qs' h same) =
-    let here : without_trailing_space (line_of p) ≡ without_trailing_space (line_of q) =
-    without_trailing_space-without_last 13 (without_last 10 p) refl ∙ h [] ∙ sym (without_trailing_space-without_last 13 (without_last 10 q) refl) in
-    ap (λ t. t ∷ map without_trailing_space (map line_of ps')) here ∙ ap (λ ts. without_trailing_space (line_of q) ∷ ts) (lines-same ps' qs' same)
+ends_of-same : (s t : List ℕ) → SameText s t → ends_of s ≡ ends_of t
+ends_of-same s t Empty = refl
+ends_of-same s t (Byte b s' t' same) = ends_of-first b s' ∙ ap (λ ls. cond (b == 10) ([] ∷ ls) (before_first_end b ls)) (ends_of-same s' t' same) ∙ sym (ends_of-first b t')
+ends_of-same s t (Return s' t' same) = ap (λ ls. [] ∷ ls) (ends_of-same s' t' same)
+
+pub lines-ends : (ps : List (List ℕ)) → map without_trailing_space (map line_of ps) ≡ map without_trailing_space ps
+lines-ends [] = refl
+lines-ends (p ∷ ps) = grind (arith, without_trailing_space-without_last 13 (without_last 10 p) refl, without_trailing_space-without_last 10 p refl, lines-ends ps)
 
 line-same : (line s t : List ℕ) → SameText s t → SameText ((without_return line ++ newline) ++ s) ((line ++ newline) ++ t)
 line-same [] s t same = Byte 10 s t same
@@ -90,4 +84,4 @@ text_of-same (line ∷ lines) = line-same line _ _ (text_of-same lines)
 
 -- the input of a directive that is written and read again
 pub input-again : (lines : List (List ℕ)) → SameButEnds (lines_of (trimmed (text_of (without_returns lines)))) (lines_of (trimmed (text_of lines)))
-input-again lines = lines-same _ _ (full_lines-same _ _ (trimmed-same _ _ (text_of-same lines)))
+input-again lines = lines-ends _ ∙ ends_of-same _ _ (trimmed-same _ _ (text_of-same lines)) ∙ sym (lines-ends _)
