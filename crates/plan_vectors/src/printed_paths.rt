@@ -244,38 +244,6 @@ static ROWS: [Row; 16] = [
     },
 ];
 
-fn has_table<S: MemberSet>(
-    alloc: Global,
-    now: &Config<S>,
-    path: &Path,
-    down: Option<&S>,
-    expected: &str,
-) -> bool
-    requires { is_restorable now.now ≡ true }
-{
-    appends!(
-        alloc,
-        expected,
-        |text| add_table(alloc, text, now, path, down)
-    )
-}
-
-fn has_json_lines<S: MemberSet>(
-    alloc: Global,
-    now: &Config<S>,
-    path: &Path,
-    down: Option<&S>,
-    expected: &str,
-) -> bool
-    requires { is_restorable now.now ≡ true }
-{
-    appends!(
-        alloc,
-        expected,
-        |text| add_json_lines(alloc, text, 1, now, path, down)
-    )
-}
-
 // Whether a path is printed as in its row, and stalls as in its row.
 fn is_printed<S: MemberSet>(
     alloc: Global,
@@ -292,8 +260,20 @@ fn is_printed<S: MemberSet>(
         Some(down)
     };
     let prints = match row.printed {
-        Printed::Table(table) => has_table(alloc, now, path, named, table),
-        Printed::Json(lines) => has_json_lines(alloc, now, path, named, lines),
+        Printed::Table(table) => {
+            appends!(
+                alloc,
+                table,
+                |text| add_table(alloc, text, now, path, named)
+            )
+        }
+        Printed::Json(lines) => {
+            appends!(
+                alloc,
+                lines,
+                |text| add_json_lines(alloc, text, 1, now, path, named)
+            )
+        }
     };
     prints & (twice!(NoMemory, stalls(alloc, now, path, down)) == Ok(row.stalls))
 }

@@ -6,5 +6,6 @@ mod changes;
 mod configurations;
 mod large_sets;
 mod sets_and_quorums;
+mod shared_helpers;
 mod texts;
 mod transitions;
