@@ -1,4 +1,4 @@
-//! What tests share tells things that differ apart.
+//! The helpers that tests share answer no where things differ.
 use crate::ample::sets_and_quorums::set_of;
 use crate::appending::{begun, is_appended, is_begun};
 use crate::equal::{has_ids, is_same};
