@@ -1,0 +1,134 @@
+-- The theorem for etcd's rules: the invariants hold before anything happens, each action keeps them, and the claims follow.
+use Rattle.std.proofs.Common.{◌≡◌, ℕ, ◌+◌, List, [], ◌∷◌, ◌++◌, refl, sym, subst, inl, inr, arith}
+use Rattle.conf_change.specs.Configuration.{Configuration}
+use Rattle.raft_safety.specs.Logs.{Log}
+use Rattle.raft_safety.specs.Cluster.{Commitment, In, Leads}
+use Rattle.raft_safety.specs.Claims.{ElectionSafety, LeaderCompleteness, CommittedIsStored, LogMatching, StateMachineSafety, CommitOneLog}
+use Rattle.raft_safety.specs.EtcdCluster.{Candidacy, EtcdCluster, new_etcd_cluster}
+use Rattle.raft_safety.specs.EtcdRules.{EtcdAction, Campaign, SeeTerm, GrantVote, BecomeLeader, Propose, Send, Receive, Answer, Heartbeat, Commit, Apply, Restart, IsAllowedByEtcd}
+use Rattle.raft_safety.specs.EtcdRuns.{after_etcd_action, after_etcd_actions, AreAllowedByEtcd}
+use Rattle.raft_safety.specs.EtcdClaims.{AppliedIsCommitted, IsAppliedIn, ApplyOneLog}
+use Rattle.raft_safety.proofs.Growth.{IsKnown-prefix}
+use Rattle.raft_safety.proofs.Invariants.{IsKnown, IsElectedWith-leads}
+use Rattle.raft_safety.proofs.Safety.OneLeader.{ElectionSafety-from_invariants}
+use Rattle.raft_safety.proofs.Claims.{AreCommitmentsKept, IsKnown-two_states, LeaderCompleteness-from_invariants, LogMatching-from_invariants, CommittedIsStored-from_invariants, CommitOneLog-from_invariants, StateMachineSafety-from_invariants}
+use Rattle.raft_safety.proofs.Theorem.{AreInvariants-new}
+use Rattle.raft_safety.proofs.Etcd.Invariants.{AreEtcdInvariants}
+use Rattle.raft_safety.proofs.Etcd.ServerActions.{campaign-keeps_etcd, see_term-keeps_etcd, grant_vote-keeps_etcd, take-keeps, answer-keeps, heartbeat-keeps, restart-keeps_etcd}
+use Rattle.raft_safety.proofs.Etcd.LeaderActions.{become_leader-keeps_etcd, propose-keeps_etcd, send-keeps, commit-keeps_etcd, apply-keeps}
+
+-- ---- every state that is reached
+new_holds : (first : Configuration) → AreEtcdInvariants first new_etcd_cluster
+new_holds first = record {
+  core = AreInvariants-new first;
+  durable = λ server. record { committed = refl; one_change_beyond = omega arith };
+  applied = λ term leader l. absurd l.1;
+  candidacies = λ k x. absurd x;
+  appends = λ a x. absurd x;
+}
+
+action_keeps : (first : Configuration) (e : EtcdCluster) (action : EtcdAction) → IsAllowedByEtcd first e action → AreEtcdInvariants first e → AreEtcdInvariants first (after_etcd_action e action)
+action_keeps first e (Campaign server term applied) may i = campaign-keeps_etcd first e server term applied may i
+action_keeps first e (SeeTerm server term) may i = see_term-keeps_etcd first e server term may i
+action_keeps first e (GrantVote voter request) may i = grant_vote-keeps_etcd first e voter request may i
+action_keeps first e (BecomeLeader candidacy votes) may i = become_leader-keeps_etcd first e candidacy votes may i
+action_keeps first e (Propose term leader entry) may i = propose-keeps_etcd first e term leader entry may i
+action_keeps first e (Send term leader before entries) may i = send-keeps first e term leader before entries may i
+action_keeps first e (Receive server append) may i = take-keeps first e server append may i
+action_keeps first e (Answer server term leader) may i = answer-keeps first e server term leader may i
+action_keeps first e (Heartbeat server term leader known) may i = heartbeat-keeps first e server term leader known may i
+action_keeps first e (Commit term leader log servers) may i = commit-keeps_etcd first e term leader log servers may i
+action_keeps first e (Apply term leader log) may i = apply-keeps first e term leader log may i
+action_keeps first e (Restart server known) may i = restart-keeps_etcd first e server known may i
+
+actions_keep : (first : Configuration) (e : EtcdCluster) (actions : List EtcdAction) → AreAllowedByEtcd first e actions → AreEtcdInvariants first e → AreEtcdInvariants first (after_etcd_actions e actions)
+actions_keep first e [] allowed i = i
+actions_keep first e (action ∷ actions) allowed i = actions_keep first (after_etcd_action e action) actions allowed.1 (action_keeps first e action allowed.0 i)
+
+reached : (first : Configuration) (actions : List EtcdAction) → AreAllowedByEtcd first new_etcd_cluster actions → AreEtcdInvariants first (after_etcd_actions new_etcd_cluster actions)
+reached first actions allowed = actions_keep first new_etcd_cluster actions allowed (new_holds first)
+
+-- ---- two moments
+commitments_after : (e : EtcdCluster) (action : EtcdAction) (m : Commitment) → In m e.cluster.commitments → In m (after_etcd_action e action).cluster.commitments
+commitments_after e (Campaign server term applied) m x = x
+commitments_after e (SeeTerm server term) m x = x
+commitments_after e (GrantVote voter request) m x = x
+commitments_after e (BecomeLeader candidacy votes) m x = x
+commitments_after e (Propose term leader entry) m x = x
+commitments_after e (Send term leader before entries) m x = x
+commitments_after e (Receive server append) m x = x
+commitments_after e (Answer server term leader) m x = x
+commitments_after e (Heartbeat server term leader known) m x = x
+commitments_after e (Commit term leader log servers) m x = inr x
+commitments_after e (Apply term leader log) m x = x
+commitments_after e (Restart server known) m x = x
+
+commitments_stay : (e : EtcdCluster) (actions : List EtcdAction) (m : Commitment) → In m e.cluster.commitments → In m (after_etcd_actions e actions).cluster.commitments
+commitments_stay e [] m x = x
+commitments_stay e (action ∷ actions) m x = commitments_stay (after_etcd_action e action) actions m (commitments_after e action m x)
+
+after_both : (e : EtcdCluster) (early late : List EtcdAction) → after_etcd_actions e (early ++ late) ≡ after_etcd_actions (after_etcd_actions e early) late
+after_both e [] late = refl
+after_both e (action ∷ early) late = after_both (after_etcd_action e action) early late
+
+allowed_first : (first : Configuration) (e : EtcdCluster) (early late : List EtcdAction) → AreAllowedByEtcd first e (early ++ late) → AreAllowedByEtcd first e early
+allowed_first first e [] late allowed = tt
+allowed_first first e (action ∷ early) late allowed = (allowed.0, allowed_first first (after_etcd_action e action) early late allowed.1)
+
+commitments_kept : (early late : List EtcdAction) → AreCommitmentsKept (after_etcd_actions new_etcd_cluster early).cluster (after_etcd_actions new_etcd_cluster (early ++ late)).cluster
+commitments_kept early late m x =
+    subst (λ (e : EtcdCluster). In m e.cluster.commitments) (sym (after_both new_etcd_cluster early late)) (commitments_stay (after_etcd_actions new_etcd_cluster early) late m x)
+
+-- ---- the claims
+pub ElectionSafety-reached_etcd : (first : Configuration) (actions : List EtcdAction) → AreAllowedByEtcd first new_etcd_cluster actions → ElectionSafety (after_etcd_actions new_etcd_cluster actions).cluster
+ElectionSafety-reached_etcd first actions allowed = ElectionSafety-from_invariants first (after_etcd_actions new_etcd_cluster actions).cluster (reached first actions allowed).core
+
+pub LeaderCompleteness-reached_etcd : (first : Configuration) (actions : List EtcdAction) → AreAllowedByEtcd first new_etcd_cluster actions → LeaderCompleteness (after_etcd_actions new_etcd_cluster actions).cluster
+LeaderCompleteness-reached_etcd first actions allowed = LeaderCompleteness-from_invariants first (after_etcd_actions new_etcd_cluster actions).cluster (reached first actions allowed).core
+
+pub LogMatching-reached_etcd : (first : Configuration) (actions : List EtcdAction) → AreAllowedByEtcd first new_etcd_cluster actions → LogMatching (after_etcd_actions new_etcd_cluster actions).cluster
+LogMatching-reached_etcd first actions allowed = LogMatching-from_invariants first (after_etcd_actions new_etcd_cluster actions).cluster (reached first actions allowed).core
+
+pub CommittedIsStored-reached_etcd : (first : Configuration) (actions : List EtcdAction) → AreAllowedByEtcd first new_etcd_cluster actions → CommittedIsStored (after_etcd_actions new_etcd_cluster actions).cluster
+CommittedIsStored-reached_etcd first actions allowed = CommittedIsStored-from_invariants first (after_etcd_actions new_etcd_cluster actions).cluster (reached first actions allowed).core
+
+pub CommitOneLog-reached_etcd : (first : Configuration) (early late : List EtcdAction) → AreAllowedByEtcd first new_etcd_cluster (early ++ late)
+    → CommitOneLog (after_etcd_actions new_etcd_cluster early).cluster (after_etcd_actions new_etcd_cluster (early ++ late)).cluster
+CommitOneLog-reached_etcd first early late allowed =
+    CommitOneLog-from_invariants first (after_etcd_actions new_etcd_cluster early).cluster (after_etcd_actions new_etcd_cluster (early ++ late)).cluster
+    (reached first early (allowed_first first new_etcd_cluster early late allowed)).core (reached first (early ++ late) allowed).core (commitments_kept early late)
+
+pub StateMachineSafety-reached_etcd : (first : Configuration) (early late : List EtcdAction) → AreAllowedByEtcd first new_etcd_cluster (early ++ late)
+    → StateMachineSafety (after_etcd_actions new_etcd_cluster early).cluster (after_etcd_actions new_etcd_cluster (early ++ late)).cluster
+StateMachineSafety-reached_etcd first early late allowed =
+    StateMachineSafety-from_invariants first (after_etcd_actions new_etcd_cluster early).cluster (after_etcd_actions new_etcd_cluster (early ++ late)).cluster
+    (reached first early (allowed_first first new_etcd_cluster early late allowed)).core (reached first (early ++ late) allowed).core (commitments_kept early late)
+
+-- ---- what is applied
+pub AppliedIsCommitted-reached_etcd : (first : Configuration) (actions : List EtcdAction) → AreAllowedByEtcd first new_etcd_cluster actions → AppliedIsCommitted (after_etcd_actions new_etcd_cluster actions)
+AppliedIsCommitted-reached_etcd first actions allowed term leader leads = ((reached first actions allowed).applied term leader leads).committed
+
+-- what is applied was committed by a leader
+known_applied : (first : Configuration) (e : EtcdCluster) → AreEtcdInvariants first e → (log : Log) → IsAppliedIn e log → (bound : ℕ) × IsKnown e.cluster bound log
+known_applied first e i log (inl at) =
+    let leads : Leads e.cluster at.0 at.1 = at.2 in (
+      leads.0.request.term + 1,
+      subst (IsKnown e.cluster (leads.0.request.term + 1)) (sym at.3)
+          (IsKnown-prefix e.cluster (leads.0.request.term + 1) (e.applied at.0 at.1) (e.cluster.leaderships at.0 at.1).committed (i.applied at.0 at.1 leads).committed
+          (IsElectedWith-leads first e.cluster i.core at.0 at.1 leads).known),
+    )
+known_applied first e i log (inr at) =
+    let k : Candidacy = at.0 in
+    let its = i.candidacies k at.1 in (
+      k.request.term,
+      subst (IsKnown e.cluster k.request.term) (sym at.2)
+          (IsKnown-prefix e.cluster k.request.term k.applied k.request.committed its.committed (i.core.requests k.request its.asked).known),
+    )
+
+pub ApplyOneLog-reached_etcd : (first : Configuration) (early late : List EtcdAction) → AreAllowedByEtcd first new_etcd_cluster (early ++ late)
+    → ApplyOneLog (after_etcd_actions new_etcd_cluster early) (after_etcd_actions new_etcd_cluster (early ++ late))
+ApplyOneLog-reached_etcd first early late allowed one other at_one at_other =
+    let a = known_applied first (after_etcd_actions new_etcd_cluster early) (reached first early (allowed_first first new_etcd_cluster early late allowed)) one at_one in
+    let b = known_applied first (after_etcd_actions new_etcd_cluster (early ++ late)) (reached first (early ++ late) allowed) other at_other in
+    IsKnown-two_states first (after_etcd_actions new_etcd_cluster early).cluster (after_etcd_actions new_etcd_cluster (early ++ late)).cluster (reached first (early ++ late) allowed).core
+    (commitments_kept early late) a.0 b.0 one other a.1 b.1

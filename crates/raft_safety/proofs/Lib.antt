@@ -1,0 +1,15 @@
+mod Logs
+mod Configurations
+mod Invariants
+mod Terms
+mod Updates
+mod Growth
+mod FromLeaders
+mod Safety
+mod Steps
+mod Claims
+mod Theorem
+mod Appending
+mod Etcd
+mod NoVoters
+mod WorkedExamples

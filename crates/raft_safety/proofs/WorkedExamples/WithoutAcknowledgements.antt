@@ -1,0 +1,110 @@
+-- Without the rule that what is committed was acknowledged. Server 1, leader of term 1, proposes x, and commits it by servers 1
+-- and 2 before either has stored it. Server 3 is elected in term 2 by the vote of server 2: it lacks x, after eight actions.
+use Rattle.std.proofs.Common.{◌≡◌, ℕ, ◌<◌, true, length, List, [], ◌∷◌, refl, inl, inr, arith}
+use Rattle.std.specs.Prelude.{take, drop}
+use Rattle.quorum_sets.specs.Ids.{has, ids_of}
+use Rattle.quorum_sets.proofs.Offered.{written_out}
+use Rattle.conf_change.specs.Configuration.{Configuration}
+use Rattle.raft_safety.specs.Logs.{Entry, Log, IsPrefix, last_term}
+use Rattle.raft_safety.specs.Configurations.{IsQuorumAfter, IsOneChangeBeyond}
+use Rattle.raft_safety.specs.Cluster.{VoteRequest, Election, Commitment, Cluster, In, Leads}
+use Rattle.raft_safety.specs.Steps.{Action, Campaign, GrantVote, BecomeLeader, Propose, Commit, MayCampaign, MayGrantVote, MayBecomeLeader, MayPropose, MayCommit, AreAllowed, after_actions}
+use Rattle.raft_safety.specs.Claims.{LeaderCompleteness}
+use Rattle.raft_safety.proofs.Configurations.{voter_changes-entry}
+use Rattle.raft_safety.proofs.WorkedExamples.SmallRuns.{command, IsQuorumAfter-of, OfEach-has, once-from_votes, not_yet-from_elections}
+use Rattle.raft_safety.proofs.WorkedExamples.AddedVoter.{three, configuration_after-nothing}
+use Rattle.raft_safety.proofs.WorkedExamples.FirstElection.{first_election, after_election}
+
+-- ---- the run
+abbrev x : Entry
+x = command 1 7
+
+abbrev with_x : Log
+with_x = x ∷ []
+
+abbrev third_request : VoteRequest
+third_request = record { term = 2; candidate = 3; log = []; committed = [] }
+
+abbrev x_by_two : Commitment
+x_by_two = record { term = 1; log = with_x; counted = []; servers = ids_of (1 ∷ 2 ∷ []) }
+
+abbrev run : List Action
+run =
+    Propose 1 1 x ∷ Commit 1 x_by_two ∷ Campaign 3 2 ∷ GrantVote 2 third_request ∷ BecomeLeader third_request (ids_of (2 ∷ 3 ∷ [])) ∷ []
+
+-- the cluster after so many actions of the run
+abbrev state : ℕ → Cluster
+state n = after_actions after_election (take n run)
+
+abbrev third_election : Election
+third_election = record { request = third_request; votes = ids_of (2 ∷ 3 ∷ []) }
+
+-- ---- each action but one is allowed
+proposes_x : MayPropose three (state 0) 1 1 x
+proposes_x = record { leads = (first_election, inl refl, refl, refl); own_term = refl; one_at_a_time = inr refl }
+
+campaigns_3 : MayCampaign (state 2) 3 2
+campaigns_3 = record { later = omega arith }
+
+votes_2 : MayGrantVote (state 3) 2 third_request
+votes_2 = record { asked = inl refl; not_past = omega arith; once = once-from_votes (state 3) 2 2 3 refl; up_to_date = inr (refl, omega arith) }
+
+leads_3 : MayBecomeLeader three (state 4) third_request (ids_of (2 ∷ 3 ∷ []))
+leads_3 = record {
+  asked = inl refl;
+  not_yet = not_yet-from_elections (state 4) 2 3 refl;
+  voted = OfEach-has _ (2 ∷ 3 ∷ []) (inl refl, (inr (inl refl), tt));
+  quorum = IsQuorumAfter-of three [] three (ids_of (2 ∷ 3 ∷ [])) configuration_after-nothing (simp written_out refl);
+}
+
+-- ---- the one that is not
+-- what is asked of a commitment, but that the servers acknowledged it
+record MayCommitUnacknowledged (first : Configuration) (c : Cluster) (leader : ℕ) (m : Commitment) : Type 0 where
+  leads : Leads c m.term leader
+  longer_than : length (c.leaderships m.term leader).committed < length m.log
+  in_log : IsPrefix m.log (c.leaderships m.term leader).log
+  own_term : last_term m.log ≡ m.term
+  counted : IsPrefix m.counted (c.leaderships m.term leader).committed
+  one_change_beyond : IsOneChangeBeyond first (c.leaderships m.term leader).log m.counted
+  quorum : IsQuorumAfter first m.counted m.servers
+
+-- with the field that is left out, it is the guard
+with_the_rule : (first : Configuration) (c : Cluster) (leader : ℕ) (m : Commitment) → MayCommitUnacknowledged first c leader m
+    → ((server : ℕ) → has m.servers server ≡ true → (log : Log) × In (record { term = m.term; server = server; log = log }) c.acknowledgements × IsPrefix m.log log)
+    → MayCommit first c leader m
+with_the_rule first c leader m may acknowledged = record {
+  leads = may.leads;
+  longer_than = may.longer_than;
+  in_log = may.in_log;
+  own_term = may.own_term;
+  acknowledged = acknowledged;
+  counted = may.counted;
+  one_change_beyond = may.one_change_beyond;
+  quorum = may.quorum;
+}
+
+commits_x : MayCommitUnacknowledged three (state 1) 1 x_by_two
+commits_x = record {
+  leads = (first_election, inl refl, refl, refl);
+  longer_than = omega arith;
+  in_log = inl refl;
+  own_term = refl;
+  counted = refl;
+  one_change_beyond = voter_changes-entry three x [];
+  quorum = IsQuorumAfter-of three [] three (ids_of (1 ∷ 2 ∷ [])) configuration_after-nothing (simp written_out refl);
+}
+
+is_refused : MayCommit three (state 1) 1 x_by_two → ⊥
+is_refused may = let said = may.acknowledged 1 (simp written_out refl) in said.1
+
+all_but_one : (AreAllowed three after_election (take 1 run))
+    × MayCommitUnacknowledged three (state 1) 1 x_by_two
+    × (AreAllowed three (state 2) (drop 2 run))
+all_but_one = ((proposes_x, tt), commits_x, (campaigns_3, (votes_2, (leads_3, tt))))
+
+-- ---- a leader lacks what was committed before
+with_x_not_in_nothing : IsPrefix with_x [] → ⊥
+with_x_not_in_nothing is = cc
+
+incomplete_leader : LeaderCompleteness (state 5) → ⊥
+incomplete_leader claim = with_x_not_in_nothing (claim x_by_two 2 3 (inl refl) (third_election, inl refl, refl, refl) (omega arith))

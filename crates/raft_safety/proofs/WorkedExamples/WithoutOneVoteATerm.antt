@@ -1,0 +1,86 @@
+-- Without "one vote a term". Servers 1, 2 and 3 are the voters. Servers 1 and 2 campaign in term 1, and server 3 votes for
+-- both: each has its own vote and that of server 3, a majority. So term 1 has two leaders, after six actions.
+use Rattle.std.proofs.Common.{◌≡◌, ℕ, ◌≤◌, List, [], ◌∷◌, refl, inl, inr, arith}
+use Rattle.std.specs.Prelude.{take, drop}
+use Rattle.quorum_sets.specs.Ids.{ids_of}
+use Rattle.quorum_sets.proofs.Offered.{written_out}
+use Rattle.raft_safety.specs.Logs.{IsUpToDate}
+use Rattle.raft_safety.specs.Cluster.{Vote, VoteRequest, Election, Cluster, In, new_cluster}
+use Rattle.raft_safety.specs.Steps.{Action, Campaign, GrantVote, BecomeLeader, MayCampaign, MayGrantVote, MayBecomeLeader, AreAllowed, after_actions}
+use Rattle.raft_safety.specs.Claims.{ElectionSafety}
+use Rattle.raft_safety.proofs.WorkedExamples.SmallRuns.{IsQuorumAfter-of, OfEach-has, once-from_votes, not_yet-from_elections}
+use Rattle.raft_safety.proofs.WorkedExamples.AddedVoter.{three, configuration_after-nothing}
+
+-- ---- the run
+abbrev first_request : VoteRequest
+first_request = record { term = 1; candidate = 1; log = []; committed = [] }
+
+abbrev second_request : VoteRequest
+second_request = record { term = 1; candidate = 2; log = []; committed = [] }
+
+abbrev run : List Action
+run =
+    Campaign 1 1 ∷ Campaign 2 1 ∷ GrantVote 3 first_request ∷ GrantVote 3 second_request
+    ∷ BecomeLeader first_request (ids_of (1 ∷ 3 ∷ [])) ∷ BecomeLeader second_request (ids_of (2 ∷ 3 ∷ [])) ∷ []
+
+-- the cluster after so many actions of the run
+abbrev state : ℕ → Cluster
+state n = after_actions new_cluster (take n run)
+
+abbrev first_election : Election
+first_election = record { request = first_request; votes = ids_of (1 ∷ 3 ∷ []) }
+
+abbrev second_election : Election
+second_election = record { request = second_request; votes = ids_of (2 ∷ 3 ∷ []) }
+
+-- ---- each action but one is allowed
+campaigns_1 : MayCampaign (state 0) 1 1
+campaigns_1 = record { later = omega arith }
+
+campaigns_2 : MayCampaign (state 1) 2 1
+campaigns_2 = record { later = omega arith }
+
+votes_3 : MayGrantVote (state 2) 3 first_request
+votes_3 = record { asked = inr (inl refl); not_past = omega arith; once = once-from_votes (state 2) 1 3 1 refl; up_to_date = inr (refl, omega arith) }
+
+leads_1 : MayBecomeLeader three (state 4) first_request (ids_of (1 ∷ 3 ∷ []))
+leads_1 = record {
+  asked = inr (inl refl);
+  not_yet = not_yet-from_elections (state 4) 1 1 refl;
+  voted = OfEach-has _ (1 ∷ 3 ∷ []) (inr (inr (inr (inl refl))), (inr (inl refl), tt));
+  quorum = IsQuorumAfter-of three [] three (ids_of (1 ∷ 3 ∷ [])) configuration_after-nothing (simp written_out refl);
+}
+
+leads_2 : MayBecomeLeader three (state 5) second_request (ids_of (2 ∷ 3 ∷ []))
+leads_2 = record {
+  asked = inl refl;
+  not_yet = not_yet-from_elections (state 5) 1 2 refl;
+  voted = OfEach-has _ (2 ∷ 3 ∷ []) (inr (inr (inl refl)), (inl refl, tt));
+  quorum = IsQuorumAfter-of three [] three (ids_of (2 ∷ 3 ∷ [])) configuration_after-nothing (simp written_out refl);
+}
+
+-- ---- the one that is not
+-- what is asked of a vote, but that it is for one candidate a term
+record MayVoteAgain (c : Cluster) (voter : ℕ) (request : VoteRequest) : Type 0 where
+  asked : In request c.requests
+  not_past : (c.servers voter).term ≤ request.term
+  up_to_date : IsUpToDate request.log (c.servers voter).log
+
+-- with the field that is left out, it is the guard
+with_the_rule : (c : Cluster) (voter : ℕ) (request : VoteRequest) → MayVoteAgain c voter request
+    → ((vote : Vote) → In vote c.votes → vote.term ≡ request.term → vote.voter ≡ voter → vote.candidate ≡ request.candidate)
+    → MayGrantVote c voter request
+with_the_rule c voter request may once = record { asked = may.asked; not_past = may.not_past; once = once; up_to_date = may.up_to_date }
+
+votes_again_3 : MayVoteAgain (state 3) 3 second_request
+votes_again_3 = record { asked = inl refl; not_past = omega arith; up_to_date = inr (refl, omega arith) }
+
+is_refused : MayGrantVote (state 3) 3 second_request → ⊥
+is_refused may = let same = may.once (record { term = 1; voter = 3; candidate = 1 }) (inl refl) refl refl in cc
+
+all_but_one : (AreAllowed three new_cluster (take 3 run)) × MayVoteAgain (state 3) 3 second_request × (AreAllowed three (state 4) (drop 4 run))
+all_but_one = ((campaigns_1, (campaigns_2, (votes_3, tt))), votes_again_3, (leads_1, (leads_2, tt)))
+
+-- ---- two leaders of a term
+two_leaders : ElectionSafety (state 6) → ⊥
+two_leaders claim = let same = claim 1 1 2 (first_election, inr (inl refl), refl, refl) (second_election, inl refl, refl, refl) in cc

@@ -1,0 +1,90 @@
+-- What the actions of etcd's servers leave, and runs of them. Where Steps.antt has an action of the name, this one does the
+-- same to servers, votes and leaders.
+use Rattle.std.specs.Prelude.{ℕ, ◌+◌, min, List, [], ◌∷◌, length, if◌then◌else◌}
+use Rattle.quorum_sets.specs.Ids.{Ids}
+use Rattle.conf_change.specs.Configuration.{Configuration}
+use Rattle.raft_safety.specs.Logs.{Log, last_term, longer}
+use Rattle.raft_safety.specs.Cluster.{VoteRequest, Server, Acknowledgement, Commitment, Cluster, with_value}
+use Rattle.raft_safety.specs.Steps.{after_action, with_server}
+use Rattle.raft_safety.specs.Steps as core
+use Rattle.raft_safety.specs.Appending.{upto, has_entries, with_entries}
+use Rattle.raft_safety.specs.EtcdCluster.{Append, EtcdCluster, with_applied}
+use Rattle.raft_safety.specs.EtcdRules.{EtcdAction, Campaign, SeeTerm, GrantVote, BecomeLeader, Propose, Send, Receive, Answer, Heartbeat, Commit, Apply, Restart, IsAllowedByEtcd}
+
+-- the request for votes of a server that campaigns
+abbrev pub request_of : Cluster → ℕ → ℕ → VoteRequest
+request_of c server term = record { term = term; candidate = server; log = (c.servers server).log; committed = (c.servers server).committed }
+
+-- an append of a leader, of entries after what is before them in its log: it always has the leader's commit index
+abbrev pub append_of : Cluster → ℕ → ℕ → Log → Log → Append
+append_of c term leader before entries = record {
+  term = term;
+  index = length before;
+  index_term = last_term before;
+  entries = entries;
+  commit = length (c.leaderships term leader).committed;
+}
+
+-- the index of the last entry of an append
+abbrev pub last_index : Append → ℕ
+last_index append = append.index + length append.entries
+
+-- a server after an append: its log has the entries, and its commit index is the append's, but at most the last entry's;
+-- it never falls
+abbrev pub after_append : Server → Append → Server
+after_append old append =
+    let log = with_entries old.log append.index append.entries in
+    record { term = append.term; log = log; committed = longer old.committed (upto log (min append.commit (last_index append))) }
+
+-- the cluster after another acknowledgement
+abbrev pub with_acknowledgement : Cluster → Acknowledgement → Cluster
+with_acknowledgement c acknowledgement = record c { acknowledgements = acknowledgement ∷ c.acknowledgements }
+
+-- what a leader commits: counted by the configuration that it has applied
+abbrev pub commitment_of : EtcdCluster → ℕ → ℕ → Log → Ids → Commitment
+commitment_of e term leader log servers = record { term = term; log = log; counted = e.applied term leader; servers = servers }
+
+-- what an action leaves. Where an append changes the log, the commit index is written with it, as one: it is durable. An
+-- answer acknowledges what the server knows to be committed. A heartbeat acknowledges nothing
+abbrev pub after_etcd_action : EtcdCluster → EtcdAction → EtcdCluster
+after_etcd_action e (Campaign server term applied) =
+    record e {
+      cluster = after_action e.cluster (core.Campaign server term);
+      candidacies = record { request = request_of e.cluster server term; applied = applied } ∷ e.candidacies;
+    }
+after_etcd_action e (SeeTerm server term) = record e { cluster = after_action e.cluster (core.SeeTerm server term) }
+after_etcd_action e (GrantVote voter request) = record e { cluster = after_action e.cluster (core.GrantVote voter request) }
+after_etcd_action e (BecomeLeader candidacy votes) =
+    record (with_applied e candidacy.request.term candidacy.request.candidate candidacy.applied) {
+      cluster = after_action e.cluster (core.BecomeLeader candidacy.request votes);
+    }
+after_etcd_action e (Propose term leader entry) = record e { cluster = after_action e.cluster (core.Propose term leader entry) }
+after_etcd_action e (Send term leader before entries) = record e { appends = append_of e.cluster term leader before entries ∷ e.appends }
+after_etcd_action e (Receive server append) =
+    let old = e.cluster.servers server in
+    let new = after_append old append in
+    record e {
+      cluster = with_acknowledgement (with_server e.cluster server new) (record { term = append.term; server = server; log = upto new.log (last_index append) });
+      durable = with_value e.durable server (if has_entries old.log append.index append.entries then e.durable server else new.committed);
+    }
+after_etcd_action e (Answer server term leader) =
+    let old = e.cluster.servers server in
+    record e {
+      cluster = with_acknowledgement (with_server e.cluster server (record old { term = term })) (record { term = term; server = server; log = old.committed });
+    }
+after_etcd_action e (Heartbeat server term leader known) =
+    let old = e.cluster.servers server in
+    record e { cluster = with_server e.cluster server (record old { term = term; committed = longer old.committed known }) }
+after_etcd_action e (Commit term leader log servers) = record e { cluster = after_action e.cluster (core.Commit leader (commitment_of e term leader log servers)) }
+after_etcd_action e (Apply term leader log) = with_applied e term leader log
+after_etcd_action e (Restart server known) = record e { cluster = after_action e.cluster (core.Restart server known) }
+
+-- what actions leave, one after another
+abbrev pub after_etcd_actions : EtcdCluster → List EtcdAction → EtcdCluster
+after_etcd_actions e [] = e
+after_etcd_actions e (action ∷ actions) = after_etcd_actions (after_etcd_action e action) actions
+
+-- the rules allow each action where the ones before it lead
+abbrev pub AreAllowedByEtcd : Configuration → EtcdCluster → List EtcdAction → Type 0
+AreAllowedByEtcd first e [] = Unit {0}
+AreAllowedByEtcd first e (action ∷ actions) = IsAllowedByEtcd first e action × AreAllowedByEtcd first (after_etcd_action e action) actions

@@ -1,0 +1,10 @@
+pub mod Logs
+pub mod Configurations
+pub mod Cluster
+pub mod Steps
+pub mod Claims
+pub mod Appending
+pub mod EtcdCluster
+pub mod EtcdRules
+pub mod EtcdRuns
+pub mod EtcdClaims
