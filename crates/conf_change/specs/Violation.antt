@@ -10,7 +10,9 @@ use Rattle.conf_change.specs.declared.config.Invariant.TheVariants.{ZeroId, Next
 use Rattle.conf_change.specs.declared.violation.Violation.{Violation}
 use Rattle.conf_change.specs.declared.violation.Violation.TheVariants as violated
 use Rattle.conf_change.specs.declared.configuration_line.ConfigurationFault.{ConfigurationFault}
-use Rattle.conf_change.specs.declared.configuration_line.ConfigurationFault.TheVariants.{BadConfState, NotAConfiguration}
+use Rattle.conf_change.specs.declared.configuration_line.ConfigurationFault.TheVariants.{BadConfState, NotAConfiguration, NoMemory}
+use Rattle.conf_change.specs.declared.saved_configuration.ConfStateFault.{ConfStateFault}
+use Rattle.conf_change.specs.declared.saved_configuration.ConfStateFault.TheVariants as line_fault
 
 -- an invariant that is broken, with the least id that breaks it
 abbrev pub violation_by : Configuration → Invariant → Option Violation
@@ -47,6 +49,11 @@ unless_violated c (Some violation) = Err (NotAConfiguration violation)
 -- the valid configuration that a ConfState describes, or what is wrong
 abbrev pub valid_of : ConfStateLists → Result Configuration ConfigurationFault
 valid_of saved = unless_violated (named_by saved) (violation_in saved)
+
+-- the error of a text that is not a ConfState line, as the reason why it names no valid configuration
+abbrev pub line_fault_of : ConfStateFault → ConfigurationFault
+line_fault_of line_fault.BadConfState = BadConfState
+line_fault_of line_fault.NoMemory = NoMemory
 
 -- the valid configuration that the ConfState of a line describes, or what is wrong, such as that the line has none
 abbrev pub unless_bad : Option ConfStateLists → Result Configuration ConfigurationFault

@@ -38,6 +38,19 @@ impl From<NoMemory> for ConfigurationFault {
     }
 }
 
+impl From<ConfStateFault> for ConfigurationFault {
+    ghost use Rattle.conf_change.specs.Violation.{line_fault_of};
+
+    ghost from_gives = { λ fault converted. converted ≡ line_fault_of fault };
+
+    fn from(fault: ConfStateFault) -> ConfigurationFault {
+        match fault {
+            ConfStateFault::BadConfState => ConfigurationFault::BadConfState,
+            ConfStateFault::NoMemory => ConfigurationFault::NoMemory,
+        }
+    }
+}
+
 /// Reads a line in the form that `write_conf_state` appends, and returns the valid configuration that it describes
 /// (own). Any other line is refused with the first reason, such as `3 is listed twice`.
 pub fn read_configuration<S: MemberSet>(
@@ -51,8 +64,7 @@ pub fn read_configuration<S: MemberSet>(
 {
     match read_conf_state(alloc, line) {
         Ok(state) => valid_configuration(alloc, &state),
-        Err(ConfStateFault::BadConfState) => Err(ConfigurationFault::BadConfState),
-        Err(ConfStateFault::NoMemory) => Err(ConfigurationFault::NoMemory),
+        Err(fault) => Err(ConfigurationFault::from(fault)),
     }
 }
 

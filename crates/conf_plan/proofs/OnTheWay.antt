@@ -10,6 +10,8 @@ pub mod OrderOfIds
 pub mod InTurn
 pub mod FewestSingleChanges
 pub mod OneAtATimeTolerance
+pub mod DownLeaveFirst
+pub mod FewLearners
 pub mod OneAtATimePath
 pub mod EachStrategy
 pub mod OneChangeEach

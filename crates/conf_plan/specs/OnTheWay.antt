@@ -1,11 +1,12 @@
 -- What is kept on the way of a path (own): quorums, the failures that are tolerated once members have caught up, and
 -- that new voters were learners before (section 4.2.1 of Ongaro's dissertation describes how a cluster stalls).
-use Rattle.std.specs.Prelude.{◌≡◌, ℕ, ◌+◌, ◌≤◌, true, false, not, ◌||◌, IsTrue, List, length, ⊤}
-use Rattle.quorum_sets.specs.Ids.{Ids, has, ids_where}
+use Rattle.std.specs.Prelude.{◌≡◌, ℕ, ◌+◌, ◌≤◌, ◌⊎◌, true, false, not, ◌&&◌, ◌||◌, IsTrue, List, length, ⊤, if◌then◌else◌}
+use Rattle.quorum_sets.specs.Ids.{Ids, has, ascending, size, union, ids_where}
 use Rattle.quorum_sets.specs.Voters.{is_quorum}
 use Rattle.quorum_sets.specs.Overlap.{Overlap}
-use Rattle.quorum_sets.specs.Tolerance.{Tolerates}
-use Rattle.conf_change.specs.Configuration.{Configuration, voters_of, members}
+use Rattle.quorum_sets.specs.Tolerance.{Tolerates, commits_without}
+use Rattle.conf_change.specs.Configuration.{Configuration, voters_of, members, is_member, is_joint}
+use Rattle.conf_change.specs.Outcome.{after_leave}
 use Rattle.conf_change.specs.Progress.{keeps_progress}
 use Rattle.conf_change.specs.declared.step.Step.{Step}
 use Rattle.conf_change.specs.declared.step.Step.TheVariants.{Simple, EnterJoint, LeaveJoint}
@@ -73,6 +74,46 @@ pub record ChangesOneLearnerFirst (before : Configuration) (step : Step) (after 
   pub one : IsOneChange step
   pub learners : (id : ℕ) → has after.incoming id ≡ true → (has before.incoming id || has before.outgoing id) ≡ false → has before.learners id ≡ true
 
+-- ---- voters that are down leave first
+-- the configuration after a joint one is left
+abbrev pub left_first : Configuration → Configuration
+left_first now = if is_joint now then after_leave now else now
+
+-- where an id becomes a member, no id that is down is a voter, unless it is a voter of the target
+abbrev pub AddsNoneBefore : Ids → Configuration → Configuration → Step → Configuration → Type 0
+AddsNoneBefore down target before step after =
+    (joiner id : ℕ) → is_member before joiner ≡ false → is_member after joiner ≡ true
+    → has down id ≡ true → has target.incoming id ≡ false → (has before.incoming id || has before.outgoing id) ≡ false
+
+-- If the configuration after a joint one is left and the target both commit while these ids are down, no id becomes a
+-- member before those of them that are no voters of the target have stopped being voters.
+abbrev pub DownLeaveFirst : Ids → Configuration → List Step → Configuration → Type 0
+DownLeaveFirst down now steps target =
+    IsTrue (commits_without (voters_of (left_first now)) down) → IsTrue (commits_without (voters_of target) down)
+    → IsRunWith (AddsNoneBefore down target) now steps target
+
+-- ---- few learners at a time
+-- the learners, and the voters that are down and learners of the target
+abbrev pub learners_at_first : Ids → Configuration → Configuration → Ids
+learners_at_first down c target = union c.learners (ids_where (λ id. has down id && has target.learners id) (ascending c.incoming))
+
+-- the voters and learners that are learners of the target, and the learners that are down and voters of the target
+abbrev pub learners_that_stay : Ids → Configuration → Configuration → Ids
+learners_that_stay down c target =
+    union (ids_where (λ id. has c.incoming id || has c.learners id) (ascending target.learners))
+    (ids_where (λ id. has down id && has target.incoming id) (ascending c.learners))
+
+-- the configuration has as few learners as one of these three: those at first, those of the target, and one more than
+-- those that stay
+abbrev pub HasFewLearners : Ids → Configuration → Configuration → Configuration → Type 0
+HasFewLearners down c target d =
+    (size d.learners ≤ size (learners_at_first down c target))
+    ⊎ ((size d.learners ≤ size target.learners) ⊎ (size d.learners ≤ size (learners_that_stay down c target) + 1))
+
+-- no configuration on the way has more learners: at most one if neither end has any
+abbrev pub HasFewLearnersAtATime : Ids → Configuration → List Step → Configuration → Type 0
+HasFewLearnersAtATime down now steps target = EachOnTheWay (HasFewLearners down (left_first now) target) now steps target
+
 -- ---- what each strategy promises
 -- the steps preserve the progress of each id that some other run to the target preserves
 abbrev pub PreservesAll : Configuration → List Step → Configuration → Type 0
@@ -103,7 +144,8 @@ pub record LearnersFirstPromises (now : Configuration) (steps : List Step) (targ
 -- Each step changes one member or leaves a joint configuration, and each new voter was a learner with progress before.
 -- No other run of steps as in ChangesOneLearnerFirst is shorter. No configuration on the way tolerates fewer failures
 -- than the weaker end while these ids are down. No id that has to catch up is a voter, what another run preserves is
--- preserved, and the quorums before and after each step overlap.
+-- preserved, and the quorums before and after each step overlap. Voters that are down leave before an id becomes a
+-- member, and few ids are learners at a time.
 pub record OneAtATimePromises (down : Ids) (now : Configuration) (steps : List Step) (target : Configuration) : Type 0 where
   pub run : IsRunWith ChangesOneLearnerFirst now steps target
   pub least : (other : List Step) → IsRunWith ChangesOneLearnerFirst now other target → length steps ≤ length other
@@ -112,3 +154,5 @@ pub record OneAtATimePromises (down : Ids) (now : Configuration) (steps : List S
   pub caught_up : IsRunWith NoVoterCatchesUp now steps target
   pub preserving : PreservesAll now steps target
   pub overlap : IsRunWith (λ before step after. Overlap (voters_of before) (voters_of after)) now steps target
+  pub down_first : DownLeaveFirst down now steps target
+  pub few_learners : HasFewLearnersAtATime down now steps target

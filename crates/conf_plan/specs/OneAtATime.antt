@@ -1,9 +1,10 @@
 -- The path from a configuration that is not joint, on which one member changes at a time, as etcd's server changes its
 -- members (section 4.1 of Ongaro's dissertation). A server adds no member while a voter cannot be reached, so voters
--- that are down leave first (own).
+-- that are down leave first; and it takes one learner at a time, so learners leave or are promoted before others come
+-- (own).
 use Rattle.std.specs.Prelude.{ℕ, Bool, not, ◌&&◌, ◌||◌, List, [], ◌∷◌, ◌++◌, flat_map, option_map, if◌then◌else◌}
 use Rattle.std.specs.List.{cons_option}
-use Rattle.quorum_sets.specs.Ids.{Ids, no_ids, has, ascending, union, ids_where}
+use Rattle.quorum_sets.specs.Ids.{Ids, no_ids, has, ascending, ids_where}
 use Rattle.quorum_sets.specs.Tolerance.{commits_without}
 use Rattle.conf_change.specs.Configuration.{Configuration, voters_of}
 use Rattle.conf_change.specs.declared.change.Kind.{Kind}
@@ -25,18 +26,29 @@ steps_of c target id =
     ++ cons_option (option_map (λ kind. one_change kind id) (kind_of_move c target.incoming target.learners id)) []
 
 -- ---- the order of the ids
--- the ids that have to become incoming voters, of those that pass a test, ascending
+-- the learners among some ids and then the others, each part ascending
+abbrev pub learners_first : Ids → List ℕ → List ℕ
+learners_first learners ids = ascending (ids_where (has learners) ids) ++ ascending (ids_where (λ id. not (has learners id)) ids)
+
+-- the ids that have to become incoming voters, of those that pass a test; learners come first, since etcd's server takes
+-- one learner at a time
 abbrev pub joining : (ℕ → Bool) → Configuration → Configuration → List ℕ
-joining passes c target = ascending (ids_where (λ id. not (has c.incoming id) && passes id) (ascending target.incoming))
+joining passes c target =
+    learners_first c.learners (ascending (ids_where (λ id. not (has c.incoming id) && passes id) (ascending target.incoming)))
 
 -- the ids that have to stop being incoming voters, of those that pass a test, ascending
 abbrev pub retiring : (ℕ → Bool) → Configuration → Configuration → List ℕ
 retiring passes c target = ascending (ids_where (λ id. not (has target.incoming id) && passes id) (ascending c.incoming))
 
--- the learners that are incoming voters neither before nor after
-abbrev pub other_learners : Configuration → Configuration → Ids
-other_learners c target =
-    ids_where (λ id. not (has c.incoming id || has target.incoming id)) (ascending (union c.learners target.learners))
+-- the learners that are neither voters nor learners of the target, ascending
+abbrev pub leaving_learners : Configuration → Configuration → List ℕ
+leaving_learners c target =
+    ascending (ids_where (λ id. not (has c.incoming id || has target.incoming id || has target.learners id)) (ascending c.learners))
+
+-- the learners of the target that are neither voters nor learners before, ascending
+abbrev pub new_learners : Configuration → Configuration → List ℕ
+new_learners c target =
+    ascending (ids_where (λ id. not (has c.incoming id || has target.incoming id || has c.learners id)) (ascending target.learners))
 
 -- the ids of two lists in turn; when one list ends, the rest of the other follows
 abbrev pub in_turn : List ℕ → List ℕ → List ℕ
@@ -44,13 +56,14 @@ in_turn [] retires = retires
 in_turn (id ∷ joins) [] = id ∷ joins
 in_turn (id ∷ joins) (other ∷ retires) = id ∷ other ∷ in_turn joins retires
 
--- the order: voters that are down retire, the others join and retire in turn, those that are down join, and the other
--- learners follow
+-- the order: voters that are down retire, learners leave, the others join and retire in turn, those that are down join,
+-- and new learners follow
 abbrev pub order : Ids → Configuration → Configuration → List ℕ
 order down c target =
     let up : ℕ → Bool = λ id. not (has down id) in
     retiring (has down) c target
-    ++ (in_turn (joining up c target) (retiring up c target) ++ (joining (has down) c target ++ ascending (other_learners c target)))
+    ++ (leaving_learners c target
+    ++ (in_turn (joining up c target) (retiring up c target) ++ (joining (has down) c target ++ new_learners c target)))
 
 -- the ids that are down, if both configurations commit without them; none otherwise, since then no order helps
 abbrev pub down_in_order : Ids → Configuration → Configuration → Ids

@@ -17,7 +17,7 @@ ghost use Rattle.conf_plan.specs.declared.strategy.Strategy.{Strategy};
 ghost use Rattle.conf_plan.specs.declared.strategy.Strategy.TheVariants.{Shortest};
 ghost use Rattle.conf_plan.specs.declared.text.PlanTextFault.{PlanTextFault};
 ghost use Rattle.conf_plan.specs.Best.{times_named, is_in, HasSameRoles, IsBest};
-ghost use Rattle.conf_plan.specs.OneChangeEach.{one_change_each};
+ghost use Rattle.conf_plan.specs.OneChangeEach.{LeadsChangeByChange};
 ghost use Rattle.conf_plan.specs.PathBy.{has_path, path_by, KeepsPromises};
 ghost use Rattle.conf_plan.specs.Planned.{planned};
 ghost use Rattle.conf_plan.specs.PlanSteps.{HasU64Ids, IsPlan};
@@ -61,10 +61,11 @@ pub fn paths_keep_promises()
 {}
 
 /// Each path leads to the target, too, if each change of its simple steps is a step of its own, as it is proposed to
-/// etcd's raft.
+/// etcd's raft. Each configuration on that way has the voters of one on the way of the path, so the quorums and the
+/// tolerance that the path keeps are kept there, too.
 pub fn one_change_each_leads()
     ensures { (strategy : Strategy) (down : Ids) (now target : Configuration) → IsValidWithVoter now → IsValidWithVoter target
-        → has_path strategy now target ≡ true → IsRun now (one_change_each (path_by strategy down now target)) target }
+        → has_path strategy now target ≡ true → LeadsChangeByChange now (path_by strategy down now target) target }
 {}
 
 /// If a step keeps a member's progress, a changer that takes the step keeps the member's match and next.

@@ -13,12 +13,21 @@
 //! simple l4, simple v4, simple r2     4 joins, and 2 retires
 //! simple l5, simple v5                5 joins
 //! ```
-ghost use Rattle.std.specs.Prelude.{◌≡◌, [], ◌∷◌, ◌&&◌, flat_map, OnOk};
+//!
+//! etcd's server takes one learner at a time. So learners leave, or are promoted, before others come. From (1 2 3) with
+//! the learners 8 and 9 to (1 2 3 4 9):
+//!
+//! ```text
+//! simple r8                           8 leaves
+//! simple v9                           9 joins, which is a learner already
+//! simple l4, simple v4                4 joins
+//! ```
+ghost use Rattle.std.specs.Prelude.{◌≡◌, [], ◌∷◌, ◌++◌, ◌&&◌, flat_map, IfOk, OnOk};
 ghost use Rattle.std.specs.List.{cons_option};
 ghost use Rattle.quorum_sets.specs.Ids.{ascending};
 ghost use Rattle.quorum_sets.specs.Tolerance.{commits_without};
 ghost use Rattle.conf_change.specs.Configuration.{voters_of};
-ghost use Rattle.conf_plan.specs.OneAtATime.{steps_of, in_turn, order, one_at_a_time_from_single};
+ghost use Rattle.conf_plan.specs.OneAtATime.{steps_of, learners_first, in_turn, order, one_at_a_time_from_single};
 ghost use Rattle.conf_plan.specs.Planned.{single_with};
 ghost use Rattle.conf_plan.specs.AddedSteps.{IsAdded};
 
@@ -26,8 +35,9 @@ use crate::moves::kind_of_move;
 use crate::one_change_each::add_change;
 use crate::picked::picked;
 use crate::single::Single;
-use conf_change::{Config, Kind, Step, union};
-use quorum_sets::{MemberSet, NoMemory, commits_without};
+use conf_change::{Config, Kind, Step};
+use quorum_sets::{MemberSet, NoMemory, add_ids, commits_without};
+use smallvec::SmallVec;
 use std::alloc::Global;
 
 // Appends the steps from a configuration that is not joint to the target, in the order for the ids that are down, if
@@ -58,8 +68,7 @@ fn both_commit<S: MemberSet>(alloc: Global, start: &Single<S>, target: &Config<S
         && commits_without((&target.incoming, &target.outgoing), down)
 }
 
-// Appends the steps of each id in the order for these ids that are down. The voters change first, and then the learners
-// that are voters neither before nor after.
+// Appends the steps of each id in the order for these ids that are down.
 fn add_in_order<S: MemberSet>(
     alloc: Global,
     steps: &mut Vec<Step>,
@@ -69,86 +78,105 @@ fn add_in_order<S: MemberSet>(
 ) -> Result<(), NoMemory>
     ensures { OnOk result (IsAdded steps.old.items (flat_map (steps_of (single_with (S.ids start.now.incoming.now) (S.ids start.now.learners.now)) target.now) (order (S.ids down.now) (single_with (S.ids start.now.incoming.now) (S.ids start.now.learners.now)) target.now)) steps.new.items) }
 {
+    let ids = ids_in_order(alloc, start, target, down)?;
+    for id in ids.as_slice() {
+        add_steps_of(alloc, steps, start, target, *id)?;
+    }
+    Ok(())
+}
+
+// The ids in the order in which they get their roles in the target.
+fn ids_in_order<S: MemberSet>(
+    alloc: Global,
+    start: &Single<S>,
+    target: &Config<S>,
+    down: &S,
+) -> Result<SmallVec<u64, 16>, NoMemory>
+    ensures { IfOk result (λ ids. ids.items ≡ order (S.ids down.now) (single_with (S.ids start.now.incoming.now) (S.ids start.now.learners.now)) target.now) }
+{
+    let retiring_down = picked(
+        alloc,
+        start.incoming,
+        |id| !target.incoming.contains(id) && down.contains(id),
+    )?;
+    let leaving = picked(
+        alloc,
+        start.learners,
+        |id| !(start.incoming.contains(id)
+            || target.incoming.contains(id)
+            || target.learners.contains(id)),
+    )?;
     let joining_up = picked(
         alloc,
         &target.incoming,
         |id| !start.incoming.contains(id) && !down.contains(id),
-    )?;
-    let joining_down = picked(
-        alloc,
-        &target.incoming,
-        |id| !start.incoming.contains(id) && down.contains(id),
     )?;
     let retiring_up = picked(
         alloc,
         start.incoming,
         |id| !target.incoming.contains(id) && !down.contains(id),
     )?;
-    let retiring_down = picked(
+    let joining_down = picked(
         alloc,
-        start.incoming,
-        |id| !target.incoming.contains(id) && down.contains(id),
+        &target.incoming,
+        |id| !start.incoming.contains(id) && down.contains(id),
     )?;
-    let learners = union(start.learners, &target.learners)?;
-    let other_learners = picked(
+    let new_learners = picked(
         alloc,
-        &learners,
-        |id| !(start.incoming.contains(id) || target.incoming.contains(id)),
+        &target.learners,
+        |id| !(start.incoming.contains(id)
+            || target.incoming.contains(id)
+            || start.learners.contains(id)),
     )?;
-    add_steps_of_all(alloc, steps, start, target, &retiring_down)?;
-    add_turns(alloc, steps, start, target, &joining_up, &retiring_up)?;
-    add_steps_of_all(alloc, steps, start, target, &joining_down)?;
-    add_steps_of_all(alloc, steps, start, target, &other_learners)
+    let mut joins = SmallVec::new(alloc);
+    add_learners_first(alloc, &mut joins, &joining_up, start.learners)?;
+    let mut ids = SmallVec::new(alloc);
+    add_ids(&mut ids, &retiring_down)?;
+    add_ids(&mut ids, &leaving)?;
+    add_in_turn(&mut ids, joins.as_slice(), &retiring_up)?;
+    add_learners_first(alloc, &mut ids, &joining_down, start.learners)?;
+    add_ids(&mut ids, &new_learners)?;
+    Ok(ids)
 }
 
-// Appends the steps of ids that join and retire in turn; when one list ends, the rest of the other follows.
-fn add_turns<S: MemberSet>(
+// Appends the learners among these ids and then the others, each part ascending.
+fn add_learners_first<S: MemberSet>(
     alloc: Global,
-    steps: &mut Vec<Step>,
-    start: &Single<S>,
-    target: &Config<S>,
-    joining: &S,
-    retiring: &S,
-) -> Result<(), NoMemory>
-    ensures { OnOk result (IsAdded steps.old.items (flat_map (steps_of (single_with (S.ids start.now.incoming.now) (S.ids start.now.learners.now)) target.now) (in_turn (ascending (S.ids joining.now)) (ascending (S.ids retiring.now)))) steps.new.items) }
-{
-    for index in 0..joining.len().max(retiring.len()) {
-        add_steps_if_any(alloc, steps, start, target, joining.at(index))?;
-        add_steps_if_any(alloc, steps, start, target, retiring.at(index))?;
-    }
-    Ok(())
-}
-
-// Appends the steps of these ids, ascending.
-fn add_steps_of_all<S: MemberSet>(
-    alloc: Global,
-    steps: &mut Vec<Step>,
-    start: &Single<S>,
-    target: &Config<S>,
+    list: &mut SmallVec<u64, 16>,
     ids: &S,
+    learners: &S,
 ) -> Result<(), NoMemory>
-    ensures { OnOk result (IsAdded steps.old.items (flat_map (steps_of (single_with (S.ids start.now.incoming.now) (S.ids start.now.learners.now)) target.now) (ascending (S.ids ids.now))) steps.new.items) }
+    ensures { OnOk result (list.new.items ≡ list.old.items ++ learners_first (S.ids learners.now) (ascending (S.ids ids.now))) }
 {
-    for index in 0..ids.len() {
-        add_steps_if_any(alloc, steps, start, target, ids.at(index))?;
+    let learning = picked(alloc, ids, |id| learners.contains(id))?;
+    let others = picked(alloc, ids, |id| !learners.contains(id))?;
+    add_ids(list, &learning)?;
+    add_ids(list, &others)
+}
+
+// Appends ids that join and ids that retire in turn; when one list ends, the rest of the other follows.
+fn add_in_turn<S: MemberSet>(
+    list: &mut SmallVec<u64, 16>,
+    joins: &[u64],
+    retires: &S,
+) -> Result<(), NoMemory>
+    ensures { OnOk result (list.new.items ≡ list.old.items ++ in_turn joins.now (ascending (S.ids retires.now))) }
+{
+    for index in 0..joins.len().max(retires.len()) {
+        add_if_any(list, joins.get(index).copied())?;
+        add_if_any(list, retires.at(index))?;
     }
     Ok(())
 }
 
-// Appends the steps of an id, if there is one.
-fn add_steps_if_any<S: MemberSet>(
-    alloc: Global,
-    steps: &mut Vec<Step>,
-    start: &Single<S>,
-    target: &Config<S>,
-    id: Option<u64>,
-) -> Result<(), NoMemory>
-    ensures { OnOk result (IsAdded steps.old.items (flat_map (steps_of (single_with (S.ids start.now.incoming.now) (S.ids start.now.learners.now)) target.now) (cons_option id [])) steps.new.items) }
+// Appends an id, if there is one.
+fn add_if_any(list: &mut SmallVec<u64, 16>, id: Option<u64>) -> Result<(), NoMemory>
+    ensures { OnOk result (list.new.items ≡ list.old.items ++ cons_option id []) }
 {
-    match id {
-        Some(id) => add_steps_of(alloc, steps, start, target, id),
-        None => Ok(()),
+    if let Some(id) = id {
+        list.push(id)?;
     }
+    Ok(())
 }
 
 // Appends the steps by which an id gets its role in the target. If it becomes a voter and is not a member, it is a

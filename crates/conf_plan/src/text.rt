@@ -6,11 +6,11 @@
 //! enter-joint autoleave=false r1 r2 v4 v5
 //! leave-joint
 //! ```
-ghost use Rattle.std.specs.Prelude.{◌≡◌, ◌⊎◌, ◌<◌, ◌≤◌, [], ◌∷◌, ◌++◌, List, Ok, Err, length, map, flat_map, IfOk, IfErr, OnOk, OnErr};
+ghost use Rattle.std.specs.Prelude.{◌≡◌, ◌⊎◌, ◌<◌, ◌≤◌, [], ◌∷◌, ◌++◌, List, None, Ok, Err, length, map, flat_map, IfOk, IfErr, IsErr, IsSome, OnOk, OnErr};
 ghost use Rattle.std.specs.List.{join_with_byte};
 ghost use Rattle.ascii_text.specs.Lines.{full_lines};
 ghost use Rattle.ascii_text.specs.Tokens.{tokens_in};
-ghost use Rattle.conf_change.specs.ChangeList.{letter_of};
+ghost use Rattle.conf_change.specs.ChangeList.{bad_token, letter_of};
 ghost use Rattle.conf_change.specs.Text.{Extends};
 ghost use Rattle.conf_change.specs.declared.step.Step.{Step};
 ghost use Rattle.conf_plan.specs.PlanText.{ParsesToPath, ParsesToPlan, HasPathFault, HasPlanFault, command_tokens, change_text, spaced_change, line_and_newline, plan_text};
@@ -336,7 +336,17 @@ fn read_list(alloc: Global, text: &[u8]) -> Result<Option<Changes>, NoMemory>
 {
     match read_changes(alloc, text) {
         Ok(list) => Ok(Some(Changes::from(list))),
-        Err(TokenFault::NoMemory) => Err(NoMemory),
-        Err(_) => Ok(None),
+        Err(fault) => no_list(fault),
+    }
+}
+
+// No list, since a token is not parsed as a change, unless memory ran out.
+fn no_list(fault: TokenFault<'_>) -> Result<Option<Changes>, NoMemory>
+    ensures bad { IsSome (bad_token fault.entry) → result ≡ Ok None }
+    ensures memory { bad_token fault.entry ≡ None → IsErr result }
+{
+    match fault {
+        TokenFault::NoMemory => Err(NoMemory),
+        _ => Ok(None),
     }
 }

@@ -12,7 +12,7 @@ use Rattle.conf_change.specs.declared.floor.Floor.TheVariants.{One}
 use Rattle.conf_change.specs.Configuration.{Configuration, has_voter}
 use Rattle.conf_change.specs.declared.step.Step.{Step}
 use Rattle.conf_plan.specs.Best.{IsBest}
-use Rattle.conf_plan.specs.OneChangeEach.{one_change_each}
+use Rattle.conf_plan.specs.OneChangeEach.{one_change_each, LeadsChangeByChange}
 use Rattle.conf_plan.specs.PathBy.{has_path, KeepsPromises}
 use Rattle.conf_plan.specs.PlanSteps.{HasU64Ids, IsPlan}
 use Rattle.conf_session.specs.SessionState.{SessionState, new_session, current}
@@ -82,6 +82,10 @@ named_pairs (first ∷ second ∷ lines) = pair_before (pair_at first second) (n
 abbrev pub pairs_in : List ℕ → List (Configuration × Configuration)
 pairs_in input = named_pairs (configuration_lines (numbered 1 (listing_of input).items))
 
+-- the pair that the values of --from and --to denote, if they denote one
+abbrev pub pairs_in_texts : List ℕ → List ℕ → List (Configuration × Configuration)
+pairs_in_texts from to = pair_before (pair_of_texts from to) []
+
 -- the replies of `plan` to pairs in turn, the first of which has this number and is answered in this session
 abbrev pub texts_from : PlanOptions → SessionState → ℕ → List (Configuration × Configuration) → List (List ℕ)
 texts_from options session number [] = []
@@ -128,10 +132,12 @@ pub record PrintedPlanIsBest : Type 0 where
 
 -- Steps that keep what the strategy promises. The stages, of which a table shows each, are the configurations on the
 -- way, so no step is refused, and the last one is the target. So are those of the steps of one change each, which JSON
--- shows; its lines lead etcd's raft to the target.
+-- shows: they have voters of configurations on the way, so what the path keeps of quorums and tolerance, they keep. The
+-- lines of JSON lead etcd's raft to the target.
 pub record LeadsAsPromised (options : PlanOptions) (number : ℕ) (now : Configuration) (steps : List Step) (target : Configuration) : Type 0 where
   pub promised : KeepsPromises options.strategy (ids_down options.down) now steps target
   pub on_the_way : AreOnTheWay (stages now steps) steps target
+  pub change_by_change : LeadsChangeByChange now steps target
   pub single_changes : AreOnTheWay (stages now (one_change_each steps)) (one_change_each steps) target
   pub lines : LinesLead now now (path_json number now steps options.down) target
 
@@ -171,11 +177,17 @@ pub record HasU64Pair (options : PlanOptions) (pair : Configuration × Configura
   pub now : HasU64Lists pair.0
   pub steps : (steps : List Step) → path_between options pair.0 pair.1 ≡ Ok steps → All HasU64Ids steps
 
--- The scripts that `plan` prints for the pairs of an input are one script, which checks clean without options. A
--- session that runs it takes the steps of each path, from the first configuration of the pair to the second.
--- (`HasU64Pair` holds of each pair that is read and of each path that is made.)
+-- The text is a script that checks clean without options, and a session that runs it takes the steps of the path of each
+-- pair, from its first configuration to the second. (`HasU64Pair` holds of each pair that is read and of each path that
+-- is made.)
+pub record IsScriptOf (options : PlanOptions) (pairs : List (Configuration × Configuration)) (text : List ℕ) : Type 0 where
+  pub clean : (checked text 100 One).outcome ≡ Ok Clean
+  pub leads : All (HasU64Pair options) pairs → LeadsThrough options default_session (directives_of (script_of text).items) pairs
+
+-- The scripts that `plan` prints for the pairs of an input are one script, which leads through the pairs. So does what it
+-- prints for the values of --from and --to.
 pub record PlanScriptLeads : Type 0 where
-  pub clean : (options : PlanOptions) (input : List ℕ) → options.output ≡ ScriptOutput → length (planned_output options input).text ≤ longest_input →
-      (checked (planned_output options input).text 100 One).outcome ≡ Ok Clean
-  pub leads : (options : PlanOptions) (input : List ℕ) → options.output ≡ ScriptOutput → All (HasU64Pair options) (pairs_in input) → length (planned_output options input).text ≤ longest_input →
-      LeadsThrough options default_session (directives_of (script_of (planned_output options input).text).items) (pairs_in input)
+  pub each : (options : PlanOptions) (input : List ℕ) → options.output ≡ ScriptOutput → length (planned_output options input).text ≤ longest_input →
+      IsScriptOf options (pairs_in input) (planned_output options input).text
+  pub texts : (options : PlanOptions) (from to : List ℕ) → options.output ≡ ScriptOutput → length (planned_texts options from to).text ≤ longest_input →
+      IsScriptOf options (pairs_in_texts from to) (planned_texts options from to).text

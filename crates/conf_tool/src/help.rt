@@ -125,7 +125,9 @@ pub(crate) const REWRITE: ModeHelp = ModeHelp {
     name: "rewrite",
     about: "Runs a script and prints it with its actual output",
     after: "Runs a script (see confscript help check), and prints it again with the actual
-output of each directive in place of the expected one. The result checks clean.
+output of each directive in place of the expected one. The result checks clean
+with the same options, if it is shorter than 1 GiB and the script does not end
+in several blank lines.
 
 For the script
   # the first voter
@@ -201,7 +203,8 @@ Outputs:
   script  a script that restores the current configuration and takes the steps;
           those of all pairs are one script
   table   who votes and learns at each step, and how many failures it tolerates
-  json    an object for each step, with what is proposed to etcd for it
+  json    an object for each change that is proposed to etcd; each change of a
+          simple step is one
 
 A plan does not see logs: a new member begins with an empty one. From [1 2 3] to
 [3 4 5] the shortest plan commits nothing until 4 or 5 has caught up.

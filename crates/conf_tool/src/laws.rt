@@ -48,8 +48,8 @@ pub fn undo_script_leads_back()
     one_list_per_text();
 }
 
-/// By default the mode `plan` prints, in each form of the output, the best plan between two configurations with voters
-/// (own).
+/// By default the mode `plan` prints, in each form of the output, the best plan between two configurations with voters.
+/// JSON shows each change of its simple steps as a step (own).
 pub fn printed_plan_is_best()
     ensures { PrintedPlanIsBest }
 {
@@ -58,7 +58,8 @@ pub fn printed_plan_is_best()
 
 /// By each strategy, and in each form of the output, the mode `plan` prints a path that keeps what the strategy
 /// promises, such as that no configuration on the way tolerates fewer failures than the weaker end. The stages that a
-/// table and JSON show are the configurations on the way, the last of which is the target (own).
+/// table shows are the configurations on the way, the last of which is the target. JSON shows the steps change by change:
+/// its stages lead to the target, and each has the voters of a configuration on the way (own).
 pub fn printed_path_keeps_promises()
     ensures { PrintedPathKeepsPromises }
 {
@@ -68,9 +69,10 @@ pub fn printed_path_keeps_promises()
     json_lines_lead_to_the_target();
 }
 
-/// The scripts that the mode `plan` prints for any number of pairs are one script, which checks clean if it is within
-/// the input limit. For each pair that has a path, a session that runs it restores the first configuration, takes the
-/// steps of the path, one for each directive, and is in the second configuration then (own).
+/// The scripts that the mode `plan` prints for any number of pairs, or for that of `--from` and `--to`, are one script,
+/// which checks clean if it is within the input limit. For each pair that has a path, a session that runs it restores the
+/// first configuration, takes the steps of the path, one for each directive, and is in the second configuration then
+/// (own).
 pub fn plan_script_leads()
     ensures { PlanScriptLeads }
 {

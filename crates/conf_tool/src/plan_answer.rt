@@ -1,6 +1,6 @@
 //! What the mode `plan` answers: the plan between two configurations, or why there is none.
 ghost use Rattle.std.specs.Prelude.{◌≡◌, ◌↔◌, true, false, Err, option_map, IfOk, OnOk, IsOkUnless};
-ghost use Rattle.conf_change.specs.Configuration.{has_voter, is_valid, is_restorable};
+ghost use Rattle.conf_change.specs.Configuration.{has_voter, is_valid};
 ghost use Rattle.conf_plan.specs.PathBy.{has_path, path_by};
 ghost use Rattle.plan_output.specs.Steps.{ids_down, stall_note};
 ghost use Rattle.conf_tool.specs.PlanAnswer.{no_plan_comment, no_plan_text, path_status, path_text, plan_text_between, plan_status, session_as, session_between};
@@ -85,7 +85,6 @@ fn path_answer(
     now: &Config<SessionIds>,
     path: &Path,
 ) -> Result<(Vec<u8>, Status), ToolFault>
-    requires { is_restorable now.now ≡ true }
     ensures text { IfOk result (λ answer. answer.0.items ≡ path_text options.now session.old number now.now path.now) }
     ensures session { OnOk result (session.new ≡ session_as options.now.output session.old options.now.down now.now path.now) }
     ensures status { IfOk result (λ answer. answer.1 ≡ path_status options.now.down now.now path.now) }
@@ -123,7 +122,6 @@ fn path_text(
     path: &Path,
     note: Option<&Vec<u8>>,
 ) -> Result<Vec<u8>, NoMemory>
-    requires restorable { is_restorable now.now ≡ true }
     requires note { option_map (λ note. note.now.items) note ≡ stall_note options.now.down now.now path.now }
     ensures text { IfOk result (λ text. text.items ≡ path_text options.now session.old number now.now path.now) }
     ensures session { OnOk result (session.new ≡ session_as options.now.output session.old options.now.down now.now path.now) }

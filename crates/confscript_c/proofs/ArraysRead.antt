@@ -11,7 +11,6 @@ use Rattle.conf_change.specs.Outcome.{Outcome, outcome}
 use Rattle.conf_change.specs.Transition.{step_of}
 use Rattle.conf_change.specs.Violation.{valid_of}
 use Rattle.conf_change.specs.declared.change.Change.{Change}
-use Rattle.conf_change.specs.declared.step.Step.{Step}
 use Rattle.conf_change.specs.declared.step.StepKind.{StepKind}
 use Rattle.conf_plan.specs.OnTheWay.{catching_up}
 use Rattle.conf_change.specs.declared.configuration_line.ConfigurationFault.{ConfigurationFault}
@@ -112,26 +111,32 @@ IsRestored-from_result numbers out e = by_read (configuration_of numbers) refl e
     by_read (Ok c) read e = record { c = c; read = read; written = cc }
     by_read (Err why) read e = cc
 
-pub record IsStepped (numbers out : List ℕ) : Type 0 where
+pub record IsStepped (numbers : List ℕ) (number : ℕ) (changes : List NumberedChange) (out : List ℕ) : Type 0 where
   pub before : Configuration
-  pub step : Step
+  pub made : List Change
+  pub kind : StepKind
   pub after : Configuration
-  pub read : configuration_of numbers ≡ Ok before
-  pub taken : outcome before step ≡ Ok after
-  pub written : out ≡ numbers_of after (catching_up before step after)
+  pub begins : configuration_of numbers ≡ Ok before
+  pub changes_read : changes_from 1 changes ≡ Ok made
+  pub kind_read : step_kind_at number made ≡ Ok kind
+  pub taken : outcome before (step_of kind made) ≡ Ok after
+  pub written : out ≡ numbers_of after (catching_up before (step_of kind made) after)
 
-pub IsStepped-from_result : (numbers out : List ℕ) (number : ℕ) (changes : List NumberedChange) → step_result numbers number changes ≡ Ok out → IsStepped numbers out
-IsStepped-from_result numbers out number changes e = by_read (configuration_of numbers) (changes_from 1 changes) refl e
+pub IsStepped-from_result : (numbers out : List ℕ) (number : ℕ) (changes : List NumberedChange) → step_result numbers number changes ≡ Ok out → IsStepped numbers number changes out
+IsStepped-from_result numbers out number changes e = by_read (configuration_of numbers) (changes_from 1 changes) refl refl e
   where
-    by_outcome : (before : Configuration) (step : Step) (o : Outcome) → configuration_of numbers ≡ Ok before → outcome before step ≡ o → array_after before step o ≡ Ok out → IsStepped numbers out
-    by_outcome before step (Ok after) read taken e = record { before = before; step = step; after = after; read = read; taken = taken; written = cc }
-    by_outcome before step (Err why) read taken e = cc
+    by_outcome : (before : Configuration) (made : List Change) (kind : StepKind) (o : Outcome) → configuration_of numbers ≡ Ok before → changes_from 1 changes ≡ Ok made → step_kind_at number made ≡ Ok kind
+        → outcome before (step_of kind made) ≡ o → array_after before (step_of kind made) o ≡ Ok out → IsStepped numbers number changes out
+    by_outcome before made kind (Ok after) begins changes_read kind_read taken e =
+        record { before = before; made = made; kind = kind; after = after; begins = begins; changes_read = changes_read; kind_read = kind_read; taken = taken; written = cc }
+    by_outcome before made kind (Err why) begins changes_read kind_read taken e = cc
 
-    by_kind : (before : Configuration) (made : List Change) (k : Result StepKind Answer) → configuration_of numbers ≡ Ok before → stepped before made k ≡ Ok out → IsStepped numbers out
-    by_kind before made (Ok kind) read e = by_outcome before (step_of kind made) (outcome before (step_of kind made)) read refl e
-    by_kind before made (Err why) read e = cc
+    by_kind : (before : Configuration) (made : List Change) (k : Result StepKind Answer) → configuration_of numbers ≡ Ok before → changes_from 1 changes ≡ Ok made → step_kind_at number made ≡ k
+        → stepped before made k ≡ Ok out → IsStepped numbers number changes out
+    by_kind before made (Ok kind) begins changes_read kind_read e = by_outcome before made kind (outcome before (step_of kind made)) begins changes_read kind_read refl e
+    by_kind before made (Err why) begins changes_read kind_read e = cc
 
-    by_read : (r : Result Configuration Answer) (made : Result (List Change) Answer) → configuration_of numbers ≡ r → step_result_of number r made ≡ Ok out → IsStepped numbers out
-    by_read (Ok before) (Ok made) read e = by_kind before made (step_kind_at number made) read e
-    by_read (Ok before) (Err why) read e = cc
-    by_read (Err why) made read e = cc
+    by_read : (r : Result Configuration Answer) (m : Result (List Change) Answer) → configuration_of numbers ≡ r → changes_from 1 changes ≡ m → step_result_of number r m ≡ Ok out → IsStepped numbers number changes out
+    by_read (Ok before) (Ok made) begins changes_read e = by_kind before made (step_kind_at number made) begins changes_read refl e
+    by_read (Ok before) (Err why) begins changes_read e = cc
+    by_read (Err why) m begins changes_read e = cc

@@ -6,6 +6,8 @@ use Rattle.conf_change.specs.ConfStateLine.{conf_state_in, conf_state_text}
 use Rattle.conf_change.specs.Outcome.{Outcome, outcome}
 use Rattle.conf_change.specs.declared.refused.Refused.{Refused}
 use Rattle.conf_change.specs.declared.refused.Refused.TheVariants as refused
+use Rattle.conf_change.specs.declared.restore.RestoreFault.{RestoreFault}
+use Rattle.conf_change.specs.declared.restore.RestoreFault.TheVariants as unrestored
 use Rattle.conf_change.specs.declared.step.Step.{Step}
 use Rattle.conf_plan.specs.PlanCode.{path_in}
 use Rattle.conf_plan.specs.declared.text.PlanTextFault.{PlanTextFault}
@@ -14,7 +16,7 @@ use Rattle.confscript_c.specs.Answer.{status_answer, no_memory}
 use Rattle.confscript_c.specs.InputLines.{read_as}
 use Rattle.confscript_c.specs.Written.{OutResult}
 use Rattle.confscript_c.specs.declared.answer.Answer.{Answer}
-use Rattle.confscript_c.specs.declared.status.Status.TheVariants.{NotAConfiguration, BadLine, TooManySteps, AlreadyJoint, ZeroVoterJoint, NotJoint, SimpleInJoint, RemovedAllVoters, MoreThanOneVoter}
+use Rattle.confscript_c.specs.declared.status.Status.TheVariants.{NotAConfiguration, BadLine, AlreadyJoint, ZeroVoterJoint, NotJoint, SimpleInJoint, RemovedAllVoters, MoreThanOneVoter}
 
 -- the configuration that was restored from line 1, or the answer if none was
 abbrev pub restored_one : Option Configuration → Result Configuration Answer
@@ -26,10 +28,16 @@ abbrev pub restored_of : Result ConfStateLists Answer → Result Configuration A
 restored_of (Err why) = Err why
 restored_of (Ok saved) = restored_one (restored saved)
 
--- the answer for a text that is not a path; no path has too many steps
+-- the answer for a configuration that is not restored from line 1
+abbrev pub restore_answer : RestoreFault → Answer
+restore_answer unrestored.NotAConfiguration = status_answer NotAConfiguration 1
+restore_answer unrestored.NoMemory = no_memory
+
+-- the answer for a text that is not a path; a path may have any number of steps, so the fifth line is never refused for
+-- being one
 abbrev pub text_fault_answer : PlanTextFault → Answer
 text_fault_answer (fault.BadLine number) = status_answer BadLine number
-text_fault_answer fault.TooManySteps = status_answer TooManySteps 0
+text_fault_answer fault.TooManySteps = status_answer BadLine 5
 text_fault_answer fault.NoMemory = no_memory
 
 -- the answer for a refused step with this number

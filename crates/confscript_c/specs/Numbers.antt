@@ -12,7 +12,7 @@ use Rattle.conf_change.specs.declared.violation.Violation.TheVariants as violate
 use Rattle.confscript_c.specs.Answer.{status_answer, no_memory}
 use Rattle.confscript_c.specs.Written.{OutResult}
 use Rattle.confscript_c.specs.declared.answer.Answer.{Answer}
-use Rattle.confscript_c.specs.declared.status.Status.TheVariants.{RepeatedId, NoVoter, ZeroId, NextNotOutgoing, NextAndIncoming, LearnerAndVoter, NotJointButNext, NotJointButAutoLeave, DifferentLengths}
+use Rattle.confscript_c.specs.declared.status.Status.TheVariants.{RepeatedId, NoVoter, ZeroId, NextNotOutgoing, NextAndIncoming, LearnerAndVoter, NotJointButAutoLeave, DifferentLengths}
 
 -- ---- written
 -- the number of the flag
@@ -62,14 +62,15 @@ lists_in numbers = record {
 }
 
 -- ---- checked
--- the answer for an id that is listed twice or for a broken invariant, with the id
+-- the answer for an id that is listed twice or for a broken invariant, with the id; a next learner without outgoing
+-- voters is not an outgoing voter, and is always reported as that
 abbrev pub violation_answer : Violation → Answer
 violation_answer (violated.ListedTwice id) = status_answer RepeatedId id
 violation_answer violated.ZeroId = status_answer ZeroId 0
 violation_answer (violated.NextNotOutgoing id) = status_answer NextNotOutgoing id
 violation_answer (violated.NextAndIncoming id) = status_answer NextAndIncoming id
 violation_answer (violated.LearnerAndVoter id) = status_answer LearnerAndVoter id
-violation_answer (violated.NotJointButNext id) = status_answer NotJointButNext id
+violation_answer (violated.NotJointButNext id) = status_answer NextNotOutgoing id
 violation_answer violated.NotJointButAutoLeave = status_answer NotJointButAutoLeave 0
 
 -- the answer for a saved configuration that is not valid; it is not read from a line, so there is no bad one

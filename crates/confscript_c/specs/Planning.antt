@@ -8,10 +8,12 @@ use Rattle.conf_change.specs.Violation.{configuration_in}
 use Rattle.conf_change.specs.declared.step.Step.{Step}
 use Rattle.conf_plan.specs.PathBy.{has_path, path_by, KeepsPromises}
 use Rattle.conf_plan.specs.PlanText.{plan_text}
+use Rattle.conf_plan.specs.declared.strategy.NoPath.{NoPath}
+use Rattle.conf_plan.specs.declared.strategy.NoPath.TheVariants as none
 use Rattle.plan_output.specs.Json.{json_text}
 use Rattle.plan_output.specs.Steps.{ids_down, steps_text}
 use Rattle.plan_output.specs.Table.{table_text}
-use Rattle.confscript_c.specs.Answer.{status_answer}
+use Rattle.confscript_c.specs.Answer.{status_answer, no_memory}
 use Rattle.confscript_c.specs.Applied.{apply_result, steps_result}
 use Rattle.confscript_c.specs.PlanTexts.{current_or_answer, target_or_answer, pair_in}
 use Rattle.confscript_c.specs.Request.{request_in}
@@ -27,6 +29,13 @@ abbrev pub text_as : Output → Option Ids → Configuration → List Step → L
 text_as Steps down now steps = steps_text down now steps
 text_as Table down now steps = table_text now steps down
 text_as Json down now steps = json_text 1 now steps down
+
+-- the answer where there is no path
+abbrev pub no_path_answer : NoPath → Answer
+no_path_answer none.NoVoterNow = status_answer NoVoter 1
+no_path_answer none.NoVoterTarget = status_answer NoVoter 2
+no_path_answer none.JointTarget = status_answer JointTarget 0
+no_path_answer none.NoMemory = no_memory
 
 -- the text of the path, or the answer if a configuration has no voter or the strategy has no path
 abbrev pub path_result : Request → Configuration → Configuration → OutResult

@@ -1,5 +1,5 @@
 -- One step of a configuration in numbers.
-use Rattle.std.specs.Prelude.{ℕ, ◌+◌, ◌==◌, List, [], ◌∷◌, Option, Some, None, Result, Ok, Err, if◌then◌else◌}
+use Rattle.std.specs.Prelude.{◌≡◌, ℕ, ◌+◌, ◌==◌, List, [], ◌∷◌, Option, Some, None, Result, Ok, Err, if◌then◌else◌}
 use Rattle.conf_change.specs.Configuration.{Configuration}
 use Rattle.conf_change.specs.Outcome.{Outcome, outcome}
 use Rattle.conf_change.specs.Transition.{step_kind_of, step_of}
@@ -70,3 +70,15 @@ step_result_of number (Ok c) (Ok changes) = stepped c changes (step_kind_at numb
 -- the result of `confscript_step`
 abbrev pub step_result : List ℕ → ℕ → List NumberedChange → OutResult
 step_result numbers number changes = step_result_of number (configuration_of numbers) (changes_from 1 changes)
+
+-- The second array has the configuration to which the step of these changes leads from that of the first.
+pub record StepsTo (numbers : List ℕ) (number : ℕ) (changes : List NumberedChange) (out : List ℕ) : Type 0 where
+  pub before : Configuration
+  pub made : List Change
+  pub kind : StepKind
+  pub after : Configuration
+  pub begins : configuration_of numbers ≡ Ok before
+  pub changes_read : changes_from 1 changes ≡ Ok made
+  pub kind_read : step_kind_at number made ≡ Ok kind
+  pub taken : outcome before (step_of kind made) ≡ Ok after
+  pub ends : configuration_of out ≡ Ok after

@@ -5,8 +5,8 @@ ghost use Rattle.confscript_c.specs.Answer.{status_answer, done, no_memory};
 use crate::status::Status;
 use quorum_sets::NoMemory;
 
-/// What each call but `confscript_version` returns, as `struct confscript_answer`: the code of a [`Status`], and a
-/// number whose meaning depends on the status. The number is 0 if the status needs none.
+/// What each call but `confscript_version` and `confscript_committed` returns, as `struct confscript_answer`: the code
+/// of a [`Status`], and a number whose meaning depends on the status. The number is 0 if the status needs none.
 #[repr(C)]
 #[derive(Clone, Copy)]
 pub struct Answer {

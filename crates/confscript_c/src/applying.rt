@@ -11,7 +11,7 @@ ghost use Rattle.conf_change.specs.ConfState.{lists_of};
 ghost use Rattle.conf_change.specs.ConfStateLine.{conf_state_in, conf_state_text};
 ghost use Rattle.conf_plan.specs.PlanCode.{path_in};
 ghost use Rattle.confscript_c.specs.Answer.{no_memory};
-ghost use Rattle.confscript_c.specs.Applied.{apply_result, restored_of, steps_result, text_fault_answer, refusal_answer};
+ghost use Rattle.confscript_c.specs.Applied.{apply_result, restore_answer, restored_of, steps_result, text_fault_answer, refusal_answer};
 ghost use Rattle.confscript_c.specs.InputLines.{read_as};
 ghost use Rattle.confscript_c.specs.Written.{Writes};
 
@@ -62,8 +62,17 @@ fn read_changer(alloc: Global, state: &[u8]) -> Result<Changer<InlineIds>, Answe
     let saved = read_saved(alloc, 1, state)?;
     match Changer::restore(alloc, &saved, 0) {
         Ok(changer) => Ok(changer),
-        Err(RestoreFault::NotAConfiguration) => Err(Answer::new(Status::NotAConfiguration, 1)),
-        Err(RestoreFault::NoMemory) => Err(Answer::no_memory()),
+        Err(fault) => Err(restore_answer(fault)),
+    }
+}
+
+// The answer for a configuration that is not restored.
+fn restore_answer(fault: RestoreFault) -> Answer
+    ensures { result ≡ restore_answer fault }
+{
+    match fault {
+        RestoreFault::NotAConfiguration => Answer::new(Status::NotAConfiguration, 1),
+        RestoreFault::NoMemory => Answer::no_memory(),
     }
 }
 
@@ -74,9 +83,18 @@ fn read_steps(alloc: Global, text: &[u8]) -> Result<Path, Answer>
 {
     match read_path(alloc, text) {
         Ok(path) => Ok(path),
-        Err(PlanTextFault::BadLine(number)) => Err(Answer::new(Status::BadLine, number as u64)),
-        Err(PlanTextFault::TooManySteps) => unreachable!(),
-        Err(PlanTextFault::NoMemory) => Err(Answer::no_memory()),
+        Err(fault) => Err(text_fault_answer(fault)),
+    }
+}
+
+// The answer for a text that is not a path. A path may have any number of steps, so none is refused for its fifth line.
+fn text_fault_answer(fault: PlanTextFault) -> Answer
+    ensures { result ≡ text_fault_answer fault }
+{
+    match fault {
+        PlanTextFault::BadLine(number) => Answer::new(Status::BadLine, number as u64),
+        PlanTextFault::TooManySteps => Answer::new(Status::BadLine, 5),
+        PlanTextFault::NoMemory => Answer::no_memory(),
     }
 }
 

@@ -3,7 +3,7 @@
 ghost use Rattle.std.specs.Prelude.{◌≡◌, ◌⊎◌, Ok, Err, IfOk, IfErr};
 ghost use Rattle.conf_change.specs.ConfStateLine.{conf_state_in};
 ghost use Rattle.confscript_c.specs.Answer.{no_memory};
-ghost use Rattle.confscript_c.specs.InputLines.{read_as};
+ghost use Rattle.confscript_c.specs.InputLines.{line_answer, read_as};
 
 use crate::answer::Answer;
 use crate::status::Status;
@@ -17,7 +17,16 @@ pub(crate) fn read_saved(alloc: Global, number: u64, line: &[u8]) -> Result<Conf
 {
     match read_conf_state(alloc, line) {
         Ok(saved) => Ok(saved),
-        Err(ConfStateFault::BadConfState) => Err(Answer::new(Status::BadConfState, number)),
-        Err(ConfStateFault::NoMemory) => Err(Answer::no_memory()),
+        Err(fault) => Err(line_answer(number, fault)),
+    }
+}
+
+// The answer for an error of the line with this number.
+fn line_answer(number: u64, fault: ConfStateFault) -> Answer
+    ensures { result ≡ line_answer number fault }
+{
+    match fault {
+        ConfStateFault::BadConfState => Answer::new(Status::BadConfState, number),
+        ConfStateFault::NoMemory => Answer::no_memory(),
     }
 }

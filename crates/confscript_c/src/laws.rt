@@ -11,7 +11,7 @@ ghost use Rattle.conf_plan.specs.PlanSteps.{HasU64Ids};
 ghost use Rattle.conf_plan.specs.PlanText.{plan_text};
 ghost use Rattle.confscript_c.specs.Applied.{apply_result};
 ghost use Rattle.confscript_c.specs.Numbers.{array_of, configuration_of, has_form, lists_in, numbers_of, restore_result};
-ghost use Rattle.confscript_c.specs.Stepped.{step_result};
+ghost use Rattle.confscript_c.specs.Stepped.{step_result, StepsTo};
 ghost use Rattle.confscript_c.specs.declared.stepping.NumberedChange.{NumberedChange};
 
 /// The array of a saved configuration has the form, and is read as that configuration, whichever members begin afresh.
@@ -37,12 +37,13 @@ pub fn lines_are_applied_in_parts()
 
 /// An array has a configuration exactly if it has the form and etcd's `Restore` restores its saved configuration to it.
 /// What a call writes, the next takes as it is: the array of a configuration that can be restored has that
-/// configuration, and so has each array that `confscript_restore` or `confscript_step` writes.
+/// configuration. The array that `confscript_restore` writes has the configuration of the array that it was given, and
+/// the one that `confscript_step` writes has the configuration to which the step leads.
 pub fn written_arrays_are_taken()
     ensures restored { (numbers : List ℕ) (c : Configuration) → (configuration_of numbers ≡ Ok c) ↔ ((has_form numbers ≡ true) × (restored (lists_in numbers) ≡ Some c)) }
     ensures again { (c : Configuration) (fresh : Ids) → is_restorable c ≡ true → configuration_of (numbers_of c fresh) ≡ Ok c }
     ensures after_restore { (numbers out : List ℕ) → restore_result numbers ≡ Ok out → (c : Configuration) × (configuration_of numbers ≡ Ok c) × (configuration_of out ≡ Ok c) }
-    ensures after_step { (numbers out : List ℕ) (step : ℕ) (changes : List NumberedChange) → step_result numbers step changes ≡ Ok out → (c : Configuration) × (configuration_of out ≡ Ok c) }
+    ensures after_step { (numbers out : List ℕ) (step : ℕ) (changes : List NumberedChange) → step_result numbers step changes ≡ Ok out → StepsTo numbers step changes out }
 {
     conf_change::laws::valid_is_described();
     conf_change::laws::restored_is_described();

@@ -103,10 +103,12 @@ pub(crate) fn violation_answer(violation: Violation) -> Answer
     match violation {
         Violation::ListedTwice(id) => Answer::new(Status::RepeatedId, id),
         Violation::ZeroId => Answer::new(Status::ZeroId, 0),
-        Violation::NextNotOutgoing(id) => Answer::new(Status::NextNotOutgoing, id),
+        // Next learners without outgoing voters are never the first violation, since they are not outgoing voters.
+        Violation::NextNotOutgoing(id) | Violation::NotJointButNext(id) => {
+            Answer::new(Status::NextNotOutgoing, id)
+        }
         Violation::NextAndIncoming(id) => Answer::new(Status::NextAndIncoming, id),
         Violation::LearnerAndVoter(id) => Answer::new(Status::LearnerAndVoter, id),
-        Violation::NotJointButNext(id) => Answer::new(Status::NotJointButNext, id),
         Violation::NotJointButAutoLeave => Answer::new(Status::NotJointButAutoLeave, 0),
     }
 }

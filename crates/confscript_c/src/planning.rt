@@ -14,7 +14,7 @@ ghost use Rattle.conf_plan.specs.PlanCode.{path_in};
 ghost use Rattle.conf_plan.specs.PlanText.{plan_text};
 ghost use Rattle.plan_output.specs.Steps.{ids_down, steps_text};
 ghost use Rattle.confscript_c.specs.Answer.{no_memory};
-ghost use Rattle.confscript_c.specs.Planning.{path_result, plan_result, text_as, IsPathText, LeadsToTarget};
+ghost use Rattle.confscript_c.specs.Planning.{no_path_answer, path_result, plan_result, text_as, IsPathText, LeadsToTarget};
 ghost use Rattle.confscript_c.specs.Written.{Writes};
 
 use crate::answer::Answer;
@@ -86,15 +86,27 @@ fn text_between(
     ensures text { IfOk result (λ text. path_result request.now now.now target.now ≡ Ok text.items) }
     ensures path { IfOk result (λ text. IsPathText request.now now.now target.now text.items) }
     ensures refused { IfErr result (λ why. (why ≡ no_memory) ⊎ (path_result request.now now.now target.now ≡ Err why)) }
+
+    // It is found that there is no path before any memory is taken.
+    ensures no_path { (why : Answer) → path_result request.now now.now target.now ≡ Err why → result ≡ Err why }
 {
     laws::valid_is_described();
     laws::restored_is_described();
     match path_between(alloc, request, now, target) {
         Ok(path) => Ok(path_text(alloc, request, now, &path)?),
-        Err(NoPath::NoVoterNow) => Err(Answer::new(Status::NoVoter, 1)),
-        Err(NoPath::NoVoterTarget) => Err(Answer::new(Status::NoVoter, 2)),
-        Err(NoPath::JointTarget) => Err(Answer::new(Status::JointTarget, 0)),
-        Err(NoPath::NoMemory) => Err(Answer::no_memory()),
+        Err(why) => Err(no_path_answer(why)),
+    }
+}
+
+// The answer where there is no path.
+fn no_path_answer(why: NoPath) -> Answer
+    ensures { result ≡ no_path_answer why }
+{
+    match why {
+        NoPath::NoVoterNow => Answer::new(Status::NoVoter, 1),
+        NoPath::NoVoterTarget => Answer::new(Status::NoVoter, 2),
+        NoPath::JointTarget => Answer::new(Status::JointTarget, 0),
+        NoPath::NoMemory => Answer::no_memory(),
     }
 }
 

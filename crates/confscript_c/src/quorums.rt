@@ -24,8 +24,8 @@ use quorum_sets::{
 use std::alloc::Global;
 
 /// The committed index of a pair of voter sets, or of one set if `outgoing` is empty, from the index that each voter
-/// has acknowledged, 0 if it is unknown. It is the greatest `u64` if there are no voters. The indexes are sorted in
-/// place; the call takes no memory and is never refused (etcd's `quorum`).
+/// has acknowledged, 0 if it is unknown. It is the greatest `u64` if there are no voters. Each array is left with the
+/// same indexes, in any order; the call takes no memory and is never refused (etcd's `quorum`).
 #[unsafe(no_mangle)]
 pub extern "C" fn confscript_committed(incoming: &mut [u64], outgoing: &mut [u64]) -> u64
     ensures index { result ≡ joint_committed_of incoming.old outgoing.old }

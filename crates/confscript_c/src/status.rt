@@ -19,29 +19,26 @@ pub enum Status {
     NoMemory = 2,
     /// A text is not a ConfState line. The number is that of the text: 1 or 2.
     BadConfState = 3,
-    /// An id is listed twice. The number is the id, if the configuration is in numbers.
+    /// An id is listed twice. The number is the id.
     RepeatedId = 4,
     /// A text names no configuration that the call accepts. The number is that of the text: 1 or 2.
     NotAConfiguration = 5,
-    /// A configuration has no incoming voter. The number is that of its text: 1 or 2.
+    /// A configuration has no incoming voter. The number is that of its text, 1 or 2, or 0 for one in numbers.
     NoVoter = 6,
     /// A line of a plan is not a step. The number is that of the line, from 1.
     BadLine = 7,
-    /// A plan has a fifth line.
-    TooManySteps = 8,
-    // From here to 14 a step is refused. The number is that of the step, from 1.
+    // From here to 14 a step is refused. By `confscript_apply`, the number is that of the step, from 1.
     AlreadyJoint = 9,
     ZeroVoterJoint = 10,
     NotJoint = 11,
     SimpleInJoint = 12,
     RemovedAllVoters = 13,
     MoreThanOneVoter = 14,
-    // From here to 20 an invariant is broken. The number is the id, if the configuration is in numbers.
+    // From here to 20 an invariant is broken. For 16 to 18, the number is the least id that breaks it.
     ZeroId = 15,
     NextNotOutgoing = 16,
     NextAndIncoming = 17,
     LearnerAndVoter = 18,
-    NotJointButNext = 19,
     NotJointButAutoLeave = 20,
     /// An array does not have the form of a configuration in numbers.
     DifferentLengths = 21,
@@ -59,7 +56,7 @@ pub enum Status {
     BadChange = 27,
     /// The code of the output is unknown.
     BadOutput = 28,
-    /// A text is in no form of a configuration. The number is that of the text: 1 or 2.
+    /// The first text is in no form of a configuration. The number is 1.
     UnknownForm = 29,
     /// A text is not a configuration as it is printed. The number is that of the text: 1 or 2.
     BadPrinted = 30,
@@ -70,7 +67,7 @@ pub enum Status {
 }
 
 impl Status {
-    /// The code of the status, from 0 to 32.
+    /// The code of the status, from 0 to 32. 8 and 19 are the codes of none.
     pub fn code(self) -> u32
         ensures { result ≡ code_of self }
     {
@@ -90,7 +87,6 @@ impl Status {
             Status::NotAConfiguration => "not a configuration",
             Status::NoVoter => "no incoming voter",
             Status::BadLine => "not a step",
-            Status::TooManySteps => "more than four steps",
             Status::AlreadyJoint => "config is already joint",
             Status::ZeroVoterJoint => "can't make a zero-voter config joint",
             Status::NotJoint => "can't leave a non-joint config",
@@ -101,7 +97,6 @@ impl Status {
             Status::NextNotOutgoing => "a next learner is not an outgoing voter",
             Status::NextAndIncoming => "a next learner is an incoming voter",
             Status::LearnerAndVoter => "a learner is a voter",
-            Status::NotJointButNext => "next learners without outgoing voters",
             Status::NotJointButAutoLeave => "auto-leave without outgoing voters",
             Status::DifferentLengths => "the counts do not match the length",
             Status::BadVote => "a vote is neither 0, 1 nor 2",
@@ -142,7 +137,6 @@ fn text_of_code(code: u32) -> &'static str
         5 => Status::NotAConfiguration.text(),
         6 => Status::NoVoter.text(),
         7 => Status::BadLine.text(),
-        8 => Status::TooManySteps.text(),
         9 => Status::AlreadyJoint.text(),
         10 => Status::ZeroVoterJoint.text(),
         11 => Status::NotJoint.text(),
@@ -153,7 +147,6 @@ fn text_of_code(code: u32) -> &'static str
         16 => Status::NextNotOutgoing.text(),
         17 => Status::NextAndIncoming.text(),
         18 => Status::LearnerAndVoter.text(),
-        19 => Status::NotJointButNext.text(),
         20 => Status::NotJointButAutoLeave.text(),
         21 => Status::DifferentLengths.text(),
         22 => Status::BadVote.text(),

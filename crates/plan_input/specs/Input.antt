@@ -3,14 +3,19 @@ use Rattle.std.specs.Prelude.{◌≡◌, ◌⊎◌, ℕ, List, Option, Some, Non
 use Rattle.std.specs.Str.{is_utf8}
 use Rattle.serde_json.specs.Read.{read}
 use Rattle.raft_json.specs.SavedJson.{saved_of_json}
-use Rattle.conf_change.specs.ChangeList.{BadToken, changes_in, token_of}
+use Rattle.raft_json.specs.declared.conf_state_json.JsonFault.{JsonFault}
+use Rattle.raft_json.specs.declared.conf_state_json.JsonFault.TheVariants as json_fault
+use Rattle.conf_change.specs.ChangeList.{BadToken, bad_token, changes_in, token_of}
 use Rattle.conf_change.specs.Configuration.{Configuration}
 use Rattle.conf_change.specs.ConfState.{ConfStateLists}
 use Rattle.conf_change.specs.PrintedConfig.{config_in}
 use Rattle.conf_change.specs.Violation.{valid_of, configuration_in}
 use Rattle.conf_change.specs.declared.change.Change.{Change}
+use Rattle.conf_change.specs.declared.change_list.TokenFault.{TokenFault}
 use Rattle.conf_change.specs.declared.configuration_line.ConfigurationFault.{ConfigurationFault}
 use Rattle.conf_change.specs.declared.configuration_line.ConfigurationFault.TheVariants as line_fault
+use Rattle.conf_change.specs.declared.saved_configuration.ConfStateFault.{ConfStateFault}
+use Rattle.conf_change.specs.declared.saved_configuration.ConfStateFault.TheVariants as printed_fault
 use Rattle.plan_input.specs.Changed.{after_changes}
 use Rattle.plan_input.specs.Form.{form_of}
 use Rattle.plan_input.specs.ShortToken.{short_token}
@@ -24,6 +29,25 @@ abbrev pub text_fault_of : ConfigurationFault → TextFault
 text_fault_of line_fault.BadConfState = BadConfState
 text_fault_of (line_fault.NotAConfiguration violation) = NotAConfiguration violation
 text_fault_of line_fault.NoMemory = NoMemory
+
+-- the error of JSON, as that of a text
+abbrev pub json_fault_of : JsonFault → TextFault
+json_fault_of json_fault.BadJson = BadJson
+json_fault_of json_fault.NoMemory = NoMemory
+
+-- the error of a printed configuration, as that of a text
+abbrev pub printed_fault_of : ConfStateFault → TextFault
+printed_fault_of printed_fault.BadConfState = BadPrinted
+printed_fault_of printed_fault.NoMemory = NoMemory
+
+-- the error for a bad token of a list of changes; without one, memory ran out
+abbrev pub bad_change : Option BadToken → TextFault
+bad_change (Some bad) = BadChange (short_token (token_of bad))
+bad_change None = NoMemory
+
+-- the error of a list of changes, as that of a text
+abbrev pub change_fault_of : TokenFault → TextFault
+change_fault_of fault = bad_change (bad_token fault)
 
 -- a configuration, or the error of a text
 abbrev pub as_text : Result Configuration ConfigurationFault → Result Configuration TextFault

@@ -3,7 +3,8 @@
 //! ```text
 //! (2 3 4)&&(1 2 3)  --leave-joint-->  (2 3 4)  --enter-joint r2-->  (3 4)&&(2 3 4)  --leave-joint-->  (3 4)
 //! ```
-ghost use Rattle.std.specs.Prelude.{◌≡◌, false, IfOk};
+ghost use Rattle.std.specs.Prelude.{◌≡◌, ◌≢◌, false, Ok, IfOk, IsErr};
+ghost use Rattle.conf_change.specs.Configuration.{empty_configuration};
 ghost use Rattle.conf_change.specs.Outcome.{enter_outcome};
 ghost use Rattle.plan_input.specs.Changed as spec;
 ghost use Rattle.plan_input.specs.Changed.{left_or_empty, when_left};
@@ -29,10 +30,13 @@ pub(crate) fn after_changes<S: MemberSet>(
 fn when_left<S: MemberSet>(config: &Config<S>) -> Result<Config<S>, NoMemory>
     ensures { IfOk result (λ left. left ≡ when_left config.now) }
 {
+    if config.outgoing.len() == 0 {
+        return config.try_clone();
+    }
     match next_config(config, StepKind::Leave, &[]) {
         Ok(left) => Ok(left),
-        Err(Refused::NoMemory) => Err(NoMemory),
-        Err(_) => config.try_clone(),
+        // A joint configuration can be left, so only memory can run out.
+        Err(_) => Err(NoMemory),
     }
 }
 
@@ -46,7 +50,17 @@ fn made_at_once<S: MemberSet>(
 {
     match next_config(before, StepKind::Enter(false), changes) {
         Ok(joint) => when_left(&joint),
-        Err(Refused::NoMemory) => Err(NoMemory),
-        Err(_) => Ok(Config::empty(alloc)),
+        Err(why) => empty_if_refused(alloc, why),
+    }
+}
+
+// The empty configuration, since the changes were refused, unless memory ran out.
+fn empty_if_refused<S: MemberSet>(alloc: Global, why: Refused) -> Result<Config<S>, NoMemory>
+    ensures refused { why ≢ Refused.NoMemory → result ≡ Ok empty_configuration }
+    ensures memory { why ≡ Refused.NoMemory → IsErr result }
+{
+    match why {
+        Refused::NoMemory => Err(NoMemory),
+        _ => Ok(Config::empty(alloc)),
     }
 }

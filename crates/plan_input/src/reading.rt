@@ -4,19 +4,18 @@ ghost use Rattle.conf_change.specs.ChangeList.{changes_in};
 ghost use Rattle.conf_change.specs.Configuration.{is_valid};
 ghost use Rattle.conf_change.specs.PrintedConfig.{config_in};
 ghost use Rattle.conf_change.specs.Violation.{valid_of, configuration_in};
-ghost use Rattle.plan_input.specs.Input.{as_text, valid_or, saved_in_json, configuration_as, current_in, target_in, target_of_changes, IsFaultOf};
+ghost use Rattle.plan_input.specs.Input.{as_text, valid_or, saved_in_json, configuration_as, current_in, printed_fault_of, target_in, target_of_changes, IsFaultOf};
 ghost use Rattle.plan_input.specs.declared.text_fault.TextFault.TheVariants.{BadJson, BadPrinted};
 
 use crate::changed::after_changes;
 use crate::form::{Form, form_of};
-use crate::short_token::ShortToken;
 use crate::text_fault::TextFault;
 use conf_change::{
-    ConfState, ConfStateFault, Config, TokenFault, read_changes, read_config, read_configuration,
+    ConfState, ConfStateFault, Config, read_changes, read_config, read_configuration,
     valid_configuration,
 };
-use quorum_sets::{MemberSet, NoMemory};
-use raft_json::{JsonFault, read_saved_json};
+use quorum_sets::MemberSet;
+use raft_json::read_saved_json;
 use std::alloc::Global;
 
 /// The valid configuration that a text denotes, in the form that its beginning shows: JSON if it begins with `{`, a
@@ -70,8 +69,7 @@ fn read_json<S: MemberSet>(alloc: Global, text: &[u8]) -> Result<Config<S>, Text
 {
     match read_saved_json(alloc, text) {
         Ok(state) => valid(alloc, &state),
-        Err(JsonFault::BadJson) => Err(TextFault::BadJson),
-        Err(JsonFault::NoMemory) => Err(TextFault::NoMemory),
+        Err(fault) => Err(TextFault::from(fault)),
     }
 }
 
@@ -95,8 +93,17 @@ fn read_printed<S: MemberSet>(alloc: Global, text: &[u8]) -> Result<Config<S>, T
 {
     match read_config(alloc, text) {
         Ok(state) => valid(alloc, &state),
-        Err(ConfStateFault::BadConfState) => Err(TextFault::BadPrinted),
-        Err(ConfStateFault::NoMemory) => Err(TextFault::NoMemory),
+        Err(fault) => Err(printed_fault(fault)),
+    }
+}
+
+// The error of a printed configuration.
+fn printed_fault(fault: ConfStateFault) -> TextFault
+    ensures { result ≡ printed_fault_of fault }
+{
+    match fault {
+        ConfStateFault::BadConfState => TextFault::BadPrinted,
+        ConfStateFault::NoMemory => TextFault::NoMemory,
     }
 }
 
@@ -126,13 +133,8 @@ fn read_changed<S: MemberSet>(
     match read_changes(alloc, text) {
         Ok(changes) => match after_changes(alloc, now, changes.as_slice()) {
             Ok(target) => Ok(target),
-            Err(NoMemory) => Err(TextFault::NoMemory),
+            Err(error) => Err(TextFault::from(error)),
         },
-        Err(
-            TokenFault::UnknownToken(token)
-            | TokenFault::UnknownInput(token)
-            | TokenFault::BadNumber(token),
-        ) => Err(TextFault::BadChange(ShortToken::new(token))),
-        Err(TokenFault::NoMemory) => Err(TextFault::NoMemory),
+        Err(fault) => Err(TextFault::from(fault)),
     }
 }

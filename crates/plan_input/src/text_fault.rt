@@ -1,9 +1,11 @@
 //! Why a text is not a configuration, or not a target.
 ghost use Rattle.std.specs.Prelude.{◌≡◌};
-ghost use Rattle.plan_input.specs.Input.{text_fault_of};
+ghost use Rattle.plan_input.specs.Input.{text_fault_of, json_fault_of, change_fault_of};
 
 use crate::short_token::ShortToken;
-use conf_change::{ConfigurationFault, Violation};
+use conf_change::{ConfigurationFault, TokenFault, Violation};
+use quorum_sets::NoMemory;
+use raft_json::JsonFault;
 use thiserror::Error;
 
 /// Why a text is not a configuration, or not a target.
@@ -43,5 +45,39 @@ impl From<ConfigurationFault> for TextFault {
             }
             ConfigurationFault::NoMemory => TextFault::NoMemory,
         }
+    }
+}
+
+impl From<JsonFault> for TextFault {
+    ghost from_gives = { λ fault converted. converted ≡ json_fault_of fault };
+
+    fn from(fault: JsonFault) -> TextFault {
+        match fault {
+            JsonFault::BadJson => TextFault::BadJson,
+            JsonFault::NoMemory => TextFault::NoMemory,
+        }
+    }
+}
+
+impl From<TokenFault<'_>> for TextFault {
+    ghost from_gives = { λ fault converted. converted ≡ change_fault_of fault };
+
+    fn from(fault: TokenFault<'_>) -> TextFault {
+        match fault {
+            TokenFault::UnknownToken(token)
+            | TokenFault::UnknownInput(token)
+            | TokenFault::BadNumber(token) => TextFault::BadChange(ShortToken::new(token)),
+            TokenFault::NoMemory => TextFault::NoMemory,
+        }
+    }
+}
+
+impl From<NoMemory> for TextFault {
+    ghost use Rattle.plan_input.specs.declared.text_fault.TextFault.TheVariants.{NoMemory};
+
+    ghost from_gives = { λ _ converted. converted ≡ NoMemory };
+
+    fn from(_error: NoMemory) -> TextFault {
+        TextFault::NoMemory
     }
 }

@@ -14,8 +14,7 @@
 //! A simple step of several changes is as many lines of one change each, in the order of its list. As one proposal,
 //! etcd's raft would make them through a joint configuration that it leaves by itself, in which etcd 3.4.23 panics if
 //! entries are applied meanwhile.
-ghost use Rattle.std.specs.Prelude.{◌≡◌, ◌++◌, true, false, None, Some, IfOk, OnOk, OnErr, flat_map, option_copied, option_map};
-ghost use Rattle.conf_change.specs.Configuration.{is_restorable};
+ghost use Rattle.std.specs.Prelude.{◌≡◌, ◌++◌, false, None, Some, IfOk, OnOk, OnErr, flat_map, option_copied, option_map};
 ghost use Rattle.serde_json.specs.View.{view, members_view};
 ghost use Rattle.serde_json.specs.Written.{has_float};
 ghost use Rattle.plan_output.specs.Json as spec;
@@ -44,12 +43,12 @@ struct Number {
     stalls: Option<bool>,
 }
 
-/// Appends an object for each step of a path, each on its own line, where a simple step of several changes is as many
-/// steps of one change each: what is proposed to etcd for it, the configuration after it, and how many failures that
-/// tolerates. With `down` it also has how many ids may be down besides these, while the members that have to catch up
-/// do not count either, and whether the path stalls. A path without a step is one line, `{"plan":1,"steps":0}`, or with
-/// `down` `{"plan":1,"stalls":false,"steps":0}`. `plan` is the number of the path, as the caller counts. On `NoMemory`
-/// the text is unchanged (own).
+/// Appends an object for each change that is proposed, each on its own line: for each step of a path one, and for each
+/// change of a simple step one. It has what is proposed to etcd, the configuration after it, and how many failures that
+/// tolerates. With `down` it also has how many ids may be down besides these, while the members that have to catch up do
+/// not count either, and whether the path stalls. A path without a step is one line, `{"plan":1,"steps":0}`, or with
+/// `down` `{"plan":1,"stalls":false,"steps":0}`, where `stalls` is `true` if the configuration stalls. `plan` is the
+/// number of the path, as the caller counts. On `NoMemory` the text is unchanged (own).
 pub fn add_json_lines<S: MemberSet>(
     alloc: Global,
     text: &mut Vec<u8>,
@@ -58,7 +57,6 @@ pub fn add_json_lines<S: MemberSet>(
     path: &Path,
     down: Option<&S>,
 ) -> Result<(), NoMemory>
-    requires { is_restorable now.now ≡ true }
     ensures ok { OnOk result (text.new.items ≡ text.old.items ++ json_text plan now.now path.now (option_map S.ids (option_copied down.entry))) }
     ensures err { OnErr result (text.new.items ≡ text.old.items) }
 {
@@ -106,7 +104,6 @@ fn lines_of<S: MemberSet>(
     down: Option<&S>,
     stalls: Option<bool>,
 ) -> Result<Vec<u8>, NoMemory>
-    requires { is_restorable now.now ≡ true }
     ensures { IfOk result (λ lines. lines.items ≡ flat_map value_line (each_json (option_map S.ids (option_copied down.entry)) stalls plan now.now path.now)) }
 {
     let mut lines = Vec::new(alloc);
@@ -137,7 +134,6 @@ fn stalls_if_down<S: MemberSet>(
     path: &Path,
     down: Option<&S>,
 ) -> Result<Option<bool>, NoMemory>
-    requires { is_restorable now.now ≡ true }
     ensures { IfOk result (λ answer. answer ≡ option_map (stage_spec.stalls now.now path.now) (option_map S.ids (option_copied down.entry))) }
 {
     match down {

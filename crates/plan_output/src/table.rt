@@ -7,10 +7,9 @@
 //! now          V V V .  2 of 3    1                                  0
 //! 1 simple v4  V V V V  3 of 4    1            4         0           stalls
 //! ```
-ghost use Rattle.std.specs.Prelude.{◌≡◌, true, ◌++◌, option_copied, option_map, IfOk, OnOk, OnErr};
+ghost use Rattle.std.specs.Prelude.{◌≡◌, ◌++◌, option_copied, option_map, IfOk, OnOk, OnErr};
 ghost use Rattle.quorum_sets.specs.Ids.{ascending};
 ghost use Rattle.quorum_sets.specs.Ids.{union as set_union};
-ghost use Rattle.conf_change.specs.Configuration.{is_restorable};
 ghost use Rattle.plan_output.specs.Table as spec;
 ghost use Rattle.plan_output.specs.Table.{table_text};
 
@@ -36,7 +35,6 @@ pub fn add_table<S: MemberSet>(
     path: &Path,
     down: Option<&S>,
 ) -> Result<(), NoMemory>
-    requires { is_restorable now.now ≡ true }
     ensures ok { OnOk result (text.new.items ≡ text.old.items ++ table_text now.now path.now (option_map S.ids (option_copied down.entry))) }
     ensures err { OnErr result (text.new.items ≡ text.old.items) }
 {

@@ -36,7 +36,7 @@ const LEARNERS: &str =
 const GREATEST: &str =
     "Voters:[18446744073709551615] VotersOutgoing:[] Learners:[] LearnersNext:[] AutoLeave:false";
 
-static ROWS: [Row; 11] = [
+static ROWS: [Row; 13] = [
     (
         FIVE,
         TWO_OF_FIVE,
@@ -160,6 +160,26 @@ static ROWS: [Row; 11] = [
             Strategy::OneAtATime,
             "simple l1\nsimple v1\nsimple r2\nsimple l3\nsimple v3\n",
             &[&[1], &[], &[], &[3], &[]],
+        )],
+    ),
+    // A learner leaves before a new voter joins.
+    (
+        "Voters:[1 2 3] VotersOutgoing:[] Learners:[9] LearnersNext:[] AutoLeave:false",
+        "Voters:[1 2 3 4] VotersOutgoing:[] Learners:[] LearnersNext:[] AutoLeave:false",
+        &[(
+            Strategy::OneAtATime,
+            "simple r9\nsimple l4\nsimple v4\n",
+            &[&[], &[4], &[]],
+        )],
+    ),
+    // A learner is promoted before a new voter joins.
+    (
+        "Voters:[1 2 3] VotersOutgoing:[] Learners:[9] LearnersNext:[] AutoLeave:false",
+        "Voters:[1 2 3 4 9] VotersOutgoing:[] Learners:[] LearnersNext:[] AutoLeave:false",
+        &[(
+            Strategy::OneAtATime,
+            "simple v9\nsimple l4\nsimple v4\n",
+            &[&[], &[4], &[]],
         )],
     ),
     // Only learners are added and removed.

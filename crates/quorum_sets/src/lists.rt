@@ -1,5 +1,5 @@
 //! The ids of a set as a list, in ascending order.
-ghost use Rattle.std.specs.Prelude.{◌≡◌, ◌++◌, IfOk, OnOk};
+ghost use Rattle.std.specs.Prelude.{◌≡◌, ◌++◌, IfOk, OnOk, OnErr};
 ghost use Rattle.quorum_sets.specs.Ids.{ascending};
 
 use crate::member_set::MemberSet;
@@ -22,12 +22,13 @@ pub fn list_of<S: MemberSet>(alloc: Global, set: &S) -> Result<Vec<u64>, NoMemor
 
 /// Appends the ids of a set to a list, in ascending order.
 pub fn add_ids<S: MemberSet>(ids: &mut SmallVec<u64, 16>, set: &S) -> Result<(), NoMemory>
-    ensures { OnOk result (ids.new.items ≡ ids.old.items ++ ascending (S.ids set.now)) }
+    ensures ok { OnOk result (ids.new.items ≡ ids.old.items ++ ascending (S.ids set.now)) }
+    ensures err { OnErr result (ids.new.items ≡ ids.old.items) }
 {
     ids.reserve(set.len())?;
     for position in 0..set.len() {
         if let Some(id) = set.at(position) {
-            ids.push(id)?;
+            ids.push_reserved(id);
         }
     }
     Ok(())

@@ -6,7 +6,8 @@ ghost use Rattle.quorum_sets.specs.Ids.{has, ascending, size};
 use crate::member_set::MemberSet;
 
 /// Whether the set has the id. The search begins at `position` and sets it to where the search ended, so ascending ids
-/// are looked up in one pass over the set. The position is only a hint: the result is right for an id below it too.
+/// are looked up in one pass over the set. The position is a hint that saves time: the result is right whatever it is,
+/// and no clause says where the search ends.
 #[inline(always)]
 pub fn contains_from<S: MemberSet>(set: &S, position: &mut usize, id: u64) -> bool
     ensures { result ≡ has (S.ids set.now) id }

@@ -42,6 +42,22 @@ impl From<AllocFailed<u64>> for JsonFault {
     }
 }
 
+impl From<serde_json::Error> for JsonFault {
+    ghost use Rattle.std.specs.Prelude.{◌↔◌};
+    ghost use Rattle.serde_json.specs.Errors.{IsMemory};
+    ghost use Rattle.raft_json.specs.declared.conf_state_json.JsonFault.TheVariants.{NoMemory};
+
+    ghost from_gives = { λ error fault. (fault ≡ NoMemory) ↔ IsMemory error };
+
+    fn from(error: serde_json::Error) -> JsonFault {
+        if error.is_memory() {
+            JsonFault::NoMemory
+        } else {
+            JsonFault::BadJson
+        }
+    }
+}
+
 /// The saved configuration that an object with the keys of `raftpb.ConfState` denotes, as Go's encoding/json writes it:
 /// `voters`, `voters_outgoing`, `learners`, `learners_next` (lists of ids) and `auto_leave` (a boolean), in any order. A
 /// missing or null key is an empty list or false. Any other key is refused with BadJson.

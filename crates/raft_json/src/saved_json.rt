@@ -32,8 +32,7 @@ fn parsed(alloc: Global, text: &[u8]) -> Result<Value, JsonFault>
 {
     match Value::from_slice(alloc, text) {
         Ok(value) => Ok(value),
-        Err(error) if error.is_memory() => Err(JsonFault::NoMemory),
-        Err(_) => Err(JsonFault::BadJson),
+        Err(error) => Err(JsonFault::from(error)),
     }
 }
 

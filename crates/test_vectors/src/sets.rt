@@ -2,9 +2,10 @@
 use crate::equal::has_ids;
 use crate::{appends, twice};
 use quorum_sets::{
-    InlineIds, MemberSet, NoMemory, TreeIds, VoteResult, chart, committed, common_member,
-    is_quorum, joint_chart, joint_committed, joint_vote, symdiff, vote,
+    InlineIds, MemberSet, NoMemory, TreeIds, VoteResult, add_ids, chart, committed, common_member,
+    is_quorum, joint_chart, joint_committed, joint_vote, list_of, symdiff, vote,
 };
+use smallvec::SmallVec;
 use std::alloc::Global;
 use std::collections::BTreeMap;
 
@@ -114,6 +115,69 @@ fn makes_sets_of_lists(rt: HostRuntime) {
             is_listed::<TreeIds>(rt.alloc(), list) & is_listed::<InlineIds>(rt.alloc(), list)
         );
     }
+}
+
+// The ids of a set, and the list of them.
+static AS_LISTS: [(&[u64], &[u64]); 3] = [
+    (&[], &[]),
+    (&[4, u64::MAX, 2], &[2, 4, u64::MAX]),
+    (&LIST, NINE),
+];
+
+// Whether this is the list of a set.
+fn has_list<S: MemberSet>(alloc: Global, set: &S, list: &[u64]) -> bool {
+    match twice!(NoMemory, list_of(alloc, set)) {
+        Ok(own) => own.as_slice() == list,
+        Err(_) => false,
+    }
+}
+
+// Whether the ids of a set are appended to a list, which then is this; on `NoMemory` the list is unchanged.
+fn is_appended<S: MemberSet>(
+    list: &mut SmallVec<u64, 16>,
+    before: &[u64],
+    set: &S,
+    after: &[u64],
+) -> bool {
+    let mut answer = add_ids(list, set);
+    let mut stays = true;
+    if answer.is_err() {
+        stays = list.as_slice() == before;
+        answer = add_ids(list, set);
+    }
+    stays & (answer == Ok(())) & (list.as_slice() == after)
+}
+
+const NINE_TWICE: &[u64] = &[1, 2, 3, 4, 5, 6, 7, 8, 9, 1, 2, 3, 4, 5, 6, 7, 8, 9];
+
+// Nine ids fit into the list itself. Nine more take an allocation.
+fn is_appended_twice<S: MemberSet>(alloc: Global) -> bool {
+    let set: S = ids(alloc, NINE);
+    let mut list = SmallVec::new(alloc);
+    is_appended(&mut list, &[], &set, NINE) & is_appended(&mut list, NINE, &set, NINE_TWICE)
+}
+
+fn is_as_list<S: MemberSet>(alloc: Global, own: &[u64], list: &[u64]) -> bool {
+    let set: S = ids(alloc, own);
+    has_list(alloc, &set, list)
+}
+
+#[test]
+fn lists_the_ids_of_sets(rt: HostRuntime) {
+    for (index, (own, list)) in AS_LISTS.iter().enumerate() {
+        assert!(rt;
+            is_as_list::<TreeIds>(rt.alloc(), *own, *list)
+                & is_as_list::<InlineIds>(rt.alloc(), *own, *list),
+            "row {index}"
+        );
+    }
+}
+
+#[test]
+fn appends_the_ids_of_sets(rt: HostRuntime) {
+    assert!(rt;
+        is_appended_twice::<TreeIds>(rt.alloc()) & is_appended_twice::<InlineIds>(rt.alloc())
+    );
 }
 
 // The ids of both sets of a pair, the acknowledged indexes, the committed indexes of the first set and of both, and the

@@ -39,29 +39,19 @@ added-item of before now after items k x within first second =
 take-none : (k : ℕ) → take {A = ℕ} k [] ≡ []
 take-none k = take_all k [] (omega arith)
 
-take-option : (ids : List ℕ) (k : ℕ) → take (k + 1) ids ≡ take k ids ++ cons_option (slice_get ids k) []
+pub take-option : (ids : List ℕ) (k : ℕ) → take (k + 1) ids ≡ take k ids ++ cons_option (slice_get ids k) []
 take-option [] k = grind (arith, take-none, slice_get_past {X = ℕ} [] k)
 take-option (x ∷ ids) zero = refl
 take-option (x ∷ ids) (suc k) = grind (arith, take-option ids k)
 
-in_turn-alone : (joins : List ℕ) → in_turn joins [] ≡ joins
+pub in_turn-alone : (joins : List ℕ) → in_turn joins [] ≡ joins
 in_turn-alone [] = refl
 in_turn-alone (id ∷ joins) = refl
 
 -- of two lists in turn, too
-in_turn-option : (joins retires : List ℕ) (k : ℕ)
+pub in_turn-option : (joins retires : List ℕ) (k : ℕ)
     → in_turn (take (k + 1) joins) (take (k + 1) retires) ≡ in_turn (take k joins) (take k retires) ++ (cons_option (slice_get joins k) [] ++ cons_option (slice_get retires k) [])
 in_turn-option [] retires k = grind (arith, take-none, slice_get_past {X = ℕ} [] k, take-option retires k)
 in_turn-option (x ∷ joins) [] k = grind (arith, take-none, slice_get_past {X = ℕ} [] k, in_turn-alone, take-option (x ∷ joins) k)
 in_turn-option (x ∷ joins) (y ∷ retires) zero = refl
 in_turn-option (x ∷ joins) (y ∷ retires) (suc k) = grind (arith, in_turn-option joins retires k)
-
-pub added-one : (of : ℕ → List Step) (before now after : List Step) (ids : List ℕ) (k : ℕ) → IsAdded before (flat_map of (take k ids)) now
-    → IsAdded now (flat_map of (cons_option (slice_get ids k) [])) after → IsAdded before (flat_map of (take (k + 1) ids)) after
-added-one of before now after ids k = added-further of before now after (take k ids) (cons_option (slice_get ids k) []) (take (k + 1) ids) (take-option ids k)
-
-pub added-turn : (of : ℕ → List Step) (before now between after : List Step) (joins retires : List ℕ) (k : ℕ) → IsAdded before (flat_map of (in_turn (take k joins) (take k retires))) now
-    → IsAdded now (flat_map of (cons_option (slice_get joins k) [])) between → IsAdded between (flat_map of (cons_option (slice_get retires k) [])) after
-    → IsAdded before (flat_map of (in_turn (take (k + 1) joins) (take (k + 1) retires))) after
-added-turn of before now between after joins retires k at joined retired =
-    added-further of before now after _ _ _ (in_turn-option joins retires k) at (added-further of now between after _ _ _ refl joined retired)

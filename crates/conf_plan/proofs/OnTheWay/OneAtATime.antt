@@ -3,7 +3,7 @@ use Rattle.std.proofs.Common.{◌≡◌, ℕ, Bool, true, false, cond, not, ◌&
 use Rattle.std.specs.Prelude.{flat_map, option_map}
 use Rattle.std.specs.Bool.{beq}
 use Rattle.std.specs.List.{cons_option}
-use Rattle.std.proofs.lemmas.Bool.{cond_both}
+use Rattle.std.proofs.lemmas.Bool.{both_ways, cond_both, or_right}
 use Rattle.std.proofs.lemmas.List.Concat.{flat_map-cons}
 use Rattle.quorum_sets.specs.Ids.{Ids, no_ids, has, with_id, is_empty}
 use Rattle.quorum_sets.proofs.Offered.{has-no_ids, has-same_ids, has-with_id}
@@ -22,25 +22,27 @@ use Rattle.conf_plan.proofs.BestPlan.PreservedMembers.{keeps_progress-of_member}
 use Rattle.conf_plan.proofs.Runs.Chains.{IsChain-append}
 
 -- ---- a step
--- It changes one member, makes voters of learners alone, and resets no member's progress. Members of the target stay. It leads to a configuration that is not joint, whose voters are fine.
-pub record IsTurn (Fine : Ids → Type 0) (target before : Configuration) (step : Step) (after : Configuration) : Type 0 where
+-- It changes one member, makes voters of learners alone, and resets no member's progress. Members of the target stay. It leads to a configuration that is not joint and is fine, and it adds a member only to one that is calm.
+pub record IsTurn (Fine Calm : Configuration → Type 0) (target before : Configuration) (step : Step) (after : Configuration) : Type 0 where
   pub learner_first : ChangesOneLearnerFirst before step after
   pub kept : (q : ℕ) → is_member before q ≡ true → is_member after q ≡ true → keeps_progress before step after q ≡ true
   pub stays : (q : ℕ) → is_member target q ≡ true → is_member before q ≡ true → is_member after q ≡ true
   pub single : after.outgoing ≡ no_ids
-  pub fine : Fine after.incoming
+  pub fine : Fine after
+  pub calm : (joiner : ℕ) → is_member before joiner ≡ false → is_member after joiner ≡ true → Calm before
 
 -- the id is in the set after it or not, and the others are in it as before
 abbrev Becomes : Ids → ℕ → Bool → Ids → Type 0
 Becomes ids id here after = (q : ℕ) → has after q ≡ cond (q == id) here (has ids q)
 
 -- an id gets these roles, and the others keep theirs; a new voter was a learner
-turn : (Fine : Ids → Type 0) (target : Configuration) (voters learners voters_after learners_after : Ids) (votes learns : Bool) (id : ℕ) → (id == 0) ≡ false
+turn : (Fine Calm : Configuration → Type 0) (target : Configuration) (voters learners voters_after learners_after : Ids) (votes learns : Bool) (id : ℕ) → (id == 0) ≡ false
     → (votes ≡ true → learns ≡ false) → (votes ≡ true → has learners id ≡ true) → (is_member target id ≡ true → (votes || learns) ≡ true)
-    → Becomes voters id votes voters_after → Becomes learners id learns learners_after → is_empty voters_after ≡ false → Fine voters_after
+    → Becomes voters id votes voters_after → Becomes learners id learns learners_after → is_empty voters_after ≡ false → Fine (single_with voters_after learners_after)
+    → (is_member (single_with voters learners) id ≡ false → Calm (single_with voters learners))
     → Gives (single_with voters learners) (one_change (kind_for votes learns) id) (single_with voters_after learners_after)
-    × IsTurn Fine target (single_with voters learners) (one_change (kind_for votes learns) id) (single_with voters_after learners_after)
-turn Fine target voters learners voters_after learners_after votes learns id other apart learned becomes votes_at learns_at some fine =
+    × IsTurn Fine Calm target (single_with voters learners) (one_change (kind_for votes learns) id) (single_with voters_after learners_after)
+turn Fine Calm target voters learners voters_after learners_after votes learns id other apart learned becomes votes_at learns_at some fine calm =
     let change = one_change (kind_for votes learns) id in
     let after = single_with voters_after learners_after in (
       one_change-leads voters learners voters_after learners_after votes learns id other apart some votes_at learns_at,
@@ -50,6 +52,7 @@ turn Fine target voters learners voters_after learners_after votes learns id oth
         stays = λ q in_target was. grind (arith, votes_at q, learns_at q, has-no_ids q, eqb-true q id, becomes, in_target, was);
         single = refl;
         fine = fine;
+        calm = λ q was is. calm (grind (arith, votes_at q, learns_at q, has-no_ids q, eqb-true q id, was, is));
       },
     )
 
@@ -67,10 +70,17 @@ steps_by-cases : (will_vote will_learn votes learns : Bool) (id : ℕ) → (will
     (cond (will_vote && not (votes || learns)) (one_change Learner id ∷ one_change (kind_for will_vote will_learn) id ∷ []) (one_change (kind_for will_vote will_learn) id ∷ []))
 steps_by-cases will_vote will_learn votes learns id then now = grind arith
 
-steps_of-lead : (Fine : Ids → Type 0) (c target : Configuration) (id : ℕ) (left : List ℕ) → ValidByMember c → ValidByMember target → target.outgoing ≡ no_ids → times id left ≡ 0
-    → ((voters : Ids) → Fine voters → is_empty voters ≡ false) → Fine (mixed c.incoming target.incoming (id ∷ left)) → Fine (mixed c.incoming target.incoming left)
-    → IsRunWith (IsTurn Fine target) (between c target (id ∷ left)) (steps_of c target id) (between c target left)
-steps_of-lead Fine c target id left valid_c valid single once needs fine fine_after =
+-- what the steps of an id need: the configuration before is fine, and the one in which a newcomer learns; before it becomes a member, it is calm
+pub record IsReady (Fine Calm : Configuration → Type 0) (c target : Configuration) (id : ℕ) (left : List ℕ) : Type 0 where
+  pub fine : Fine (between c target (id ∷ left))
+  pub learning : (has target.incoming id && not (has c.incoming id || has c.learners id)) ≡ true
+      → Fine (single_with (mixed c.incoming target.incoming (id ∷ left)) (with_id (mixed c.learners target.learners (id ∷ left)) id))
+  pub calm : (has c.incoming id || has c.learners id) ≡ false → Calm (between c target (id ∷ left))
+
+steps_of-lead : (Fine Calm : Configuration → Type 0) (c target : Configuration) (id : ℕ) (left : List ℕ) → ValidByMember c → ValidByMember target → target.outgoing ≡ no_ids → times id left ≡ 0
+    → ((d : Configuration) → Fine d → is_empty d.incoming ≡ false) → IsReady Fine Calm c target id left → Fine (between c target left)
+    → IsRunWith (IsTurn Fine Calm target) (between c target (id ∷ left)) (steps_of c target id) (between c target left)
+steps_of-lead Fine Calm c target id left valid_c valid single once needs ready fine_after =
     let votes = has c.incoming id in
     let learns = has c.learners id in
     let will_vote = has target.incoming id in
@@ -87,13 +97,13 @@ steps_of-lead Fine c target id left valid_c valid single once needs fine fine_af
     -- a voter is not a learner too
     let alone : will_vote ≡ true → will_learn ≡ false = λ voter. grind (arith, valid.learner_incoming id, voter) in
     let alone_now : votes ≡ true → learns ≡ false = λ voter. grind (arith, valid_c.learner_incoming id, voter) in
-    let Leads : List Step → Type 0 = λ steps. IsRunWith (IsTurn Fine target) (between c target (id ∷ left)) steps (between c target left) in
+    let Leads : List Step → Type 0 = λ steps. IsRunWith (IsTurn Fine Calm target) (between c target (id ∷ left)) steps (between c target left) in
     -- an id that has a role is not 0
     let not_zero : (will_vote || will_learn || (votes || learns)) ≡ true → (id == 0) ≡ false =
     λ some. grind (arith, eqb-true id 0, valid.zero_incoming, valid.zero_learners, valid_c.zero_incoming, valid_c.zero_learners, some) in
     let becomes : is_member target id ≡ true → (will_vote || will_learn) ≡ true = λ member. grind (arith, single, has-no_ids id, member) in
-    let some = needs voters fine in
-    let some_after = needs voters_after fine_after in
+    let some = needs (between c target (id ∷ left)) ready.fine in
+    let some_after = needs (between c target left) fine_after in
     let learning_at : Becomes learners id true learning = λ q. grind (arith, has-with_id learners id q) in
     subst Leads (sym (steps_by-cases will_vote will_learn votes learns id alone alone_now))
     (cond_both (beq will_vote votes && beq will_learn learns) _ _ Leads
@@ -105,40 +115,40 @@ steps_of-lead Fine c target id left valid_c valid single once needs fine fine_af
     cond_both (will_vote && not (votes || learns)) _ _ Leads
     (λ new. (
       single_with voters learning,
-      turn Fine target voters learners voters learning false true id other (λ e. grind (arith, e)) (λ e. grind (arith, e)) (λ member. refl)
-          (λ q. grind (arith, eqb-true q id, votes_now, new)) learning_at some fine,
+      turn Fine Calm target voters learners voters learning false true id other (λ e. grind (arith, e)) (λ e. grind (arith, e)) (λ member. refl)
+          (λ q. grind (arith, eqb-true q id, votes_now, new)) learning_at some (ready.learning new) (λ newcomer. ready.calm (grind (arith, new))),
       (
         between c target left,
-        turn Fine target voters learning voters_after learners_after will_vote will_learn id other alone (λ e. grind (arith, learning_at id, eq-eqb id id refl)) becomes votes_at
-            (λ q. grind (arith, learning_at q, learns_at q)) some_after fine_after,
+        turn Fine Calm target voters learning voters_after learners_after will_vote will_learn id other alone (λ e. grind (arith, learning_at id, eq-eqb id id refl)) becomes votes_at
+            (λ q. grind (arith, learning_at q, learns_at q)) some_after fine_after (λ newcomer. absurd (both_ways (is_member (single_with voters learning) id) newcomer (or_right (has voters id || has no_ids id) (has learning id) (grind (arith, learning_at id, eq-eqb id id refl))))),
         refl,
       ),
     ))
     (λ known. (
       between c target left,
-      turn Fine target voters learners voters_after learners_after will_vote will_learn id other alone (λ e. grind (arith, learns_now, alone, alone_now, alters, known, e)) becomes
-          votes_at learns_at some_after fine_after,
+      turn Fine Calm target voters learners voters_after learners_after will_vote will_learn id other alone (λ e. grind (arith, learns_now, alone, alone_now, alters, known, e)) becomes
+          votes_at learns_at some_after fine_after (λ newcomer. ready.calm (grind (arith, votes_now, learns_now, newcomer))),
       refl,
     ))))
 
 -- ---- the steps of all ids
--- something holds of each part of a list from an id on
-abbrev pub EachRest : (List ℕ → Type 0) → List ℕ → Type 0
-EachRest Holds [] = Holds []
-EachRest Holds (id ∷ left) = Holds (id ∷ left) × EachRest Holds left
+-- each id is ready when its turn comes, and the end is fine
+abbrev pub AreReady : (Fine Calm : Configuration → Type 0) → Configuration → Configuration → List ℕ → Type 0
+AreReady Fine Calm c target [] = Fine (between c target [])
+AreReady Fine Calm c target (id ∷ left) = IsReady Fine Calm c target id left × AreReady Fine Calm c target left
 
-EachRest-whole : (Holds : List ℕ → Type 0) (left : List ℕ) → EachRest Holds left → Holds left
-EachRest-whole Holds [] each = each
-EachRest-whole Holds (id ∷ left) each = each.0
+AreReady-fine : (Fine Calm : Configuration → Type 0) (c target : Configuration) (left : List ℕ) → AreReady Fine Calm c target left → Fine (between c target left)
+AreReady-fine Fine Calm c target [] ready = ready
+AreReady-fine Fine Calm c target (id ∷ left) ready = ready.0.fine
 
-pub steps_of-lead_on : (Fine : Ids → Type 0) (c target : Configuration) (left : List ℕ) → ValidByMember c → ValidByMember target → target.outgoing ≡ no_ids → AreOnce left
-    → ((voters : Ids) → Fine voters → is_empty voters ≡ false) → EachRest (λ left. Fine (mixed c.incoming target.incoming left)) left
-    → IsRunWith (IsTurn Fine target) (between c target left) (flat_map (steps_of c target) left) (between c target [])
-steps_of-lead_on Fine c target [] valid_c valid single once needs each = refl
-steps_of-lead_on Fine c target (id ∷ left) valid_c valid single once needs each =
-    let Leads : Configuration → Step → Configuration → Type 0 = λ before step after. Gives before step after × IsTurn Fine target before step after in
-    let Reaches : List Step → Type 0 = λ steps. IsRunWith (IsTurn Fine target) (between c target (id ∷ left)) steps (between c target []) in
+pub steps_of-lead_on : (Fine Calm : Configuration → Type 0) (c target : Configuration) (left : List ℕ) → ValidByMember c → ValidByMember target → target.outgoing ≡ no_ids → AreOnce left
+    → ((d : Configuration) → Fine d → is_empty d.incoming ≡ false) → AreReady Fine Calm c target left
+    → IsRunWith (IsTurn Fine Calm target) (between c target left) (flat_map (steps_of c target) left) (between c target [])
+steps_of-lead_on Fine Calm c target [] valid_c valid single once needs ready = refl
+steps_of-lead_on Fine Calm c target (id ∷ left) valid_c valid single once needs ready =
+    let Leads : Configuration → Step → Configuration → Type 0 = λ before step after. Gives before step after × IsTurn Fine Calm target before step after in
+    let Reaches : List Step → Type 0 = λ steps. IsRunWith (IsTurn Fine Calm target) (between c target (id ∷ left)) steps (between c target []) in
     subst Reaches (sym (flat_map-cons (steps_of c target) id left))
     (IsChain-append Leads (between c target (id ∷ left)) (between c target left) (between c target []) (steps_of c target id) (flat_map (steps_of c target) left)
-    (steps_of-lead Fine c target id left valid_c valid single (AreOnce-first id left once) needs each.0 (EachRest-whole (λ rest. Fine (mixed c.incoming target.incoming rest)) left each.1))
-    (steps_of-lead_on Fine c target left valid_c valid single (AreOnce-rest id left once) needs each.1))
+    (steps_of-lead Fine Calm c target id left valid_c valid single (AreOnce-first id left once) needs ready.0 (AreReady-fine Fine Calm c target left ready.1))
+    (steps_of-lead_on Fine Calm c target left valid_c valid single (AreOnce-rest id left once) needs ready.1))

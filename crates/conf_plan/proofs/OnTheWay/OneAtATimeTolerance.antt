@@ -16,13 +16,15 @@ use Rattle.quorum_sets.proofs.Offered.{Tolerates-from_counts, ascending-ids_of, 
 use Rattle.conf_change.specs.Configuration.{Configuration, voters_of}
 use Rattle.conf_change.proofs.Offered.{is_empty-no_ids}
 use Rattle.conf_plan.specs.OnTheWay.{IsAsTolerant}
-use Rattle.conf_plan.specs.OneAtATime.{joining, retiring, in_turn, order, down_in_order}
+use Rattle.conf_plan.specs.OneAtATime.{joining, retiring, leaving_learners, in_turn, order, down_in_order}
 use Rattle.conf_plan.proofs.FindingMoves.AscendingIds.{times}
-use Rattle.conf_plan.proofs.OnTheWay.OneAtATime.{EachRest}
-use Rattle.conf_plan.proofs.OnTheWay.OrderOfIds.{AreOnce, AreOnce-first, AreOnce-order, AreOnce-rest, mixed, has-mixed_done, has-mixed_first, has-where, mixed-none_left}
+use Rattle.conf_plan.proofs.OnTheWay.OrderOfIds.{All-joining, All-where, AreOnce, AreOnce-first, AreOnce-order, AreOnce-rest, mixed, has-mixed_done, has-mixed_first, has-where, mixed-none_left}
 
 -- ---- counts of voters on the way
 -- where one more id is done, the counts differ by it alone
+pub counted-passing : (p : ℕ → Bool) (ids : Ids) → count_of p ids ≡ size (ids_where p (ascending ids))
+counted-passing p ids = sym (ap length (ascending-ids_of (filter p (ascending ids)) (IsStrictlySortedBy-filter nat_cmp p (ascending ids) (ascending-is_sorted ids))) ∙ length-filter p (ascending ids))
+
 count_of-done : (p : ℕ → Bool) (had gets : Ids) (id : ℕ) (left : List ℕ) → times id left ≡ 0
     → count_of p (mixed had gets (id ∷ left)) + cond (p id && has gets id) 1 0 ≡ count_of p (mixed had gets left) + cond (p id && has had id) 1 0
 count_of-done p had gets id left once =
@@ -36,8 +38,8 @@ count_of-done p had gets id left once =
     grind (
       arith,
       sizes,
-      counted before,
-      counted after,
+      counted-passing p before,
+      counted-passing p after,
       has-where p before id,
       has-where p after id,
       size-with_id (passing before) id,
@@ -46,9 +48,6 @@ count_of-done p had gets id left once =
       done id,
       eq-eqb id id refl,
     )
-  where
-    counted : (ids : Ids) → count_of p ids ≡ size (ids_where p (ascending ids))
-    counted ids = sym (ap length (ascending-ids_of (filter p (ascending ids)) (IsStrictlySortedBy-filter nat_cmp p (ascending ids) (ascending-is_sorted ids))) ∙ length-filter p (ascending ids))
 
 -- ---- by how much those that are up outnumber those that are down
 abbrev up_of : Ids → Ids → ℕ
@@ -88,7 +87,12 @@ abbrev GainsOne : Ids → Ids → Ids → ℕ → Type 0
 GainsOne away had gets id = is_up away had id + is_down away gets id + 1 ≡ is_up away gets id + is_down away had id
 
 -- ---- the voters on the way
-abbrev AreFine : Ids → Ids → Ids → List ℕ → Type 0
+-- something holds of each part of a list from an id on
+abbrev EachRest : (List ℕ → Type 0) → List ℕ → Type 0
+EachRest Holds [] = Holds []
+EachRest Holds (id ∷ left) = Holds (id ∷ left) × EachRest Holds left
+
+abbrev pub AreFine : Ids → Ids → Ids → List ℕ → Type 0
 AreFine away had gets left = EachRest (λ left. IsNoWorseThanOne away had gets (mixed had gets left)) left
 
 -- where the rest only loses, all is no worse than at the end
@@ -132,24 +136,21 @@ fine-in_turn away had gets (x ∷ joins) (y ∷ retires) rest once gain lose wor
       (inl (omega arith), fine-in_turn away had gets joins retires rest (AreOnce-rest y left once_y) (All-tail (GainsOne away had gets) x joins gain) (All-tail (GainsOne away gets had) y retires lose) worse (omega arith)),
     )
 
--- the ids of a set that pass a test
-of_where : (P : ℕ → Type 0) (test : ℕ → Bool) (ids : Ids) → ((q : ℕ) → (test q && has ids q) ≡ true → P q) → All P (ascending (ids_where test (ascending ids)))
-of_where P test ids each =
-    All-from_any nat_eq_equiv P (ascending (ids_where test (ascending ids))) (λ q here. each q (sym (has-where test ids q) ∙ has-ascending (ids_where test (ascending ids)) q ∙ here))
-
 pub order-is_fine : (away : Ids) (c target : Configuration) → mixed c.incoming target.incoming (order away c target) ≡ c.incoming → AreFine away c.incoming target.incoming (order away c target)
 order-is_fine away c target all =
     let had = c.incoming in
     let gets = target.incoming in
     let up : ℕ → Bool = λ id. not (has away id) in
     fine-at_start away had gets (retiring (has away) c target) _ (AreOnce-order away c target)
-    (of_where (Loses away gets had) (λ id. not (has gets id) && has away id) had (λ q here. grind (arith, here)))
+    (All-where (Loses away gets had) (λ id. not (has gets id) && has away id) had (λ q here. grind (arith, here)))
     (subst (IsNoWorse away had) (sym all) (omega arith))
-    (λ once now. fine-in_turn away had gets (joining up c target) (retiring up c target) _ once
-    (of_where (GainsOne away had gets) (λ id. not (has had id) && up id) gets (λ q here. grind (arith, here)))
-    (of_where (GainsOne away gets had) (λ id. not (has gets id) && up id) had (λ q here. grind (arith, here)))
-    (All-append (Loses away had gets) (joining (has away) c target) _ (of_where (Loses away had gets) (λ id. not (has had id) && has away id) gets (λ q here. grind (arith, here)))
-    (of_where (Loses away had gets) (λ id. not (has had id || has gets id)) (union c.learners target.learners) (λ q here. grind (arith, here)))) now)
+    (λ once now.
+    fine-at_start away had gets (leaving_learners c target) _ once
+    (All-where (Loses away gets had) (λ id. not (has had id || has gets id || has target.learners id)) c.learners (λ q here. grind (arith, here))) now
+    (λ once now. fine-in_turn away had gets (joining up c target) (retiring up c target) _ once (All-joining (GainsOne away had gets) up c target (λ q here. grind (arith, here)))
+    (All-where (GainsOne away gets had) (λ id. not (has gets id) && up id) had (λ q here. grind (arith, here)))
+    (All-append (Loses away had gets) (joining (has away) c target) _ (All-joining (Loses away had gets) (has away) c target (λ q here. grind (arith, here)))
+    (All-where (Loses away had gets) (λ id. not (has had id || has gets id || has c.learners id)) target.learners (λ q here. grind (arith, here)))) now))
 
 -- ---- what is tolerated
 -- voters that tolerate something besides these ids commit without them

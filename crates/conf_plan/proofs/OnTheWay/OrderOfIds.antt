@@ -1,10 +1,15 @@
 -- Ids that are done one after another: those that are left have their first roles, and the others those of the target.
-use Rattle.std.proofs.Common.{◌≡◌, ℕ, ◌+◌, ◌≤◌, Bool, cond, not, ◌&&◌, ◌||◌, ◌==◌, List, [], ◌∷◌, ◌++◌, refl, sym, ap, ◌∙◌, arith, eqb-true, eq-eqb}
+use Rattle.std.proofs.Common.{◌≡◌, ℕ, ◌+◌, ◌≤◌, Bool, true, cond, not, ◌&&◌, ◌||◌, ◌==◌, List, [], ◌∷◌, ◌++◌, refl, sym, ap, ◌∙◌, arith, eqb-true, eq-eqb}
+use Rattle.std.specs.Cmp.{nat_eq_equiv}
+use Rattle.std.specs.List.{All}
+use Rattle.std.proofs.lemmas.Bool.{and_parts}
+use Rattle.std.proofs.lemmas.List.Elements.{All-append}
+use Rattle.std.proofs.lemmas.Map.Views.{All-from_any}
 use Rattle.std.proofs.lemmas.List.Sums.{sum_by-append}
 use Rattle.quorum_sets.specs.Ids.{Ids, has, ascending, union, ids_where}
 use Rattle.quorum_sets.proofs.Offered.{has-ascending, has-ids_where, has-same_ids, has-union}
 use Rattle.conf_change.specs.Configuration.{Configuration, ValidByMember}
-use Rattle.conf_plan.specs.OneAtATime.{joining, retiring, other_learners, in_turn, order}
+use Rattle.conf_plan.specs.OneAtATime.{learners_first, joining, retiring, leaving_learners, new_learners, in_turn, order}
 use Rattle.conf_plan.specs.Planned.{single_with}
 use Rattle.conf_plan.proofs.FindingMoves.AscendingIds.{times, times-ascending, times-cons}
 
@@ -22,43 +27,61 @@ AreOnce-first id ids once = grind (arith, times-cons id id ids, eq-eqb id id ref
 pub has-where : (test : ℕ → Bool) (ids : Ids) (q : ℕ) → has (ids_where test (ascending ids)) q ≡ (test q && has ids q)
 has-where test ids q = has-ids_where test (ascending ids) q ∙ ap (λ b. test q && b) (sym (has-ascending ids q))
 
-times-in_turn : (q : ℕ) (joins retires : List ℕ) → times q (in_turn joins retires) ≡ times q joins + times q retires
+-- what holds of each id of a set that passes a test holds of the list
+pub All-where : (P : ℕ → Type 0) (test : ℕ → Bool) (ids : Ids) → ((q : ℕ) → (test q && has ids q) ≡ true → P q) → All P (ascending (ids_where test (ascending ids)))
+All-where P test ids each =
+    All-from_any nat_eq_equiv P (ascending (ids_where test (ascending ids))) (λ q here. each q (sym (has-where test ids q) ∙ has-ascending (ids_where test (ascending ids)) q ∙ here))
+
+pub All-joining : (P : ℕ → Type 0) (passes : ℕ → Bool) (c target : Configuration) → ((q : ℕ) → ((not (has c.incoming q) && passes q) && has target.incoming q) ≡ true → P q) → All P (joining passes c target)
+All-joining P passes c target each =
+    let joins = ids_where (λ id. not (has c.incoming id) && passes id) (ascending target.incoming) in
+    let of_joins : (q : ℕ) → has joins q ≡ true → P q = λ q here. each q (sym (has-where (λ id. not (has c.incoming id) && passes id) target.incoming q) ∙ here) in
+    All-append P _ _ (All-where P (has c.learners) joins (λ q here. of_joins q (and_parts (has c.learners q) _ here).1))
+    (All-where P (λ id. not (has c.learners id)) joins (λ q here. of_joins q (and_parts (not (has c.learners q)) _ here).1))
+
+pub times-in_turn : (q : ℕ) (joins retires : List ℕ) → times q (in_turn joins retires) ≡ times q joins + times q retires
 times-in_turn q [] retires = omega arith
 times-in_turn q (x ∷ joins) [] = omega arith
 times-in_turn q (x ∷ joins) (y ∷ retires) =
     grind (arith, times-in_turn q joins retires, times-cons q x (y ∷ in_turn joins retires), times-cons q y (in_turn joins retires), times-cons q x joins, times-cons q y retires)
 
--- an id of a set that passes a test is among those that are down or among those that are up
-times-down_or_up : (q : ℕ) (down ids : Ids) (test : ℕ → Bool) → times q (ascending (ids_where (λ id. test id && has down id) (ascending ids)))
-    + times q (ascending (ids_where (λ id. test id && not (has down id)) (ascending ids))) ≡ cond (test q && has ids q) 1 0
-times-down_or_up q down ids test =
-    grind (
-      arith,
-      times-ascending q (ids_where (λ id. test id && has down id) (ascending ids)),
-      has-where (λ id. test id && has down id) ids q,
-      times-ascending q (ids_where (λ id. test id && not (has down id)) (ascending ids)),
-      has-where (λ id. test id && not (has down id)) ids q,
-    )
+pub times-append : (q : ℕ) (xs ys : List ℕ) → times q (xs ++ ys) ≡ times q xs + times q ys
+times-append q xs ys = sum_by-append (λ x. cond (q == x) 1 0) xs ys
 
--- how often an id is in the order, by whether it votes now and in the target, and whether it is a learner in one of both
-abbrev listed : Bool → Bool → Bool → ℕ
-listed votes will_vote learns = cond (not will_vote && votes) 1 0 + (cond (not votes && will_vote) 1 0 + cond (not (votes || will_vote) && learns) 1 0)
+pub times-where : (q : ℕ) (test : ℕ → Bool) (ids : Ids) → times q (ascending (ids_where test (ascending ids))) ≡ cond (test q && has ids q) 1 0
+times-where q test ids = times-ascending q (ids_where test (ascending ids)) ∙ ap (λ b. cond b 1 0) (has-where test ids q)
 
-times-order : (down : Ids) (c target : Configuration) (q : ℕ) → times q (order down c target) ≡ listed (has c.incoming q) (has target.incoming q) (has c.learners q || has target.learners q)
+times-learners_first : (q : ℕ) (learners ids : Ids) → times q (learners_first learners (ascending ids)) ≡ cond (has ids q) 1 0
+times-learners_first q learners ids =
+    let whole = times-append q (ascending (ids_where (has learners) (ascending ids))) (ascending (ids_where (λ id. not (has learners id)) (ascending ids))) in
+    grind (arith, whole, times-where q (has learners) ids, times-where q (λ id. not (has learners id)) ids)
+
+pub times-joining : (q : ℕ) (passes : ℕ → Bool) (c target : Configuration) → times q (joining passes c target) ≡ cond ((not (has c.incoming q) && passes q) && has target.incoming q) 1 0
+times-joining q passes c target =
+    times-learners_first q c.learners (ids_where (λ id. not (has c.incoming id) && passes id) (ascending target.incoming))
+    ∙ ap (λ b. cond b 1 0) (has-where (λ id. not (has c.incoming id) && passes id) target.incoming q)
+
+-- how often an id is in the order, by whether it is a voter now and in the target, and a learner now and in the target
+abbrev listed : Bool → Bool → Bool → Bool → ℕ
+listed votes will_vote learns will_learn =
+    cond (not will_vote && votes) 1 0
+    + (cond (not (votes || will_vote || will_learn) && learns) 1 0 + (cond (not votes && will_vote) 1 0 + cond (not (votes || will_vote || learns) && will_learn) 1 0))
+
+times-order : (down : Ids) (c target : Configuration) (q : ℕ) → times q (order down c target) ≡ listed (has c.incoming q) (has target.incoming q) (has c.learners q) (has target.learners q)
 times-order down c target q =
-    let one : ℕ → ℕ = λ x. cond (q == x) 1 0 in
     let up : ℕ → Bool = λ id. not (has down id) in
     let turns = in_turn (joining up c target) (retiring up c target) in
     let last = joining (has down) c target in
-    let others = ascending (other_learners c target) in
+    let whole = times-append q (retiring (has down) c target) (leaving_learners c target ++ (turns ++ (last ++ new_learners c target))) in
+    let later = times-append q (leaving_learners c target) (turns ++ (last ++ new_learners c target)) in
+    let middle = times-append q turns (last ++ new_learners c target) in
+    let end = times-append q last (new_learners c target) in
     let in_turns = times-in_turn q (joining up c target) (retiring up c target) in
-    let whole = sum_by-append one (retiring (has down) c target) (turns ++ (last ++ others)) in
-    let middle = sum_by-append one turns (last ++ others) in
-    let end = sum_by-append one last others in
-    let retired = times-down_or_up q down c.incoming (λ id. not (has target.incoming id)) in
-    let joined = times-down_or_up q down target.incoming (λ id. not (has c.incoming id)) in
-    let learned : times q others ≡ cond (not (has c.incoming q || has target.incoming q) && (has c.learners q || has target.learners q)) 1 0 =
-    grind (arith, times-ascending q (other_learners c target), has-where (λ id. not (has c.incoming id || has target.incoming id)) (union c.learners target.learners) q, has-union c.learners target.learners q) in
+    let leaving = times-where q (λ id. not (has c.incoming id || has target.incoming id || has target.learners id)) c.learners in
+    let new = times-where q (λ id. not (has c.incoming id || has target.incoming id || has c.learners id)) target.learners in
+    let retired : times q (retiring (has down) c target) + times q (retiring up c target) ≡ cond (not (has target.incoming q) && has c.incoming q) 1 0 =
+    grind (arith, times-where q (λ id. not (has target.incoming id) && has down id) c.incoming, times-where q (λ id. not (has target.incoming id) && up id) c.incoming) in
+    let joined : times q (joining up c target) + times q last ≡ cond (not (has c.incoming q) && has target.incoming q) 1 0 = grind (arith, times-joining q up c target, times-joining q (has down) c target) in
     omega arith
 
 pub AreOnce-order : (down : Ids) (c target : Configuration) → AreOnce (order down c target)

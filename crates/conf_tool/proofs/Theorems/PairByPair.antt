@@ -11,9 +11,9 @@ use Rattle.conf_session.specs.SessionState.{SessionState}
 use Rattle.plan_input.specs.Input.{current_in, target_in}
 use Rattle.plan_input.specs.declared.text_fault.TextFault.{TextFault}
 use Rattle.plan_input.proofs.Offered.{current_in-valid, target_in-valid}
-use Rattle.conf_tool.specs.Laws.{EachInTurn, PrintsEach, PrintsPair, pair_before, named_pairs, pairs_in, texts_from, separated_by}
+use Rattle.conf_tool.specs.Laws.{EachInTurn, PrintsEach, PrintsPair, pair_before, named_pairs, pairs_in, pairs_in_texts, texts_from, separated_by}
 use Rattle.conf_tool.specs.Outputs.{Output, separator, pair_text, pair_then, session_after_pair, ends_within, planned_pairs, planned_output}
-use Rattle.conf_tool.specs.Pairs.{NumberedLine, numbered, configuration_lines, current_at, pair_at, paired, with_target, written_at}
+use Rattle.conf_tool.specs.Pairs.{NumberedLine, numbered, configuration_lines, current_at, pair_at, pair_of_texts, paired, with_target, written_at}
 use Rattle.conf_tool.specs.PlanAnswer.{plan_text_between, session_between}
 use Rattle.conf_tool.specs.PlanScript.{default_session}
 use Rattle.conf_tool.specs.declared.origin.Origin.{Origin}
@@ -60,6 +60,14 @@ named-valid_pairs (first ∷ second ∷ lines) = by_pair (pair_at first second) 
 -- each pair that an input denotes is of valid configurations
 pub all-valid : (input : List ℕ) → All AreValid (pairs_in input)
 all-valid input = named-valid_pairs (configuration_lines (numbered 1 (listing_of input).items))
+
+-- nor is the pair of the values of --from and --to of others
+pub texts-valid : (from to : List ℕ) → All AreValid (pairs_in_texts from to)
+texts-valid from to = by (pair_of_texts from to) refl
+  where
+    by : (read : Result Pair PlanInputFault) → pair_of_texts from to ≡ read → All AreValid (pair_before read [])
+    by (Err bad) is = All-nil AreValid
+    by (Ok pair) is = All-cons AreValid pair [] (pair-valid From To from to pair is) (All-nil AreValid)
 
 -- what holds of each pair of valid configurations, and of its text
 abbrev pub HoldsOfText : PlanOptions → (SessionState → ℕ → Pair → List ℕ → Type 0) → Type 0

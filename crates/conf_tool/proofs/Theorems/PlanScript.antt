@@ -25,13 +25,15 @@ use Rattle.conf_session.specs.Commands.{answer}
 use Rattle.conf_session.specs.ReplyLines.{is_line_byte}
 use Rattle.conf_session.proofs.Offered.{all-append, and-both, conf_state-in_lines, reply_line-bytes, spaced-bytes}
 use Rattle.plan_output.specs.Stages.{stalls}
-use Rattle.conf_tool.specs.Laws.{pairs_in, texts_from, separated_by}
-use Rattle.conf_tool.specs.Outputs.{separator, checked, planned_output}
+use Rattle.conf_tool.specs.Laws.{pair_before, pairs_in, pairs_in_texts, texts_from, separated_by}
+use Rattle.conf_tool.specs.Outputs.{ends, pair_then, separator, checked, planned_output, planned_texts}
+use Rattle.conf_tool.specs.Pairs.{pair_of_texts}
 use Rattle.plan_output.specs.Steps.{ids_down, stall_text, stall_note}
-use Rattle.conf_tool.specs.PlanAnswer.{text_as, no_plan_comment, no_plan_text, path_between, reply_text, session_as, session_with, session_between}
+use Rattle.conf_tool.specs.PlanAnswer.{text_as, no_plan_comment, no_plan_text, path_between, plan_text_between, reply_text, session_as, session_with, session_between}
 use Rattle.conf_tool.specs.PlanScript.{note_items, restore_command, restore_directive, script_items, default_session, script_text}
 use Rattle.conf_tool.specs.Reports.{session_after_all, answered_entries, answered_text}
 use Rattle.conf_tool.specs.UndoScript.{comment, step_directive, step_items}
+use Rattle.conf_tool.specs.declared.plan_input_fault.PlanInputFault.{PlanInputFault}
 use Rattle.conf_tool.specs.declared.plan_options.PlanOptions.{PlanOptions}
 use Rattle.conf_tool.specs.declared.plan_options.PlanOutput.TheVariants.{Script}
 use Rattle.conf_tool.specs.declared.status.Status.TheVariants.{Clean}
@@ -310,10 +312,19 @@ planned-script holds options input script =
     planned-text options input ∙ ap (λ output. separated_by (separator output) (texts_from options default_session 1 (pairs_in input))) script
     ∙ texts-script holds options script default_session 1 (pairs_in input)
 
+-- the text for the values of --from and --to
+pub texts_of_pair-script : (options : PlanOptions) (from to : List ℕ) → options.output ≡ Script →
+    (planned_texts options from to).text ≡ rewritten_text (answered_entries default_session (all_items options (pairs_in_texts from to)))
+unfolding planned_texts
+texts_of_pair-script options from to script = by (pair_of_texts from to)
+  where
+    by : (read : Result Pair PlanInputFault) → (pair_then options default_session 1 read (ends (Ok Clean))).text ≡ own_text default_session (all_items options (pair_before read []))
+    by (Err bad) = refl
+    by (Ok pair) = append-nil (plan_text_between options default_session 1 pair.0 pair.1) ∙ reply-script options default_session 1 pair.0 pair.1 script
+
 -- ---- it checks clean
-pub script-clean : WrittenScript → DirectiveIsWellFormed → ActualIsValid → (options : PlanOptions) (input : List ℕ) → options.output ≡ Script →
-    length (planned_output options input).text ≤ longest_input → (checked (planned_output options input).text 100 One).outcome ≡ Ok Clean
+pub script-clean : WrittenScript → DirectiveIsWellFormed → ActualIsValid → (options : PlanOptions) (pairs : List Pair) (text : List ℕ) →
+    text ≡ rewritten_text (answered_entries default_session (all_items options pairs)) → length text ≤ longest_input → (checked text 100 One).outcome ≡ Ok Clean
 unfolding default_session
-script-clean written given holds options input script fits =
-    subst (λ t. length t ≤ longest_input → (checked t 100 One).outcome ≡ Ok Clean) (sym (planned-script holds options input script))
-    (written-clean written holds 100 One (all_items options (pairs_in input)) (all-read given options (pairs_in input))) fits
+script-clean written given holds options pairs text is fits =
+    subst (λ t. length t ≤ longest_input → (checked t 100 One).outcome ≡ Ok Clean) (sym is) (written-clean written holds 100 One (all_items options pairs) (all-read given options pairs)) fits

@@ -31,14 +31,15 @@ use Rattle.conf_session.specs.Reply.{restored_with}
 use Rattle.conf_session.specs.Values.{read_arguments}
 use Rattle.conf_change.specs.U64Lists.{HasU64Lists}
 use Rattle.plan_output.specs.Steps.{ids_down, stall_note}
-use Rattle.conf_tool.specs.Laws.{HasU64Pair, LeadsThrough, NoPair, WithPath, WithoutPath, PlanScriptLeads, pairs_in}
+use Rattle.conf_tool.specs.Laws.{HasU64Pair, IsScriptOf, LeadsThrough, NoPair, WithPath, WithoutPath, PlanScriptLeads, pairs_in, pairs_in_texts}
+use Rattle.conf_tool.specs.Outputs.{planned_output, planned_texts}
 use Rattle.conf_tool.specs.PlanAnswer.{path_between}
 use Rattle.conf_tool.specs.PlanScript.{note_items, restore_directive, script_items, default_session}
 use Rattle.conf_tool.specs.Reports.{answered_entries}
 use Rattle.conf_tool.specs.UndoScript.{step_items, TakesSteps}
 use Rattle.conf_tool.specs.declared.plan_options.PlanOptions.{PlanOptions}
-use Rattle.conf_tool.proofs.Theorems.PairByPair.{Pair, AreValid, all-valid}
-use Rattle.conf_tool.proofs.Theorems.PlanScript.{Answered, items_with, gap_with, all_items, all-read, planned-script, script-clean}
+use Rattle.conf_tool.proofs.Theorems.PairByPair.{Pair, AreValid, all-valid, texts-valid}
+use Rattle.conf_tool.proofs.Theorems.PlanScript.{Answered, items_with, gap_with, all_items, all-read, planned-script, script-clean, texts_of_pair-script}
 use Rattle.conf_tool.proofs.Theorems.RewrittenScript.{ActualIsValid, AreAgain, read-again}
 use Rattle.conf_tool.proofs.Theorems.PromisedPaths.{PathsAreRuns}
 use Rattle.conf_tool.proofs.Theorems.UndoneScript.{ChangesAreRead, directive_for, directives-items, run-comes, takes-again}
@@ -223,16 +224,24 @@ known-pairs options (pair ∷ pairs) valid small =
     All-cons (IsKnown options) pair pairs (record { valid = All-head AreValid pair pairs valid; u64_ids = All-head (HasU64Pair options) pair pairs small })
     (known-pairs options pairs (All-tail AreValid pair pairs valid) (All-tail (HasU64Pair options) pair pairs small))
 
-pub script-leads : WrittenScript → DirectiveIsWellFormed → ActualIsValid → IsRestored → DescribesOwn → ChangesAreRead → PathsAreRuns → PlanScriptLeads
-script-leads written given holds restored_is own read runs = record {
-  clean = script-clean written given holds;
-  leads = λ options input script small fits.
-      let pairs = pairs_in input in
-      let text = planned-script holds options input script in
+-- what a text says that is the script of pairs
+text-leads : WrittenScript → DirectiveIsWellFormed → ActualIsValid → IsRestored → DescribesOwn → ChangesAreRead → PathsAreRuns → (options : PlanOptions) (pairs : List Pair) (text : List ℕ) →
+    All AreValid pairs → text ≡ rewritten_text (answered_entries default_session (all_items options pairs)) → length text ≤ longest_input → IsScriptOf options pairs text
+text-leads written given holds restored_is own read runs options pairs text valid is fits = record {
+  clean = script-clean written given holds options pairs text is fits;
+  leads = λ small.
       let items = all_items options pairs in
       let again = directives_of (script_of (rewritten_text (answered_entries default_session items))).items in
-      let back = read-again written holds default_session items (all-read given options pairs) (subst (λ t. length t ≤ longest_input) text fits) in
-      let leads = own-leads restored_is own read (between-runs runs) options default_session pairs (known-pairs options pairs (all-valid input) small) in
-      subst (λ t. LeadsThrough options default_session (directives_of (script_of t).items) pairs) (sym text)
+      let back = read-again written holds default_session items (all-read given options pairs) (subst (λ t. length t ≤ longest_input) is fits) in
+      let leads = own-leads restored_is own read (between-runs runs) options default_session pairs (known-pairs options pairs valid small) in
+      subst (λ t. LeadsThrough options default_session (directives_of (script_of t).items) pairs) (sym is)
       (leads-again options default_session (own_directives options pairs) again pairs (subst (λ ds. AreAgain default_session ds again) (directives-all options pairs) back.1) leads);
+}
+
+pub script-leads : WrittenScript → DirectiveIsWellFormed → ActualIsValid → IsRestored → DescribesOwn → ChangesAreRead → PathsAreRuns → PlanScriptLeads
+script-leads written given holds restored_is own read runs = record {
+  each = λ options input script fits.
+      (text-leads written given holds restored_is own read runs options (pairs_in input) (planned_output options input).text (all-valid input) (planned-script holds options input script) fits);
+  texts = λ options from to script fits.
+      (text-leads written given holds restored_is own read runs options (pairs_in_texts from to) (planned_texts options from to).text (texts-valid from to) (texts_of_pair-script options from to script) fits);
 }

@@ -5,7 +5,7 @@ use Rattle.quorum_sets.specs.Ids.{Ids}
 use Rattle.conf_change.specs.Configuration.{Configuration, has_voter}
 use Rattle.conf_change.specs.declared.step.Step.{Step}
 use Rattle.conf_plan.specs.OnTheWay.{ChangesOneLearnerFirst}
-use Rattle.conf_plan.specs.OneChangeEach.{one_change_each}
+use Rattle.conf_plan.specs.OneChangeEach.{one_change_each, LeadsChangeByChange}
 use Rattle.conf_plan.specs.PathBy.{has_path, path_by, KeepsPromises}
 use Rattle.conf_plan.specs.Run.{IsRun, IsRunWith, IsValidWithVoter}
 use Rattle.conf_plan.specs.declared.strategy.Strategy.{Strategy}
@@ -49,7 +49,7 @@ paths-run keep strategy down now target voter_now voter_target path = promises-r
 -- what the laws of the crates below say
 pub record IsGiven : Type 0 where
   pub promised : HoldsOfPaths KeepsPromises
-  pub single_changes : HoldsOfPaths (λ strategy down now steps target. IsRun now (one_change_each steps) target)
+  pub change_by_change : HoldsOfPaths (λ strategy down. LeadsChangeByChange)
   pub stages : (now target : Configuration) (steps : List Step) → IsRun now steps target → AreOnTheWay (stages now steps) steps target
   pub lines : (strategy : Strategy) (made : Ids) (down : Option Ids) (number : ℕ) (now target : Configuration) → IsValidWithVoter now → IsValidWithVoter target → has_path strategy now target ≡ true →
       LinesLead now now (path_json number now (path_by strategy made now target) down) target
@@ -59,10 +59,12 @@ path-leads : IsGiven → (options : PlanOptions) (number : ℕ) (now target : Co
 path-leads given options number now target voter_now voter_target path =
     let down = ids_down options.down in
     let steps = path_by options.strategy down now target in
+    let change_by_change = given.change_by_change options.strategy down now target voter_now voter_target path in
     record {
       promised = given.promised options.strategy down now target voter_now voter_target path;
       on_the_way = given.stages now target steps (paths-run given.promised options.strategy down now target voter_now voter_target path);
-      single_changes = given.stages now target (one_change_each steps) (given.single_changes options.strategy down now target voter_now voter_target path);
+      change_by_change = change_by_change;
+      single_changes = given.stages now target (one_change_each steps) change_by_change.run;
       lines = given.lines options.strategy down options.down number now target voter_now voter_target path;
     }
 

@@ -26,7 +26,7 @@ const LAST_TWO_REPLACED: Sets = [&[1, 2, 3, 6, 7], &[], &[], &[]];
 
 const FIRST_TWO_REPLACED: Sets = [&[3, 4, 5], &[], &[], &[]];
 
-static ROWS: [Row; 9] = [
+static ROWS: [Row; 10] = [
     // Both failed voters leave before anything is added.
     (
         Strategy::OneAtATime,
@@ -80,6 +80,15 @@ static ROWS: [Row; 9] = [
         &[3],
         "leave-joint\nsimple r3\nsimple l5\nsimple v5\n",
         "leave-joint\nsimple r3\nsimple l5\nsimple v5\n",
+    ),
+    // A voter that is down leaves first, then a learner, and then the new voter joins.
+    (
+        Strategy::OneAtATime,
+        [&[1, 2, 3], &[], &[9], &[]],
+        [&[1, 2, 4], &[], &[], &[]],
+        &[3],
+        "simple r3\nsimple r9\nsimple l4\nsimple v4\n",
+        "simple r3\nsimple r9\nsimple l4\nsimple v4\n",
     ),
     // The other strategies do not look at the ids that are down.
     (

@@ -2,10 +2,9 @@
 use crate::runtime::Runtime;
 use crate::sets::with_acks;
 use quorum_sets::{
-    AckSource, MemberSet, TreeIds, add_ids, commits_without, common_member, contains_from,
-    is_quorum, list_of, may_be_down, quorum,
+    AckSource, MemberSet, TreeIds, commits_without, common_member, contains_from, is_quorum,
+    may_be_down, quorum,
 };
-use smallvec::SmallVec;
 use std::collections::BTreeMap;
 
 pub(crate) fn set_of(rt: &impl Runtime, ids: &[u64]) -> TreeIds {
@@ -159,23 +158,4 @@ fn looks_up_ascending_ids(rt: HostRuntime) {
     for (id, there) in &LOOKED_UP {
         assert!(rt; contains_from(&set, &mut index, *id) == *there, "{id}");
     }
-}
-
-#[test]
-fn lists_the_ids_of_a_set(rt: HostRuntime) {
-    for (ids, listed) in [
-        (&[][..], &[][..]),
-        (&[4, 18446744073709551615, 2], &[2, 4, 18446744073709551615]),
-    ] {
-        let list = list_of(rt.alloc(), &set_of(&rt, ids)).expect(&rt, "memory");
-        assert!(rt; list.as_slice() == listed);
-    }
-}
-
-#[test]
-fn appends_the_ids_of_a_set(rt: HostRuntime) {
-    let mut ids = SmallVec::new(rt.alloc());
-    add_ids(&mut ids, &set_of(&rt, &[4, 2])).expect(&rt, "memory");
-    add_ids(&mut ids, &set_of(&rt, &[18446744073709551615, 2])).expect(&rt, "memory");
-    assert!(rt; ids.as_slice() == &[2, 4, 2, 18446744073709551615][..]);
 }

@@ -24,9 +24,9 @@ all-ids a b c d = has-same_ids _ _ (λ q.
 pub returns : goal.returns
 returns g c =
     let own = g.S.MemberSet.ids in
-    let listed = c.as_slice.ensures ∙ c.in_ok-add_ids-4.ensures
-    ∙ ap (λ l. l ++ ascending (own c.args.d.now)) (c.in_ok-add_ids-3.ensures
-    ∙ ap (λ l. l ++ ascending (own c.args.c.now)) (c.in_ok-add_ids-2.ensures
-    ∙ ap (λ l. l ++ ascending (own c.args.b.now)) (c.in_ok-add_ids.ensures ∙ ap (λ l. l ++ ascending (own c.args.a.now)) c.new-ids.ensures.items))) in
+    let listed = c.as_slice.ensures ∙ c.in_ok-add_ids-4.ensures.ok
+    ∙ ap (λ l. l ++ ascending (own c.args.d.now)) (c.in_ok-add_ids-3.ensures.ok
+    ∙ ap (λ l. l ++ ascending (own c.args.c.now)) (c.in_ok-add_ids-2.ensures.ok
+    ∙ ap (λ l. l ++ ascending (own c.args.b.now)) (c.in_ok-add_ids.ensures.ok ∙ ap (λ l. l ++ ascending (own c.args.a.now)) c.new-ids.ensures.items))) in
     let all = union (union (own c.args.a.now) (own c.args.b.now)) (union (own c.args.c.now) (own c.args.d.now)) in
     IfOk-weaker c.of_list.result (λ s. own s ≡ ids_of c.as_slice.result.now) (λ s. own s ≡ all) (λ s e. e ∙ ap ids_of listed ∙ all-ids _ _ _ _) c.of_list.ensures

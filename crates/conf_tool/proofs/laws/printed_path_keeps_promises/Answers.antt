@@ -5,7 +5,7 @@ pub returns : goal.returns
 returns c =
     printed-keeps_promises (record {
       promised = c.paths_keep_promises.ensures.promises;
-      single_changes = c.one_change_each_leads.ensures;
+      change_by_change = c.one_change_each_leads.ensures;
       stages = c.stages_are_on_the_way.ensures;
       lines = c.json_lines_lead_to_the_target.ensures;
     })

@@ -3,6 +3,7 @@ use Rattle.std.proofs.lemmas.Bool.{and_from, and_parts}
 use Rattle.quorum_sets.specs.Ids.{ascending}
 use Rattle.conf_change.specs.Configuration.{is_valid, has_voter_or_is_empty}
 use Rattle.conf_change.specs.ConfState.{lists_of, restored}
+use Rattle.conf_change.specs.Transition.{step_of}
 use Rattle.conf_plan.specs.OnTheWay.{catching_up}
 use Rattle.confscript_c.specs.Numbers.{all_members, configuration_of, lists_in, numbers_of}
 use Rattle.confscript_c.proofs.ArraysRead.{has_form-array_of, lists_in-array_of, configuration_of-valid, IsRead-from_configuration_of, IsRestored-from_result, IsStepped-from_result}
@@ -36,6 +37,17 @@ returns-clause-after_restore c numbers out e =
 pub returns-clause-after_step : goal.returns-clause-after_step
 returns-clause-after_step c numbers out number changes e =
     let is = IsStepped-from_result numbers out number changes e in
-    let described = (c.restored_is_described.ensures (lists_in numbers) is.before).0 ((returns-clause-restored c numbers is.before).0 is.read).1 in
-    let ok = c.trackers_stay_sound.ensures.restorable is.before is.after is.step described.1 is.taken in
-    (is.after, ap configuration_of is.written ∙ returns-clause-again c is.after (catching_up is.before is.step is.after) ok)
+    let step = step_of is.kind is.made in
+    let described = (c.restored_is_described.ensures (lists_in numbers) is.before).0 ((returns-clause-restored c numbers is.before).0 is.begins).1 in
+    let ok = c.trackers_stay_sound.ensures.restorable is.before is.after step described.1 is.taken in
+    record {
+      before = is.before;
+      made = is.made;
+      kind = is.kind;
+      after = is.after;
+      begins = is.begins;
+      changes_read = is.changes_read;
+      kind_read = is.kind_read;
+      taken = is.taken;
+      ends = ap configuration_of is.written ∙ returns-clause-again c is.after (catching_up is.before step is.after) ok;
+    }

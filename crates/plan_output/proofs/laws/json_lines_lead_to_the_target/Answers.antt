@@ -27,7 +27,7 @@ returns c strategy made down plan now target is_now is_target has =
       restored = λ d ok. (c.restored_is_described.ensures (lists_of d) d).1 (c.conf_state_describes.ensures.own d, ok);
       valid = c.run_stays_valid.ensures;
     })
-    down _ plan now _ target is_now (c.one_change_each_leads.ensures strategy made now target is_now is_target has)
+    down _ plan now _ target is_now (c.one_change_each_leads.ensures strategy made now target is_now is_target has).run
     (stays_till_last-one_change_each (path_by strategy made now target)
     (of_strategy strategy made now target (c.paths_keep_promises.ensures.promises strategy made now target is_now is_target has)))
     (is_taken_as_it_is-one_change_each (path_by strategy made now target))
