@@ -66,8 +66,6 @@ enum confscript_status {
     CONFSCRIPT_NO_VOTER = 6,
     /* A line of the plan is not a step. The number is that of the line, counted from 1. */
     CONFSCRIPT_BAD_LINE = 7,
-    /* No longer returned: a plan may have any number of lines. */
-    CONFSCRIPT_TOO_MANY_STEPS = 8,
 
     /* confscript_apply and _step: a step is refused. confscript_apply: the number is that of the step, counted from 1. */
     CONFSCRIPT_ALREADY_JOINT = 9,
@@ -77,13 +75,12 @@ enum confscript_status {
     CONFSCRIPT_REMOVED_ALL_VOTERS = 13,
     CONFSCRIPT_MORE_THAN_ONE_VOTER = 14,
 
-    /* confscript_check, _restore and _step: the first of these that is broken, in this order. For 16 to 19 the number is
+    /* confscript_check, _restore and _step: the first of these that is broken, in this order. For 16 to 18 the number is
        the least id that breaks it. */
     CONFSCRIPT_ZERO_ID = 15,                    /* a set holds the id 0; confscript_plan: an id that is down is 0 */
     CONFSCRIPT_NEXT_NOT_OUTGOING = 16,          /* a next learner is not an outgoing voter */
     CONFSCRIPT_NEXT_AND_INCOMING = 17,          /* a next learner is an incoming voter */
     CONFSCRIPT_LEARNER_AND_VOTER = 18,          /* a learner is a voter */
-    CONFSCRIPT_NOT_JOINT_BUT_NEXT = 19,         /* next learners without outgoing voters; 16 comes before it */
     CONFSCRIPT_NOT_JOINT_BUT_AUTO_LEAVE = 20,   /* auto-leave without outgoing voters */
 
     /* confscript_restore and _step: the array does not have the form of enum confscript_part. It has fewer than six
@@ -118,7 +115,7 @@ enum confscript_status {
 
 /* How confscript_plan goes from one configuration to another. */
 enum confscript_strategy {
-    CONFSCRIPT_SHORTEST = 0,       /* by as few steps as possible, at most four */
+    CONFSCRIPT_SHORTEST = 0,       /* by as few steps as possible, at most four (the JSON may have more lines) */
     CONFSCRIPT_LEARNERS_FIRST = 1, /* new voters are learners first, so that they can catch up before they vote */
     CONFSCRIPT_ONE_AT_A_TIME = 2   /* one member changes a step, once a joint one is left; no plan leads into one */
 };
@@ -183,7 +180,7 @@ enum confscript_step_kind {
     CONFSCRIPT_IMPLICIT = 1,   /* they enter a joint configuration, which is left automatically */
     CONFSCRIPT_EXPLICIT = 2,   /* they enter a joint configuration, which a later step has to leave */
     CONFSCRIPT_SIMPLE = 3,     /* they change at most one voter, and any number of learners */
-    CONFSCRIPT_LEAVE_JOINT = 4 /* leaves a joint configuration; the changes are ignored */
+    CONFSCRIPT_LEAVE_JOINT = 4 /* leaves a joint configuration; of the changes only the kinds are checked */
 };
 
 struct confscript_answer {
@@ -222,9 +219,12 @@ struct confscript_answer confscript_status_text(uint32_t status, uint8_t *out, s
  * CONFSCRIPT_ONE_AT_A_TIME, fewer besides the ids that are down. If there is nothing to do, the steps are the line
  * `nothing to do`. The text does not end with a zero byte. The number is its length in bytes.
  *
+ * In JSON each change of a simple step is a step of its own, so there may be more lines than the plan has steps.
+ *
  * - CONFSCRIPT_SHORTEST: at most four steps. No plan has fewer steps, or names a member in fewer changes; a member that
  *   can keep its progress keeps it. A plan does not see logs: a new voter begins with an empty one, so from [1 2 3] to
- *   [3 4 5] nothing commits until 4 or 5 has caught up.
+ *   [3 4 5] nothing commits until 4 or 5 has caught up. (These are steps. The JSON has an object for each change of a
+ *   step `simple`, so it may have more lines.)
  * - CONFSCRIPT_LEARNERS_FIRST: at most one step more than the shortest plan. Each new voter is a learner first, so the
  *   caller can let it catch up before proposing the next step.
  * - CONFSCRIPT_ONE_AT_A_TIME: each step changes one member, after a joint configuration is left, and each new voter is
@@ -257,8 +257,8 @@ struct confscript_answer confscript_check(const uint8_t *state, size_t state_len
 /*
  * Returns the committed index of a voter set, or of a joint pair, from the index that each voter has acknowledged, 0 if
  * it is unknown: the greatest index that more than half of `incoming` have reached, or the smaller one of both sets if
- * `outgoing` is not empty. It is 2^64-1 if there are no voters. The call cannot fail. It sorts both arrays in place, so
- * each is left with the same indexes in another order.
+ * `outgoing` is not empty. It is 2^64-1 if there are no voters. The call cannot fail. It leaves each array with the same
+ * indexes, in any order.
  */
 uint64_t confscript_committed(uint64_t *incoming, size_t incoming_len, uint64_t *outgoing, size_t outgoing_len);
 

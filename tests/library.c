@@ -158,13 +158,13 @@ static void expect_numbers(const char *name, call which, int allocates, uint32_t
 static void on_texts(const char *a, const char *b) { first = a; second = b; room = ROOM; }
 
 static void texts(void) {
-    /* The text of each status, by its code; the last is that of a number that is not a status. */
+    /* The text of each status, by its code; 8, 19 and the last number are not statuses. */
     static const char *const words[] = {
         "done", "the buffer is too small", "out of memory", "not a ConfState line", "an id is named twice", "not a configuration",
-        "no incoming voter", "not a step", "more than four steps", "config is already joint", "can't make a zero-voter config joint",
+        "no incoming voter", "not a step", "unknown status", "config is already joint", "can't make a zero-voter config joint",
         "can't leave a non-joint config", "can't apply simple config change in joint config", "removed all voters",
         "more than one voter changed without entering joint config", "the id 0", "a next learner is not an outgoing voter",
-        "a next learner is an incoming voter", "a learner is a voter", "next learners without outgoing voters",
+        "a next learner is an incoming voter", "a learner is a voter", "unknown status",
         "auto-leave without outgoing voters", "the counts do not match the length", "a vote is neither 0, 1 nor 2",
         "the voters are no quorum", "unknown strategy", "the target is joint", "unknown step", "unknown kind of change", "unknown output",
         "no form of a configuration", "not a printed configuration", "not the JSON of a configuration", "not a list of changes", "unknown status"};

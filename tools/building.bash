@@ -1,6 +1,6 @@
 # Functions of ./confscript, ./library and the other scripts at the top: which crates crates.txt lists, which of them are
-# built, and how the toolchain's compiler proves and builds one. A script that sources this file has the top of the
-# repository in $top.
+# built, how the toolchain's compiler proves and builds one, and where the text is, the assembly that is compiled of what
+# was proved. A script that sources this file has the top of the repository in $top.
 
 # needs_rt SCRIPT: fails with a message of one line if the toolchain is missing.
 needs_rt() {
@@ -182,4 +182,103 @@ prove_below() {
     mapfile -t left < <(printf '%s\n' "${left[@]}" | grep -vx "$crate")
     report "$logs/$crate.log" "$crate" "$status" $((SECONDS - began[$crate])) $((${#left[@]} + 1)) || return
   done
+}
+
+# sum_of_sources: the checksum of the sources: src, specs and proofs of all crates, and crates.txt.
+sum_of_sources() {
+  (cd "$top" && find crates.txt crates/*/{src,specs,proofs} -type f -print0 | LC_ALL=C sort -z | xargs -0 sha256sum | sha256sum | cut -c1-64)
+}
+
+# crate_of WHAT: the crate of the program or of the library.
+crate_of() {
+  [ "$1" = program ] && echo confscript || echo confscript_c
+}
+
+# compile_text JOBS WHAT PROCESSOR TEXT: proves the crate of the program or of the library, and writes the assembly that the
+# toolchain's clang makes of what was proved. The crates below have to be built. What was checked of the crate for one
+# processor holds for the other one too, so that only the code is made again.
+compile_text() (
+  jobs=$1 what=$2 processor=$3 text=$4
+  crate=$(crate_of "$what")
+  kit=$(dirname "$(rt doc)")
+  room=$(mktemp -d) || exit
+  trap 'rm -rf "$room"' EXIT
+  # The folder of a toolchain whose clang writes the assembly beside itself.
+  mkdir "$room/bin" && ln -s "$kit/toolchain" "$room/real" && ln -s real/lib "$room/lib" &&
+    ln -s ../real/bin/{clang,rattle-x64} "$room/bin" && mv "$room/bin/clang" "$room/bin/ld.lld" &&
+    cp -P "$room/bin/ld.lld" "$room/bin/llvm-ar" && cp "$top/tools/clang_to_text" "$room/bin/clang" || exit
+  target=x86_64-unknown-linux-gnu
+  [ "$processor" = x86_64 ] || target=aarch64-unknown-linux-gnu
+  words=(--target "$target" --toolchain "$room" --backend llvm -o "$room/object")
+  # What `rt check` keeps, if it was used in this clone.
+  checked=$top/crates/$crate/out/incremental
+  [ -d "$checked" ] || checked=$top/crates/$crate/out/checked
+  words+=(--incremental "$checked")
+  if [ "$what" = program ]; then
+    rattle_build "$jobs" "$crate" src/main.rt --links "$crate=" "${words[@]}"
+  else
+    rattle_build "$jobs" "$crate" src/lib.rt --crate-type staticlib "${words[@]}" && complete_library "$room" "$target"
+  fi && mv "$room/text.s" "$text"
+)
+
+# complete_library ROOM TARGET: adds to the text of the library what it takes from compiled/system.c, as functions that are
+# not seen from outside: each library of the toolchain has functions of these names. Its first line, a comment for
+# assemblers, tells Go when its package links another library. All labels get names that LLVM gives to none: with Rust's
+# link-time optimization LLVM assembles the text in one module with code of its own.
+complete_library() {
+  "$1/real/bin/clang" --target="$2" --no-default-config -std=c11 -ffreestanding -O2 -fPIC -ffunction-sections \
+    -fno-asynchronous-unwind-tables -fno-ident -fno-addrsig -fno-verbose-asm -S "$top/compiled/system.c" -o "$1/system.s" &&
+    sed -i -e '1i //go:build cgo \&\& !confscript_flags \&\& !confscript_pkg_config\n' -e '/^\t\.asci[iz]\t/!s/\.L/.Lcs_/g' "$1/text.s" &&
+    sed '/^\t\.file\t/d; /^\t\.globl\t/d; s/\.Lfunc_end/.Lsystem_end/g' "$1/system.s" >>"$1/text.s"
+}
+
+# needs_proof WHAT: fails with a message of one line if the sources cannot be proved.
+needs_proof() {
+  if ! command -v rt >/dev/null; then
+    echo "confscript: the sources are not those that compiled/ is of, and the toolchain Rattle is missing (no rt on the path), which proves and compiles them; 'How to get it' in README.md says what it is" >&2
+    return 1
+  fi
+  echo "confscript: the sources are not those that compiled/ is of, so the $1 is proved and compiled first: some 12 minutes with 4 idle processors; './try' runs the program in a minute or two, without proof" >&2
+}
+
+# prove_all_below JOBS CRATE: proves and builds all crates below a crate. If `rt check` was used in this clone, what it
+# kept makes that short.
+prove_all_below() {
+  local jobs=$1 crate=$2 logs=$top/confscript.d last
+  last=$(crates_below "$crate" | tail -n 1)
+  mkdir -p "$logs"
+  if [ -d "$top/crates/$last/out/incremental" ]; then
+    (cd "$top/crates/$crate" && logged "$logs" "$crate" rt check)
+  else
+    prove_below "$logs" "$crate" "$jobs"
+  fi
+}
+
+# prove_text JOBS WHAT PROCESSOR TEXT: proves the program or the library and all crates below, and writes its text.
+prove_text() {
+  local crate
+  crate=$(crate_of "$2")
+  prove_all_below "$1" "$crate" && logged "$top/confscript.d" "$crate" compile_text "$@"
+}
+
+# find_text WHAT: sets $text to the text of the program or the library for $processor, compiled of the sources as they are,
+# and $of to the line of SOURCES for it. That is the text in compiled/, or if the sources are others, one in out/compiled,
+# which is proved and compiled unless it is there already.
+find_text() {
+  local sum
+  sum=$(sum_of_sources)
+  text=$top/compiled/$1_$processor.s
+  of=$(cat "$top/compiled/SOURCES" 2>/dev/null)
+  [ ! -e "$text" ] || [ "${of%% *}" != "$sum" ] || return 0
+  text=$top/out/compiled/$1_$processor.s
+  of=$(cat "$text.of" 2>/dev/null)
+  [ "${of%% *}" != "$sum" ] || return 0
+  needs_proof "$1" || return
+  of="$sum $(rt version)"
+  mkdir -p "${text%/*}" && rm -f "$text.of" && prove_text "$(jobs_for_machine)" "$1" "$processor" "$text" || return
+  if [ "$(sum_of_sources)" != "$sum" ]; then
+    echo 'confscript: the sources were changed while they were proved' >&2
+    return 1
+  fi
+  echo "$of" >"$text.of"
 }

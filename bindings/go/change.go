@@ -1,7 +1,9 @@
+//go:build cgo
+
 package confscript
 
 /*
-#include <confscript.h>
+#include "confscript.h"
 */
 import "C"
 
@@ -52,7 +54,8 @@ const (
 	ConfChangeTransitionJointExplicit ConfChangeTransition = C.CONFSCRIPT_EXPLICIT
 )
 
-// ConfChangeV2 is a proposal, with the field names of raftpb.ConfChangeV2.
+// ConfChangeV2 is a proposal, with the field names of raftpb.ConfChangeV2. It is read from the JSON of a plan and from
+// that of raftpb, which has numbers in place of the names.
 type ConfChangeV2 struct {
 	Transition ConfChangeTransition `json:"transition"`
 	Changes    []ConfChangeSingle   `json:"changes"`
@@ -60,9 +63,15 @@ type ConfChangeV2 struct {
 
 // ApplyConfChange returns the configuration after a proposal, as etcd's raft applies it, and the members that begin
 // afresh in it: those that were none before, and those that the changes remove and add again, unless they are outgoing
-// voters. The other members keep their progress.
+// voters. The other members keep their progress. A transition that raftpb does not have is refused.
 func ApplyConfChange(state ConfState, change ConfChangeV2) (next ConfState, fresh []uint64, err error) {
-	return step(state, C.uint32_t(change.Transition), change.Changes)
+	switch change.Transition {
+	case ConfChangeTransitionAuto, ConfChangeTransitionJointImplicit, ConfChangeTransitionJointExplicit:
+		return step(state, C.uint32_t(change.Transition), change.Changes)
+	default:
+		// The library has steps of other numbers, which are not transitions.
+		return ConfState{}, nil, &Refused{Status: C.CONFSCRIPT_BAD_STEP}
+	}
 }
 
 // Simple returns the configuration after changes of any number of learners and at most one voter. It is refused in a

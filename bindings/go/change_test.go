@@ -1,3 +1,5 @@
+//go:build cgo
+
 package confscript
 
 import (
@@ -76,6 +78,15 @@ func TestRefusedChanges(t *testing.T) {
 	}
 	if err := refused(Simple(one, changes(ConfChangeSingle{4, 2}))); err == nil {
 		t.Error("a change of an unknown type is accepted")
+	}
+	// 3 is a simple step of the library, and 4 leaves a joint configuration.
+	for _, transition := range []ConfChangeTransition{-1, 3, 4, 5} {
+		for _, state := range []ConfState{one, joint} {
+			err := refused(ApplyConfChange(state, ConfChangeV2{transition, changes(learner(3))}))
+			if err == nil || err.Error() != "unknown step" {
+				t.Errorf("transition %d: %v", transition, err)
+			}
+		}
 	}
 }
 

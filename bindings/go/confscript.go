@@ -1,25 +1,39 @@
-// Package confscript plans and checks who votes in a raft group. It is a thin layer over libconfscript; confscript.h
-// says what each call returns.
+//go:build cgo
+
+// Package confscript plans and checks who votes in a raft group. It is a thin layer over the compiled code of the library,
+// which is part of this package for Linux on x86-64 and arm64; confscript.h says what each call returns.
 //
 // A plan leads from a configuration to a target, both of which are texts in one of the forms of confscript.h, such as
 // "voters=(1 2 3)" or the JSON of a ConfState; the target may also be a list of changes, such as "r1 v4". Plan and PlanBy
 // return the lines of its steps, PlanAs another output, and Stages what to propose to etcd's raft. Apply and Check take
 // a ConfState line.
 //
-// The compiler finds the header and the library by pkg-config, or by CGO_CFLAGS and CGO_LDFLAGS with the build tag
-// confscript_flags.
+// The package needs cgo and a C compiler. To link an installed library in place of the compiled code in this package, use
+// one of two build tags: with confscript_pkg_config the compiler finds it by pkg-config, and with confscript_flags by
+// CGO_LDFLAGS.
 package confscript
 
 /*
-#cgo !confscript_flags pkg-config: confscript
-#include <confscript.h>
+#cgo confscript_pkg_config pkg-config: confscript
+#include "confscript.h"
 */
 import "C"
 
 import (
 	"fmt"
+	"os"
 	"unsafe"
 )
+
+// An installed library with another major or minor version than the header may have calls with other parameters.
+func init() {
+	const header = C.CONFSCRIPT_VERSION
+	if library := Version(); library/100 != header/100 {
+		fmt.Fprintf(os.Stderr, "confscript: the library has version %d.%d.%d, and this package is for version %d.%d\n",
+			library/10000, library/100%100, library%100, header/10000, header/100%100)
+		os.Exit(1)
+	}
+}
 
 // Refused is the error of a call that was refused: the status of confscript.h and its number.
 type Refused struct {

@@ -1,7 +1,9 @@
+//go:build cgo
+
 package confscript
 
 /*
-#include <confscript.h>
+#include "confscript.h"
 
 // The values of a few voters, the incoming ones first. They are passed by value, so that Go keeps them on its stack.
 struct few_indexes { uint64_t each[16]; };
@@ -92,31 +94,32 @@ func castAll(ballots []Ballot) []byte {
 	return all
 }
 
-// Committed returns the committed index of a voter set, or of a joint pair, each of which lists a voter once. The map has
-// the index that each id has acknowledged; it is 0 for any other id. The committed index is 2^64-1 if there are no
-// voters.
+// Committed returns the committed index of a voter set, or of a joint pair. The map has the index that each id has
+// acknowledged; it is 0 for any other id. The committed index is 2^64-1 if there are no voters. A voter that a list
+// names twice counts once.
 func Committed(incoming, outgoing []uint64, acknowledged map[uint64]uint64) uint64 {
-	index := func(voters []uint64) []uint64 {
-		indexes := make([]uint64, len(voters))
-		for i, id := range voters {
-			indexes[i] = acknowledged[id]
-		}
-		return indexes
-	}
-	return CommittedIndex(index(incoming), index(outgoing))
+	index := func(id uint64) uint64 { return acknowledged[id] }
+	return CommittedIndex(ofEach(incoming, index), ofEach(outgoing, index))
 }
 
-// Vote returns the result of a vote by a voter set, or by a joint pair, each of which lists a voter once. The map has the
-// vote of each id that has voted.
+// Vote returns the result of a vote by a voter set, or by a joint pair. The map has the vote of each id that has voted. A
+// voter that a list names twice counts once.
 func Vote(incoming, outgoing []uint64, votes map[uint64]bool) VoteResult {
-	ballots := func(voters []uint64) []Ballot {
-		all := make([]Ballot, len(voters))
-		for i, id := range voters {
-			all[i] = BallotOf(votes, id)
+	ballot := func(id uint64) Ballot { return BallotOf(votes, id) }
+	return TallyVotes(ofEach(incoming, ballot), ofEach(outgoing, ballot))
+}
+
+// ofEach returns the value of each voter, once if it is named twice.
+func ofEach[T any](voters []uint64, value func(id uint64) T) []T {
+	counted := make(map[uint64]bool, len(voters))
+	values := make([]T, 0, len(voters))
+	for _, id := range voters {
+		if !counted[id] {
+			counted[id] = true
+			values = append(values, value(id))
 		}
-		return all
 	}
-	return TallyVotes(ballots(incoming), ballots(outgoing))
+	return values
 }
 
 // BallotOf returns the ballot of an id, of a map that has the vote of each id that has voted.
@@ -133,7 +136,7 @@ func BallotOf(votes map[uint64]bool, id uint64) Ballot {
 }
 
 // MayBeDown returns how many ids may be down, whichever they are, while the other voters are a quorum, for which the
-// uncounted ids do not count. If the voters are no quorum even with none down, the error is a Refused with the status
+// uncounted ids do not count. A voter that a list names twice counts once. If the voters are no quorum even with none down, the error is a Refused with the status
 // 23.
 func MayBeDown(incoming, outgoing, uncounted []uint64) (uint64, error) {
 	return number(C.confscript_may_be_down(first(incoming), C.size_t(len(incoming)), first(outgoing), C.size_t(len(outgoing)),

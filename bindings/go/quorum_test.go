@@ -1,3 +1,5 @@
+//go:build cgo
+
 package confscript
 
 import (
@@ -60,6 +62,34 @@ func TestTallyVotes(t *testing.T) {
 		if result := TallyVotes(row.incoming, row.outgoing); result != row.result {
 			t.Errorf("TallyVotes of %d and %d ballots: %d, and not %d", len(row.incoming), len(row.outgoing), result, row.result)
 		}
+	}
+}
+
+// TestVotersNamedTwice counts each voter once, however often a list names it.
+func TestVotersNamedTwice(t *testing.T) {
+	acknowledged := map[uint64]uint64{1: 9, 2: 7, 3: 5, 4: 3}
+	for _, row := range []struct {
+		incoming, outgoing []uint64
+		index              uint64
+	}{
+		{ids(1, 1, 1, 2, 3), nil, 7},
+		{ids(1, 2), ids(1, 1, 1, 3, 4, 4), 5},
+	} {
+		if index := Committed(row.incoming, row.outgoing, acknowledged); index != row.index {
+			t.Errorf("Committed of %v and %v: %d, and not %d", row.incoming, row.outgoing, index, row.index)
+		}
+	}
+	if result := Vote(ids(1, 1, 1, 2, 2, 3), nil, map[uint64]bool{1: true}); result != VotePending {
+		t.Errorf("Vote: %d", result)
+	}
+	if result := Vote(ids(1, 1, 1, 2, 2), ids(3), map[uint64]bool{1: true, 2: true, 3: true}); result != VoteWon {
+		t.Errorf("Vote: %d", result)
+	}
+	if count, err := MayBeDown(ids(1, 1, 1, 2, 3), nil, ids(1, 1)); err != nil || count != 0 {
+		t.Errorf("MayBeDown: %d, %v", count, err)
+	}
+	if count, err := MayBeDown(ids(1, 1, 2, 2, 3, 3), nil, nil); err != nil || count != 1 {
+		t.Errorf("MayBeDown: %d, %v", count, err)
 	}
 }
 

@@ -1,3 +1,5 @@
+//go:build cgo
+
 package confscript
 
 import (
@@ -70,48 +72,60 @@ var (
 	transitionNames = []string{"ConfChangeTransitionAuto", "ConfChangeTransitionJointImplicit", "ConfChangeTransitionJointExplicit"}
 )
 
-// String returns the name of the type in raftpb.
-func (kind ConfChangeType) String() string { return nameIn(changeNames, int(kind)) }
+// String returns the name of the type in raftpb, or the number of one that raftpb does not have.
+func (kind ConfChangeType) String() string { return nameIn(changeNames, int32(kind)) }
 
-// String returns the name of the transition in raftpb.
+// String returns the name of the transition in raftpb, or the number of one that raftpb does not have.
 func (transition ConfChangeTransition) String() string {
-	return nameIn(transitionNames, int(transition))
+	return nameIn(transitionNames, int32(transition))
 }
 
-// MarshalText writes the name of the type, as the JSON of a plan has it.
-func (kind ConfChangeType) MarshalText() ([]byte, error) { return []byte(kind.String()), nil }
+// MarshalJSON writes the name of the type, as the JSON of a plan has it, or the number of one that raftpb does not have.
+func (kind ConfChangeType) MarshalJSON() ([]byte, error) { return nameAsJSON(changeNames, int32(kind)) }
 
-// MarshalText writes the name of the transition, as the JSON of a plan has it.
-func (transition ConfChangeTransition) MarshalText() ([]byte, error) {
-	return []byte(transition.String()), nil
+// MarshalJSON writes the name of the transition, as the JSON of a plan has it, or the number of one that raftpb does not
+// have.
+func (transition ConfChangeTransition) MarshalJSON() ([]byte, error) {
+	return nameAsJSON(transitionNames, int32(transition))
 }
 
-// UnmarshalText reads the name of a type.
-func (kind *ConfChangeType) UnmarshalText(name []byte) error {
-	number, err := numberIn(changeNames, string(name))
-	*kind = ConfChangeType(number)
-	return err
+// UnmarshalJSON reads the name of a type, or its number.
+func (kind *ConfChangeType) UnmarshalJSON(text []byte) error {
+	return nameFromJSON(changeNames, text, (*int32)(kind))
 }
 
-// UnmarshalText reads the name of a transition.
-func (transition *ConfChangeTransition) UnmarshalText(name []byte) error {
-	number, err := numberIn(transitionNames, string(name))
-	*transition = ConfChangeTransition(number)
-	return err
+// UnmarshalJSON reads the name of a transition, or its number.
+func (transition *ConfChangeTransition) UnmarshalJSON(text []byte) error {
+	return nameFromJSON(transitionNames, text, (*int32)(transition))
 }
 
-func nameIn(names []string, number int) string {
-	if number < 0 || number >= len(names) {
+func nameIn(names []string, number int32) string {
+	if number < 0 || int(number) >= len(names) {
 		return fmt.Sprint(number)
 	}
 	return names[number]
 }
 
-func numberIn(names []string, name string) (int, error) {
-	for number, each := range names {
+func nameAsJSON(names []string, number int32) ([]byte, error) {
+	if name := nameIn(names, number); name != fmt.Sprint(number) {
+		return json.Marshal(name)
+	}
+	return json.Marshal(number)
+}
+
+func nameFromJSON(names []string, text []byte, number *int32) error {
+	if text[0] != '"' {
+		return json.Unmarshal(text, number)
+	}
+	var name string
+	if err := json.Unmarshal(text, &name); err != nil {
+		return err
+	}
+	for i, each := range names {
 		if each == name {
-			return number, nil
+			*number = int32(i)
+			return nil
 		}
 	}
-	return 0, fmt.Errorf("confscript: unknown name %q", name)
+	return fmt.Errorf("confscript: unknown name %q", name)
 }

@@ -1,4 +1,4 @@
-"""Plans and checks who votes in a raft group: a thin layer over libconfscript.so.
+"""Plans and checks who votes in a raft group: a thin layer over the shared library.
 
 include/confscript.h says what each call returns.
 
@@ -13,13 +13,14 @@ A program that embeds the library keeps a Configuration and makes its steps by `
 
 A call that is refused raises Refused, which has the status and the number; if memory runs out, it raises MemoryError.
 A number that is not an int raises TypeError, and one that is not in range OverflowError.
-The library is the one that CONFSCRIPT_LIBRARY names, or the one that the system's loader finds.
+The library is the one that CONFSCRIPT_LIBRARY names, or else the one in this package, or else, in a package that was
+not built, the one that the system's loader finds.
 """
 import ctypes
 import operator
 import os
 from enum import IntEnum
-from typing import NamedTuple
+from typing import Any, Callable, Iterable, Mapping, NamedTuple, Optional, Sequence, SupportsIndex, Tuple, Union
 
 __all__ = [
     "ChangeKind", "Configuration", "Output", "Refused", "StepKind", "Strategy", "Vote", "apply", "check", "committed", "may_be_down", "plan", "restore",
@@ -27,14 +28,21 @@ __all__ = [
 ]
 
 DONE, TOO_SMALL, NO_MEMORY, NO_QUORUM = 0, 1, 2, 23
+# The major and minor version of the confscript.h that the calls below are written for.
+HEADER = (0, 1)
 
 
 class Refused(Exception):
     """A call was refused: the `status` of confscript.h, and its `number`."""
 
-    def __init__(self, status, number):
-        super().__init__(f"{_text_of(status)} ({number})" if number else _text_of(status))
+    def __init__(self, status: int, number: int) -> None:
+        # An exception is copied and pickled by a call with the arguments that are kept here.
+        super().__init__(status, number)
         self.status, self.number = status, number
+
+    def __str__(self) -> str:
+        text = _text_of(self.status)
+        return f"{text} ({self.number})" if self.number else text
 
 
 class Strategy(IntEnum):
@@ -67,12 +75,12 @@ class Configuration(NamedTuple):
     The ids of a list may be in any order. A call that is passed the configuration ignores `fresh`.
     """
 
-    voters: tuple = ()
-    voters_outgoing: tuple = ()
-    learners: tuple = ()
-    learners_next: tuple = ()
+    voters: Sequence[int] = ()
+    voters_outgoing: Sequence[int] = ()
+    learners: Sequence[int] = ()
+    learners_next: Sequence[int] = ()
     auto_leave: bool = False
-    fresh: tuple = ()
+    fresh: Sequence[int] = ()
 
 
 class ChangeKind(IntEnum):
@@ -102,7 +110,28 @@ class _Change(ctypes.Structure):
     _fields_ = [("kind", ctypes.c_uint32), ("id", ctypes.c_uint64)]
 
 
-_library = ctypes.CDLL(os.environ.get("CONFSCRIPT_LIBRARY") or "libconfscript.so.0")
+Text = Union[str, bytes, bytearray, memoryview]
+
+
+def _path() -> str:
+    beside = os.path.join(os.path.dirname(os.path.abspath(__file__)), "libconfscript.so")
+    return os.environ.get("CONFSCRIPT_LIBRARY") or (beside if os.path.exists(beside) else "libconfscript.so.0")
+
+
+_library = ctypes.CDLL(_path())
+_library.confscript_version.argtypes, _library.confscript_version.restype = (), ctypes.c_uint32
+
+
+def version() -> Tuple[int, int, int]:
+    """Returns the version of the library, as (major, minor, patch)."""
+    number: int = _library.confscript_version()
+    return number // 10000, number // 100 % 100, number % 100
+
+
+# A library with another major or minor version may have calls with other parameters.
+if version()[:2] != HEADER:
+    raise ImportError("confscript: the library has version {}.{}.{}, and this package is for version {}.{}".format(*version(), *HEADER), path=_library._name)
+
 _BYTES, _IDS = (ctypes.c_char_p, ctypes.c_size_t), (ctypes.POINTER(ctypes.c_uint64), ctypes.c_size_t)
 _OUT = (ctypes.POINTER(ctypes.c_char), ctypes.c_size_t)
 for _name, _types in {
@@ -118,10 +147,9 @@ for _name, _types in {
     _call = getattr(_library, f"confscript_{_name}")
     _call.argtypes, _call.restype = _types, _Answer
 _library.confscript_committed.argtypes, _library.confscript_committed.restype = _IDS * 2, ctypes.c_uint64
-_library.confscript_version.argtypes, _library.confscript_version.restype = (), ctypes.c_uint32
 
 
-def _uint(value, bits=64):
+def _uint(value: SupportsIndex, bits: int = 64) -> int:
     """Returns an int that fits into this number of bits; ctypes would wrap it around."""
     number = operator.index(value)
     if not 0 <= number < 1 << bits:
@@ -129,25 +157,29 @@ def _uint(value, bits=64):
     return number
 
 
-def _bytes(text):
+def _bytes(text: Text) -> Tuple[bytes, int]:
+    # bytes() would also take a number, as that many zero bytes.
+    if not isinstance(text, (str, bytes, bytearray, memoryview)):
+        raise TypeError(f"a text is a str or bytes, not {text!r}")
     data = text.encode() if isinstance(text, str) else bytes(text)
     # ctypes passes a pointer to the bytes, which is not null even if there are none.
     return data, len(data)
 
 
-def _numbers(numbers):
-    numbers = [*map(_uint, numbers)]
+def _numbers(numbers: Iterable[SupportsIndex]) -> Tuple["ctypes.Array[ctypes.c_uint64]", int]:
+    checked = [*map(_uint, numbers)]
     # The array has room for at least one number, so that its pointer is never null.
-    return (ctypes.c_uint64 * max(len(numbers), 1))(*numbers), len(numbers)
+    return (ctypes.c_uint64 * max(len(checked), 1))(*checked), len(checked)
 
 
-def _number(answer):
+def _number(answer: _Answer) -> int:
+    number: int = answer.number
     if answer.status != DONE:
-        raise MemoryError() if answer.status == NO_MEMORY else Refused(answer.status, answer.number)
-    return answer.number
+        raise MemoryError() if answer.status == NO_MEMORY else Refused(answer.status, number)
+    return number
 
 
-def _written(call, *arguments):
+def _written(call: Callable[..., _Answer], *arguments: Any) -> str:
     """The text that a call writes. If the buffer is too small, the call is made again with a larger one."""
     room = 256
     while True:
@@ -158,7 +190,7 @@ def _written(call, *arguments):
         room = answer.number
 
 
-def _configured(call, configuration, *arguments):
+def _configured(call: Callable[..., _Answer], configuration: Configuration, *arguments: Any) -> Configuration:
     """The configuration that a call writes. If the buffer is too small, the call is made again with a larger one."""
     parts = [[*part] for part in (configuration.voters, configuration.voters_outgoing, configuration.learners, configuration.learners_next)]
     numbers = _numbers([bool(configuration.auto_leave), *map(len, parts), 0, *(id for part in parts for id in part)])
@@ -171,15 +203,17 @@ def _configured(call, configuration, *arguments):
         room = answer.number
     auto_leave, *rest = out[: _number(answer)]
     ids = iter(rest[5:])
-    *parts, fresh = (tuple(next(ids) for _ in range(count)) for count in rest[:5])
-    return Configuration(*parts, bool(auto_leave), fresh)
+    voters, outgoing, learners, learners_next, fresh = (tuple(next(ids) for _ in range(count)) for count in rest[:5])
+    return Configuration(voters, outgoing, learners, learners_next, bool(auto_leave), fresh)
 
 
-def _text_of(status):
+def _text_of(status: int) -> str:
     return _written(_library.confscript_status_text, status)
 
 
-def plan(now, target, strategy=Strategy.SHORTEST, *, output=Output.STEPS, down=()):
+def plan(
+    now: Text, target: Text, strategy: Strategy = Strategy.SHORTEST, *, output: Output = Output.STEPS, down: Iterable[int] = ()
+) -> str:
     """Returns the plan by a strategy from a configuration to a target, as the program prints it with this output.
 
     `down` are the ids that are down. If the plan stalls with them, the steps begin with a line such as
@@ -188,27 +222,29 @@ def plan(now, target, strategy=Strategy.SHORTEST, *, output=Output.STEPS, down=(
     return _written(_library.confscript_plan, *_bytes(now), *_bytes(target), _uint(strategy, 32), _uint(output, 32), *_numbers(down))
 
 
-def apply(state, steps):
+def apply(state: Text, steps: Text) -> str:
     """Returns the ConfState line of the configuration after the steps of a plan."""
     return _written(_library.confscript_apply, *_bytes(state), *_bytes(steps))
 
 
-def check(state):
+def check(state: Text) -> None:
     """Raises Refused if something is wrong with the configuration of a ConfState line."""
     _number(_library.confscript_check(*_bytes(state)))
 
 
-def committed(incoming, outgoing, acknowledged):
+def committed(incoming: Iterable[int], outgoing: Iterable[int], acknowledged: Mapping[int, int]) -> int:
     """Returns the committed index of a voter set, or of a joint pair; `acknowledged` maps each id to its index.
 
-    An id that is not in the map has acknowledged 0. The committed index is 2**64-1 if there are no voters.
+    An id that is not in the map has acknowledged 0. The committed index is 2**64-1 if there are no voters. A voter that
+    is named twice counts once.
     """
-    acknowledged = {_uint(id): _uint(index) for id, index in acknowledged.items()}
-    indexes = ([acknowledged.get(id, 0) for id in {*map(_uint, voters)}] for voters in (incoming, outgoing))
-    return _library.confscript_committed(*(argument for part in indexes for argument in _numbers(part)))
+    known = {_uint(id): _uint(index) for id, index in acknowledged.items()}
+    indexes = ([known.get(id, 0) for id in {*map(_uint, voters)}] for voters in (incoming, outgoing))
+    index: int = _library.confscript_committed(*(argument for part in indexes for argument in _numbers(part)))
+    return index
 
 
-def _ballots(voters, votes):
+def _ballots(voters: Iterable[int], votes: Mapping[int, bool]) -> Tuple[bytes, int]:
     ballots = [votes.get(id) for id in {*map(_uint, voters)}]
     for ballot in ballots:
         if ballot is not None and not isinstance(ballot, bool):
@@ -216,12 +252,15 @@ def _ballots(voters, votes):
     return _bytes(bytes(2 if ballot is None else ballot for ballot in ballots))
 
 
-def vote(incoming, outgoing, votes):
-    """Returns the result of a vote by a voter set, or by a joint pair; `votes` maps each id that voted to a bool."""
+def vote(incoming: Iterable[int], outgoing: Iterable[int], votes: Mapping[int, bool]) -> Vote:
+    """Returns the result of a vote by a voter set, or by a joint pair; `votes` maps each id that voted to a bool.
+
+    A voter that is named twice counts once.
+    """
     return Vote(_number(_library.confscript_vote(*_ballots(incoming, votes), *_ballots(outgoing, votes))))
 
 
-def restore(configuration):
+def restore(configuration: Configuration) -> Configuration:
     """Checks a saved configuration, and returns it with its ids in ascending order and all members beginning afresh.
 
     So a server restores it when it restarts (etcd's confchange.Restore).
@@ -229,23 +268,18 @@ def restore(configuration):
     return _configured(_library.confscript_restore, configuration)
 
 
-def step(configuration, kind, changes=()):
+def step(configuration: Configuration, kind: StepKind, changes: Iterable[Tuple[ChangeKind, int]] = ()) -> Configuration:
     """Returns the configuration after one step; each of `changes` is a pair of a ChangeKind and an id."""
-    changes = [_Change(_uint(change, 32), _uint(id)) for change, id in changes]
-    array = (_Change * max(len(changes), 1))(*changes)
-    return _configured(_library.confscript_step, configuration, _uint(kind, 32), array, len(changes))
+    checked = [_Change(_uint(change, 32), _uint(id)) for change, id in changes]
+    array = (_Change * max(len(checked), 1))(*checked)
+    return _configured(_library.confscript_step, configuration, _uint(kind, 32), array, len(checked))
 
 
-def may_be_down(incoming, outgoing, uncounted=()):
+def may_be_down(incoming: Iterable[int], outgoing: Iterable[int], uncounted: Iterable[int] = ()) -> Optional[int]:
     """Returns how many ids may be down, whichever they are, while the other voters are a quorum.
 
-    The uncounted ids do not count for the quorum. Returns None if the voters are no quorum even with none down.
+    The uncounted ids do not count for the quorum. A voter that is named twice counts once. Returns None if the voters
+    are no quorum even with none down.
     """
     answer = _library.confscript_may_be_down(*_numbers(incoming), *_numbers(outgoing), *_numbers(uncounted))
     return None if answer.status == NO_QUORUM else _number(answer)
-
-
-def version():
-    """Returns the version of the library, as (major, minor, patch)."""
-    number = _library.confscript_version()
-    return number // 10000, number // 100 % 100, number % 100

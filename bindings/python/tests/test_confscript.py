@@ -1,5 +1,8 @@
 """Tests the calls of the binding from a Python program."""
+import copy
 import json
+import multiprocessing
+import pickle
 import unittest
 
 import confscript
@@ -64,6 +67,29 @@ class Calls(unittest.TestCase):
             self.assertEqual((raised.exception.status, raised.exception.number, str(raised.exception)), (status, number, text))
         confscript.check(NOW)
 
+    def test_a_refusal_is_copied_and_pickled(self):
+        refused = confscript.Refused(11, 1)
+        for made in [copy.copy(refused), copy.deepcopy(refused), *(pickle.loads(pickle.dumps(refused, protocol)) for protocol in range(pickle.HIGHEST_PROTOCOL + 1))]:
+            self.assertIs(type(made), confscript.Refused)
+            self.assertEqual((made.status, made.number, str(made)), (11, 1, "can't leave a non-joint config (1)"))
+        # A pool waits forever for a result that cannot be pickled, so the wait has a limit.
+        with multiprocessing.Pool(1) as pool:
+            with self.assertRaises(confscript.Refused) as raised:
+                pool.map_async(confscript.check, [NOW, "Voters:[1]"]).get(timeout=60)
+        self.assertEqual((raised.exception.status, raised.exception.number), (3, 1))
+
+    def test_texts_that_are_none(self):
+        for call in [
+            lambda: confscript.plan(5, ""),
+            lambda: confscript.plan(NOW, 0),
+            lambda: confscript.plan(NOW, None),
+            lambda: confscript.plan([86], TARGET),
+            lambda: confscript.apply(NOW, True),
+            lambda: confscript.check(3),
+        ]:
+            self.assertRaises(TypeError, call)
+        self.assertEqual(confscript.plan(NOW.encode(), bytearray(b"r1")), "simple r1\n")
+
     def test_quorums(self):
         self.assertEqual(confscript.committed([1, 2, 3], [], {1: 9, 2: 7}), 7)
         self.assertEqual(confscript.committed([1, 2, 3], [4], {1: 9, 2: 7, 4: 5}), 5)
@@ -71,7 +97,15 @@ class Calls(unittest.TestCase):
         self.assertEqual(confscript.vote([1, 2, 3], [], {1: True, 2: True}), confscript.Vote.WON)
         self.assertEqual(confscript.vote([1, 2, 3], [], {1: False, 2: False}), confscript.Vote.LOST)
         self.assertEqual(confscript.vote([1, 2, 3], [], {}), confscript.Vote.PENDING)
+
+    def test_a_voter_named_twice_counts_once(self):
+        acknowledged = {1: 9, 2: 7, 3: 5, 4: 3}
+        self.assertEqual(confscript.committed([1, 1, 1, 2, 3], [], acknowledged), 7)
+        self.assertEqual(confscript.committed([1, 2], [1, 1, 1, 3, 4, 4], acknowledged), 5)
+        self.assertEqual(confscript.vote([1, 1, 1, 2, 2, 3], [], {1: True}), confscript.Vote.PENDING)
         self.assertEqual(confscript.vote([1, 1, 1, 2, 2], [3], {1: True, 2: True, 3: True}), confscript.Vote.WON)
+        self.assertEqual(confscript.may_be_down([1, 1, 1, 2, 3], [], [1, 1]), 0)
+        self.assertEqual(confscript.may_be_down([1, 1, 2, 2, 3, 3], []), 1)
 
     def test_steps(self):
         from confscript import ChangeKind, Configuration, StepKind

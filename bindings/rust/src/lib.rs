@@ -1,11 +1,36 @@
-//! Plans and checks who votes in a raft group: a thin layer over `libconfscript.a`. `confscript.h` says what each call
-//! returns.
+//! Plans and checks who votes in a raft group: a thin layer over the compiled code of the library, which is part of this
+//! crate for Linux on x86-64 and arm64. `confscript.h` says what each call returns.
 //!
 //! A plan leads from a configuration to a target, both of which are texts in one of the forms of `confscript.h`, such as
 //! `voters=(1 2 3)`; the target may also be a list of changes, such as `r1 v4`. [`apply`] and [`check`] take a ConfState
-//! line. A program that embeds the library keeps a
-//! [`Configuration`], makes its steps by [`step`], and counts by [`committed`] and [`vote`], without texts.
-use std::fmt;
+//! line. A program that embeds the library keeps a [`Configuration`], makes its steps by [`step`], and counts by
+//! [`committed`] and [`vote`], without texts.
+//!
+//! # Features
+//!
+//! - `std`, on by default: [`Error`] is a `std::error::Error`. Without it the crate needs `alloc`, and the `malloc`,
+//!   `realloc` and `free` of a C library.
+//! - `system`: links an installed `libconfscript.a` in place of the compiled code in this crate. It is in the folder that
+//!   the variable `CONFSCRIPT_LIB` names, or where pkg-config finds it. If it has another major or minor version than
+//!   this crate, the first call panics.
+#![no_std]
+#![warn(missing_docs)]
+
+extern crate alloc;
+#[cfg(feature = "std")]
+extern crate std;
+
+use alloc::{string::String, vec, vec::Vec};
+use core::fmt;
+use core::sync::atomic::{AtomicBool, Ordering};
+
+// The compiled code, which has the calls as global names.
+#[cfg(all(not(feature = "system"), target_os = "linux", target_arch = "x86_64"))]
+core::arch::global_asm!(include_str!("../confscript_linux_amd64.s"), options(att_syntax, raw));
+#[cfg(all(not(feature = "system"), target_os = "linux", target_arch = "aarch64"))]
+core::arch::global_asm!(include_str!("../confscript_linux_arm64.s"), options(raw));
+#[cfg(not(any(feature = "system", all(target_os = "linux", any(target_arch = "x86_64", target_arch = "aarch64")))))]
+compile_error!("confscript has compiled code for Linux on x86-64 and arm64 alone; the feature `system` links an installed library");
 
 #[repr(C)]
 struct Answer {
@@ -33,33 +58,44 @@ extern "C" {
     ) -> Answer;
 }
 
+// Panics if an installed library has another major or minor version than this crate: its calls may have other parameters.
+fn check_library() {
+    const EXPECTED: &str = concat!(env!("CARGO_PKG_VERSION_MAJOR"), ".", env!("CARGO_PKG_VERSION_MINOR"));
+    static IS_CHECKED: AtomicBool = AtomicBool::new(false);
+    if cfg!(feature = "system") && !IS_CHECKED.load(Ordering::Relaxed) {
+        let (major, minor, patch) = (version() / 10000, version() / 100 % 100, version() % 100);
+        assert!(alloc::format!("{major}.{minor}") == EXPECTED, "confscript: the library has version {major}.{minor}.{patch}, and this crate is for version {EXPECTED}");
+        IS_CHECKED.store(true, Ordering::Relaxed);
+    }
+}
+
 const DONE: u32 = 0;
 const TOO_SMALL: u32 = 1;
 
 /// Why a call is refused: the statuses of `confscript.h`, with their numbers if they have one.
 #[derive(Clone, Copy, Debug, PartialEq, Eq)]
 pub enum Error {
+    /// Memory ran out.
     NoMemory,
-    /// The number is 1 for the first text of the call, and 2 for the second.
+    /// A text is not a ConfState line. The number is 1 for the first text of the call, and 2 for the second.
     BadConfState(u64),
     /// A text is in no form of a configuration, or cannot be read in its form: the status that says which, and the number
     /// as for `BadConfState`.
     BadText(u32, u64),
-    /// The id, or 0 for a line.
+    /// A list names an id twice: the id, the first such one of the first such list.
     RepeatedId(u64),
-    /// The number is as for `BadConfState`.
+    /// A text names no configuration that the call accepts. The number is as for `BadConfState`.
     NotAConfiguration(u64),
-    /// The number is as for `BadConfState`, or 0 for a configuration that is no line.
+    /// A configuration has no incoming voter. The number is as for `BadConfState`, or 0 for a [`Configuration`].
     NoVoter(u64),
-    /// The number of the line, counted from 1.
+    /// A line of a plan is not a step: its number, counted from 1.
     BadLine(u64),
-    /// No longer returned: a plan may have any number of lines.
-    TooManySteps,
     /// A step is refused: the status that says why, and the number of the step of a plan, counted from 1, else 0.
     Step(u32, u64),
     /// The configuration breaks an invariant: the status that says which, and the least id that breaks it, or 0. For a
     /// plan, an id that is down is 0.
     Broken(u32, u64),
+    /// The voters are no quorum even with none down.
     NoQuorum,
     /// No plan that changes one member at a time leads into a joint configuration.
     JointTarget,
@@ -74,7 +110,6 @@ impl Error {
             (5, number) => Error::NotAConfiguration(number),
             (6, number) => Error::NoVoter(number),
             (7, number) => Error::BadLine(number),
-            (8, _) => Error::TooManySteps,
             (23, _) => Error::NoQuorum,
             (25, _) => Error::JointTarget,
             (status @ 9..=14, number) => Error::Step(status, number),
@@ -92,7 +127,6 @@ impl Error {
             Error::NotAConfiguration(_) => 5,
             Error::NoVoter(_) => 6,
             Error::BadLine(_) => 7,
-            Error::TooManySteps => 8,
             Error::BadText(status, _) | Error::Step(status, _) | Error::Broken(status, _) => status,
             Error::NoQuorum => 23,
             Error::JointTarget => 25,
@@ -114,6 +148,7 @@ impl fmt::Display for Error {
     }
 }
 
+#[cfg(feature = "std")]
 impl std::error::Error for Error {}
 
 /// How a plan goes from one configuration to another.
@@ -144,7 +179,9 @@ pub enum Output {
 /// How a plan is made and written. The default is the shortest plan, as steps, with no ids down.
 #[derive(Clone, Copy, Debug, Default, PartialEq, Eq)]
 pub struct Options<'a> {
+    /// How the plan goes from the configuration to the target.
     pub strategy: Strategy,
+    /// What is written of it.
     pub output: Output,
     /// The ids that are down, in any order.
     pub down: &'a [u64],
@@ -157,6 +194,7 @@ pub struct Configuration {
     pub voters: Vec<u64>,
     /// The outgoing voters, none if the configuration is not joint.
     pub voters_outgoing: Vec<u64>,
+    /// The learners.
     pub learners: Vec<u64>,
     /// The outgoing voters that become learners when the joint configuration is left.
     pub learners_next: Vec<u64>,
@@ -201,10 +239,13 @@ impl Configuration {
 #[repr(u32)]
 #[derive(Clone, Copy, Debug, PartialEq, Eq)]
 pub enum ChangeKind {
+    /// Makes it a voter.
     Voter = 0,
+    /// Removes it.
     Remove = 1,
-    /// It has no effect.
+    /// Has no effect.
     Update = 2,
+    /// Makes it a learner.
     Learner = 3,
 }
 
@@ -212,7 +253,9 @@ pub enum ChangeKind {
 #[repr(C)]
 #[derive(Clone, Copy, Debug, PartialEq, Eq)]
 pub struct Change {
+    /// What it does to the id.
     pub kind: ChangeKind,
+    /// The id of a member, or of one to be.
     pub id: u64,
 }
 
@@ -235,8 +278,11 @@ pub enum StepKind {
 /// The result of a vote.
 #[derive(Clone, Copy, Debug, PartialEq, Eq)]
 pub enum VoteResult {
+    /// It depends on voters that have not voted.
     Pending,
+    /// It is lost, however the others vote.
     Lost,
+    /// It is won, however the others vote.
     Won,
 }
 
@@ -246,6 +292,7 @@ fn number(answer: Answer) -> Result<u64, Error> {
 
 // The text that a call writes. If the buffer is too small, the call is made again with a larger one.
 fn written(call: impl Fn(&mut [u8]) -> Answer) -> Result<String, Error> {
+    check_library();
     let mut out = vec![0; 256];
     loop {
         let answer = call(&mut out);
@@ -260,6 +307,7 @@ fn written(call: impl Fn(&mut [u8]) -> Answer) -> Result<String, Error> {
 
 // The configuration that a call writes. If the buffer is too small, the call is made again with a larger one.
 fn configured(call: impl Fn(&mut [u64]) -> Answer) -> Result<Configuration, Error> {
+    check_library();
     let mut out = vec![0; 64];
     loop {
         let answer = call(&mut out);
@@ -296,6 +344,7 @@ pub fn apply(state: &str, steps: &str) -> Result<String, Error> {
 
 /// What is wrong with the configuration of a ConfState line, if anything is.
 pub fn check(state: &str) -> Result<(), Error> {
+    check_library();
     // SAFETY: as in `plan_by`.
     number(unsafe { confscript_check(state.as_ptr(), state.len()) }).map(|_| ())
 }
@@ -303,12 +352,14 @@ pub fn check(state: &str) -> Result<(), Error> {
 /// The committed index of a voter set, or of a joint pair, from the index that each voter has acknowledged, 0 if it is
 /// unknown. It is `u64::MAX` if there are no voters. The indexes are left in another order.
 pub fn committed(incoming: &mut [u64], outgoing: &mut [u64]) -> u64 {
+    check_library();
     // SAFETY: as in `plan_by`.
     unsafe { confscript_committed(incoming.as_mut_ptr(), incoming.len(), outgoing.as_mut_ptr(), outgoing.len()) }
 }
 
 /// The result of a vote by a voter set, or by a joint pair, from the vote of each voter, `None` if it has not voted.
 pub fn vote(incoming: &[Option<bool>], outgoing: &[Option<bool>]) -> VoteResult {
+    check_library();
     let [incoming, outgoing] = [incoming, outgoing].map(|votes| votes.iter().map(|vote| vote.map_or(2, u8::from)).collect::<Vec<_>>());
     // SAFETY: as in `plan_by`; a vector's pointer is not null, even if the vector is empty.
     match unsafe { confscript_vote(incoming.as_ptr(), incoming.len(), outgoing.as_ptr(), outgoing.len()) }.number {
@@ -338,6 +389,7 @@ pub fn step(configuration: &Configuration, kind: StepKind, changes: &[Change]) -
 /// How many ids may be down, whichever they are, while the other voters are a quorum, for which the uncounted ids do
 /// not count. The error is `Error::NoQuorum` if the voters are no quorum even with none down.
 pub fn may_be_down(incoming: &[u64], outgoing: &[u64], uncounted: &[u64]) -> Result<u64, Error> {
+    check_library();
     // SAFETY: as in `plan_by`.
     number(unsafe {
         confscript_may_be_down(incoming.as_ptr(), incoming.len(), outgoing.as_ptr(), outgoing.len(), uncounted.as_ptr(), uncounted.len())

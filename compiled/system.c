@@ -1,30 +1,35 @@
 /*
- * What the proved code takes from C on arm64, beside the C library. The toolchain has these few lines compiled for
- * x86-64 alone. It declares each in its crates libc (src/heap.rt) and os (src/c.rt), with the contract that is given
- * here in words. The proofs assume the contracts: nothing proves that these lines keep them.
+ * What the proved code takes from C, beside the C library. The toolchain declares each function in its crates libc
+ * (src/heap.rt) and os (src/c.rt), with the contract that is given here in words. The proofs assume the contracts: nothing
+ * proves that these lines keep them.
+ *
+ * ./confscript compiles this file with the program's text. The text of the library has its first three functions already:
+ * tools/compile compiled them with the toolchain's clang. So that no other file decides on that text, the file declares
+ * itself what it takes from the C library.
  */
-#include <errno.h>
-#include <stdbool.h>
-#include <stddef.h>
-#include <stdlib.h>
+typedef __SIZE_TYPE__ size_t;
+typedef __PTRDIFF_TYPE__ ptrdiff_t;
+void *malloc(size_t size);
+void *realloc(void *block, size_t size);
+void free(void *block);
 
-/* Whether there is memory, and the pointer to it, which is never NULL: struct Tried of the crate libc. */
+/* Whether there is memory, and the pointer to it, which is never null: struct Tried of the crate libc. */
 struct tried {
-    bool ok;
+    _Bool ok;
     void *p;
 };
 
 static struct tried tried(void *p) {
     static char nothing;
-    return (struct tried){p != NULL, p != NULL ? p : &nothing};
+    return (struct tried){p != 0, p != 0 ? p : &nothing};
 }
 
 /*
  * Contract: if `a` divides 16 and `n` is less than 2^63, an ok result has a new block of `n` bytes that is aligned to
- * `a` and may be freed by rattle_dealloc. Another result has a pointer that is not NULL, to memory of which the caller
+ * `a` and may be freed by rattle_dealloc. Another result has a pointer that is not null, to memory of which the caller
  * may use nothing.
  *
- * malloc aligns each block to 16 bytes. It may return NULL for 0 bytes, so it is never asked for them.
+ * malloc aligns each block to 16 bytes. It may return null for 0 bytes, so it is never asked for them.
  */
 struct tried rattle_alloc(size_t n, size_t a) {
     return tried(malloc(n != 0 ? n : a));
@@ -50,10 +55,16 @@ void rattle_dealloc(void *p) {
 /* The rest is for the program alone. */
 #ifdef PROGRAM
 
+#include <errno.h>
+
+#ifndef __GLIBC__
+#error "the program needs glibc: it calls functions that other C libraries lack, and keep_arguments rests on it"
+#endif
+
 static size_t argument_count;
 static char **arguments;
 
-/* The C library calls this before main, with the arguments of main. */
+/* glibc calls this before main, with the arguments of main. */
 __attribute__((constructor)) static void keep_arguments(int argc, char **argv) {
     argument_count = (size_t)argc;
     arguments = argv;

@@ -1,0 +1,303 @@
+/*
+ * confscript: plans and checks who votes in a replicated log. This is the library for programs in other languages, with
+ * the proved code of the program.
+ *
+ * A configuration is passed as a ConfState line, with or without a newline:
+ *     Voters:[1 2 3] VotersOutgoing:[] Learners:[4] LearnersNext:[] AutoLeave:false
+ * confscript_plan takes it in any form that the program's mode plan reads. A plan is passed as its lines, each with a
+ * newline:
+ *     enter-joint autoleave=false r1 v5
+ *     leave-joint
+ * docs/SPECIFICATION.md has both forms, and what each change does.
+ *
+ * A program that embeds the library passes numbers instead: an index or a vote of each voter, and a configuration as an
+ * array (enum confscript_part). Such a call allocates nothing while no list has more than eight items.
+ *
+ * Each call but confscript_version and confscript_committed returns a status and a number. A call keeps no state: it
+ * reads its arguments, and writes only to `out`; confscript_committed reorders its arguments. The caller must keep these
+ * rules, since no call checks them:
+ * - Each pointer is aligned and not NULL, even for no elements, and points to as many elements as the count after it
+ *   says. For no elements any pointer will do that is aligned and not NULL: a C++ caller writes
+ *   `v.empty() ? &one : v.data()`.
+ * - `out` overlaps no other argument, and the two arguments of confscript_committed do not overlap. While the call runs,
+ *   nothing else uses these, and nothing changes what the other pointers point to.
+ * - malloc, realloc and free belong to one allocator, which aligns a block as malloc of the C library does.
+ * - No call comes from a signal handler, or from the forked child of a process with threads. Otherwise any thread may
+ *   call, also at the same time as others.
+ * - The processor is an x86-64 of level v2, or an arm64, as the library was built for.
+ */
+#ifndef CONFSCRIPT_H
+#define CONFSCRIPT_H
+
+#include <stddef.h>
+#include <stdint.h>
+
+/* The version of this header; confscript_version returns that of the library. */
+#define CONFSCRIPT_VERSION_MAJOR 0
+#define CONFSCRIPT_VERSION_MINOR 1
+#define CONFSCRIPT_VERSION_PATCH 0
+#define CONFSCRIPT_VERSION (CONFSCRIPT_VERSION_MAJOR * 10000 + CONFSCRIPT_VERSION_MINOR * 100 + CONFSCRIPT_VERSION_PATCH)
+
+#ifdef __cplusplus
+extern "C" {
+#endif
+
+/* The status that a call returns. The number is 0 unless stated otherwise here. */
+enum confscript_status {
+    /* The call did its work. Each call below says what the number is. */
+    CONFSCRIPT_DONE = 0,
+    /* The result does not fit into `out`. Nothing is written. The number is the length of the result, as if it did. */
+    CONFSCRIPT_TOO_SMALL = 1,
+    /* Memory ran out. Nothing is written. */
+    CONFSCRIPT_NO_MEMORY = 2,
+
+    /* A text is not a ConfState line; for confscript_plan, it begins as one, with `Voters:`. The number is 1 for the
+       first text of the call, and 2 for the second. */
+    CONFSCRIPT_BAD_CONF_STATE = 3,
+    /* confscript_check, _restore and _step: a list names an id twice. The number is the id, the first such one of the
+       first such list. */
+    CONFSCRIPT_REPEATED_ID = 4,
+    /* A text names no configuration that the call accepts. confscript_check says why of a ConfState line, with one
+       exception: it accepts a valid configuration with members but no incoming voter, and confscript_apply does not. The
+       number is as for CONFSCRIPT_BAD_CONF_STATE. */
+    CONFSCRIPT_NOT_A_CONFIGURATION = 5,
+    /* confscript_plan: there is no plan, since a configuration has no incoming voter. The number is 1 for the first, and
+       2 for the second. confscript_restore and _step: the configuration has members but no incoming voter. */
+    CONFSCRIPT_NO_VOTER = 6,
+    /* A line of the plan is not a step. The number is that of the line, counted from 1. */
+    CONFSCRIPT_BAD_LINE = 7,
+
+    /* confscript_apply and _step: a step is refused. confscript_apply: the number is that of the step, counted from 1. */
+    CONFSCRIPT_ALREADY_JOINT = 9,
+    CONFSCRIPT_ZERO_VOTER_JOINT = 10,
+    CONFSCRIPT_NOT_JOINT = 11,
+    CONFSCRIPT_SIMPLE_IN_JOINT = 12,
+    CONFSCRIPT_REMOVED_ALL_VOTERS = 13,
+    CONFSCRIPT_MORE_THAN_ONE_VOTER = 14,
+
+    /* confscript_check, _restore and _step: the first of these that is broken, in this order. For 16 to 18 the number is
+       the least id that breaks it. */
+    CONFSCRIPT_ZERO_ID = 15,                    /* a set holds the id 0; confscript_plan: an id that is down is 0 */
+    CONFSCRIPT_NEXT_NOT_OUTGOING = 16,          /* a next learner is not an outgoing voter */
+    CONFSCRIPT_NEXT_AND_INCOMING = 17,          /* a next learner is an incoming voter */
+    CONFSCRIPT_LEARNER_AND_VOTER = 18,          /* a learner is a voter */
+    CONFSCRIPT_NOT_JOINT_BUT_AUTO_LEAVE = 20,   /* auto-leave without outgoing voters */
+
+    /* confscript_restore and _step: the array does not have the form of enum confscript_part. It has fewer than six
+       numbers, its first number is neither 0 nor 1, or its length is not what the counts make it. */
+    CONFSCRIPT_DIFFERENT_LENGTHS = 21,
+    /* confscript_vote: a byte is not one of enum confscript_ballot. */
+    CONFSCRIPT_BAD_VOTE = 22,
+    /* confscript_may_be_down: the voters are no quorum even with none down. */
+    CONFSCRIPT_NO_QUORUM = 23,
+
+    /* confscript_plan: the strategy is not one of enum confscript_strategy. */
+    CONFSCRIPT_BAD_STRATEGY = 24,
+    /* confscript_plan: no plan that changes one member a step leads into a joint configuration, unless it equals the
+       first. */
+    CONFSCRIPT_JOINT_TARGET = 25,
+
+    /* confscript_step: the step is not one of enum confscript_step_kind. */
+    CONFSCRIPT_BAD_STEP = 26,
+    /* confscript_step: the kind of a change is not one of enum confscript_change_kind. The number is that of the change,
+       counted from 1. */
+    CONFSCRIPT_BAD_CHANGE = 27,
+
+    /* confscript_plan: the output is not one of enum confscript_output. */
+    CONFSCRIPT_BAD_OUTPUT = 28,
+    /* confscript_plan: a text cannot be read. How it begins decides in which form it is read. The number is as for
+       CONFSCRIPT_BAD_CONF_STATE. */
+    CONFSCRIPT_UNKNOWN_FORM = 29,   /* the first text begins as no form of a configuration does */
+    CONFSCRIPT_BAD_PRINTED = 30,    /* it begins with `voters`, and is not a printed configuration */
+    CONFSCRIPT_BAD_JSON = 31,       /* it begins with `{`, and is not the JSON of a configuration */
+    CONFSCRIPT_BAD_CHANGE_LIST = 32 /* the second text is in no other form, and not a list of changes */
+};
+
+/* How confscript_plan goes from one configuration to another. */
+enum confscript_strategy {
+    CONFSCRIPT_SHORTEST = 0,       /* by as few steps as possible, at most four (the JSON may have more lines) */
+    CONFSCRIPT_LEARNERS_FIRST = 1, /* new voters are learners first, so that they can catch up before they vote */
+    CONFSCRIPT_ONE_AT_A_TIME = 2   /* one member changes a step, once a joint one is left; no plan leads into one */
+};
+
+/* What confscript_plan writes. docs/SPECIFICATION.md has the table and the JSON. */
+enum confscript_output {
+    CONFSCRIPT_STEPS = 0, /* a line for each step, as confscript_apply takes them */
+    CONFSCRIPT_TABLE = 1, /* who votes on the way, and how many failures the cluster tolerates there, for a reader */
+    CONFSCRIPT_JSON = 2   /* an object on a line for each proposal to etcd's raft, for a program */
+};
+
+/* The vote of a voter. */
+enum confscript_ballot {
+    CONFSCRIPT_VOTED_NO = 0,
+    CONFSCRIPT_VOTED_YES = 1,
+    CONFSCRIPT_NOT_VOTED = 2
+};
+
+/* The number of confscript_vote, if it is done. */
+enum confscript_vote_result {
+    CONFSCRIPT_VOTE_PENDING = 0, /* it depends on voters that have not voted */
+    CONFSCRIPT_VOTE_LOST = 1,
+    CONFSCRIPT_VOTE_WON = 2
+};
+
+/*
+ * A configuration in numbers is an array of uint64_t that begins with these six and continues with the ids that they
+ * count, in the same order. The configuration (1 2)&&(1 2 3) learners_next=(3), left automatically, in which no member
+ * begins afresh, is
+ *     1, 2, 3, 0, 1, 0,  1, 2,  1, 2, 3,  3
+ * A call accepts the ids of a list in any order, and writes them in ascending order. The ids that begin afresh belong to
+ * the step that led to the configuration: a call that is passed it ignores them.
+ */
+enum confscript_part {
+    CONFSCRIPT_AUTO_LEAVE = 0,    /* 1 if the joint configuration is left automatically, else 0 */
+    CONFSCRIPT_INCOMING = 1,      /* how many voters there are, or in a joint configuration incoming voters */
+    CONFSCRIPT_OUTGOING = 2,      /* how many outgoing voters */
+    CONFSCRIPT_LEARNERS = 3,      /* how many learners */
+    CONFSCRIPT_LEARNERS_NEXT = 4, /* how many outgoing voters that become learners when it is left */
+    CONFSCRIPT_FRESH = 5,         /* how many members that begin afresh: with match 0, and next at the last index */
+    CONFSCRIPT_IDS = 6            /* the first id, if there is one */
+};
+
+/* What a change does to its id. The numbers are those of raftpb.ConfChangeType. A change of the id 0 has no effect. */
+enum confscript_change_kind {
+    CONFSCRIPT_VOTER = 0,  /* makes it a voter */
+    CONFSCRIPT_REMOVE = 1, /* removes it */
+    CONFSCRIPT_UPDATE = 2, /* has no effect */
+    CONFSCRIPT_LEARNER = 3 /* makes it a learner */
+};
+
+struct confscript_change {
+    uint32_t kind; /* an enum confscript_change_kind */
+    uint64_t id;
+};
+
+/* How the changes of confscript_step are made. 0 to 2 are the numbers of raftpb.ConfChangeTransition. */
+enum confscript_step_kind {
+    /* As etcd does: no change leaves a joint configuration, one is a simple step, and more enter a joint configuration,
+       which is left automatically. */
+    CONFSCRIPT_AUTO = 0,
+    CONFSCRIPT_IMPLICIT = 1,   /* they enter a joint configuration, which is left automatically */
+    CONFSCRIPT_EXPLICIT = 2,   /* they enter a joint configuration, which a later step has to leave */
+    CONFSCRIPT_SIMPLE = 3,     /* they change at most one voter, and any number of learners */
+    CONFSCRIPT_LEAVE_JOINT = 4 /* leaves a joint configuration; of the changes only the kinds are checked */
+};
+
+struct confscript_answer {
+    uint32_t status; /* an enum confscript_status */
+    uint64_t number;
+};
+
+/* The version of the library: 10,000 for each major one, 100 for each minor one, and the patch. */
+uint32_t confscript_version(void);
+
+/*
+ * Writes to `out` what a status means, in words, or `unknown status` for any other number. The text does not end with a
+ * zero byte. The number is its length in bytes.
+ */
+struct confscript_answer confscript_status_text(uint32_t status, uint8_t *out, size_t out_len);
+
+/*
+ * Writes to `out` the plan from one configuration to another, by an enum confscript_strategy, as an
+ * enum confscript_output: what the program's mode plan prints for the pair. Each text is a configuration in one of these
+ * forms:
+ *     voters=(1 2 3)&&(1 2) learners=(4) learners_next=(1) autoleave       as the program prints it
+ *     Voters:[1 2 3] VotersOutgoing:[] Learners:[4] LearnersNext:[] AutoLeave:false
+ *     {"voters":[1,2,3],"learners":[4]}                                     a raftpb.ConfState in JSON
+ *     {"members":[{"ID":1},{"ID":2},{"ID":4,"isLearner":true}]}             etcdctl member list -w json
+ * The target may also be a list of changes, such as `r1 v4 l5`, which are made at once in the first configuration; if
+ * that is joint, it is left first. An empty text is a list of no changes.
+ *
+ * `down` has the ids that are down, in any order; for none, `down_len` is 0. With CONFSCRIPT_ONE_AT_A_TIME, voters that
+ * are down are removed first, as etcd's server demands, if both configurations commit without them. If ids are down,
+ * the table and the JSON report how many others may be down on the way. If nothing commits in some configuration of the
+ * plan, the plan stalls: then the steps begin with the line `# stalls with 4 5 down`, which confscript_apply does not
+ * take.
+ *
+ * Both configurations must be valid and have an incoming voter. The voters before and after each step overlap, and no
+ * configuration on the way tolerates fewer failures than the weaker end, once its members have caught up; with
+ * CONFSCRIPT_ONE_AT_A_TIME, fewer besides the ids that are down. If there is nothing to do, the steps are the line
+ * `nothing to do`. The text does not end with a zero byte. The number is its length in bytes.
+ *
+ * In JSON each change of a simple step is a step of its own, so there may be more lines than the plan has steps.
+ *
+ * - CONFSCRIPT_SHORTEST: at most four steps. No plan has fewer steps, or names a member in fewer changes; a member that
+ *   can keep its progress keeps it. A plan does not see logs: a new voter begins with an empty one, so from [1 2 3] to
+ *   [3 4 5] nothing commits until 4 or 5 has caught up. (These are steps. The JSON has an object for each change of a
+ *   step `simple`, so it may have more lines.)
+ * - CONFSCRIPT_LEARNERS_FIRST: at most one step more than the shortest plan. Each new voter is a learner first, so the
+ *   caller can let it catch up before proposing the next step.
+ * - CONFSCRIPT_ONE_AT_A_TIME: each step changes one member, after a joint configuration is left, and each new voter is
+ *   a learner first. No plan of this kind has fewer steps. The second configuration must not be joint, unless it equals
+ *   the first.
+ *
+ * An id never comes back without its log and its vote: a member that was removed, and begins again with an empty disk,
+ * needs a new id. Under the old one it could vote twice in a term, and two leaders could commit different entries.
+ *
+ * A step `simple` may have several changes, at most one of which changes who votes. To keep the step simple in etcd,
+ * propose each change as a ConfChangeV2 of its own, as the JSON has them. If they are proposed as a single ConfChangeV2,
+ * etcd's raft takes them through a joint configuration, which it leaves by itself.
+ */
+struct confscript_answer confscript_plan(const uint8_t *now, size_t now_len, const uint8_t *target, size_t target_len,
+                                         uint32_t strategy, uint32_t output, const uint64_t *down, size_t down_len,
+                                         uint8_t *out, size_t out_len);
+
+/*
+ * Applies the steps of a plan to the configuration of a ConfState line. A single step is a plan of one line, and a plan
+ * may be applied in parts, each to the line that the call before wrote. The ConfState line of the result is written to
+ * `out`, its lists in ascending order, without a newline or a zero byte at its end. The number is its length in bytes.
+ * The first configuration must be valid, and have an incoming voter or no members.
+ */
+struct confscript_answer confscript_apply(const uint8_t *state, size_t state_len, const uint8_t *plan, size_t plan_len,
+                                          uint8_t *out, size_t out_len);
+
+/* Reports what is wrong with the configuration of a ConfState line. If nothing is, the call is done, with number 0. */
+struct confscript_answer confscript_check(const uint8_t *state, size_t state_len);
+
+/*
+ * Returns the committed index of a voter set, or of a joint pair, from the index that each voter has acknowledged, 0 if
+ * it is unknown: the greatest index that more than half of `incoming` have reached, or the smaller one of both sets if
+ * `outgoing` is not empty. It is 2^64-1 if there are no voters. The call cannot fail. It leaves each array with the same
+ * indexes, in any order.
+ */
+uint64_t confscript_committed(uint64_t *incoming, size_t incoming_len, uint64_t *outgoing, size_t outgoing_len);
+
+/*
+ * Returns the result of a vote by a voter set, or by a joint pair, from the vote of each voter, an
+ * enum confscript_ballot. Each set that is not empty must win it. If there are no voters, the vote is won. The number is
+ * an enum confscript_vote_result.
+ */
+struct confscript_answer confscript_vote(const uint8_t *incoming, size_t incoming_len, const uint8_t *outgoing,
+                                         size_t outgoing_len);
+
+/*
+ * Checks a saved configuration in numbers (etcd's ConfState), and writes it to `out` with its ids in ascending order and
+ * all members beginning afresh, as when a server restarts (etcd's confchange.Restore). The number is how many numbers
+ * are written.
+ */
+struct confscript_answer confscript_restore(const uint64_t *configuration, size_t configuration_len, uint64_t *out,
+                                            size_t out_len);
+
+/*
+ * Applies changes to a configuration in numbers, as an enum confscript_step_kind says, and writes the configuration
+ * after them to `out`. A member begins afresh if it was none before, or if a change removes it and it is added again,
+ * unless it is an outgoing voter; the others keep their progress. The number is how many numbers are written. The
+ * configuration is checked first, as by confscript_restore.
+ */
+struct confscript_answer confscript_step(const uint64_t *configuration, size_t configuration_len, uint32_t step,
+                                         const struct confscript_change *changes, size_t changes_len, uint64_t *out,
+                                         size_t out_len);
+
+/*
+ * Returns how many ids may be down, whichever they are, while the other voters in `incoming`, and in `outgoing` if
+ * there are any, are a quorum. The ids in `uncounted`, such as members whose logs are still empty, do not count for a
+ * quorum, whether they are down or not. The number is the greatest such count.
+ */
+struct confscript_answer confscript_may_be_down(const uint64_t *incoming, size_t incoming_len, const uint64_t *outgoing,
+                                                size_t outgoing_len, const uint64_t *uncounted, size_t uncounted_len);
+
+#ifdef __cplusplus
+}
+#endif
+
+#endif

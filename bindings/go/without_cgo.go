@@ -1,0 +1,6 @@
+//go:build !cgo
+
+package confscript
+
+// The library is called from C, so without cgo the package ends the build with this name.
+var _ = confscript_needs_cgo_so_set_CGO_ENABLED_to_1_and_have_a_C_compiler
