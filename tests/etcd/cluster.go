@@ -1,7 +1,6 @@
 package etcd
 
 import (
-	"sort"
 	"testing"
 
 	"go.etcd.io/etcd/raft"
@@ -14,6 +13,7 @@ type cluster struct {
 	t       *testing.T
 	members map[uint64]*member
 	stopped map[uint64]*raft.MemoryStorage // what was stored by those that were stopped
+	groups  [][]uint64                     // if not nil, messages pass only within a group
 	changed []pb.ConfState                 // the leader's configuration after each change since the last call of taken
 }
 
@@ -60,12 +60,7 @@ func (c *cluster) stopOthers(state pb.ConfState) {
 
 // ids returns the ids of the members that run, in ascending order.
 func (c *cluster) ids() []uint64 {
-	var ids []uint64
-	for id := range c.members {
-		ids = append(ids, id)
-	}
-	sort.Slice(ids, func(i, j int) bool { return ids[i] < ids[j] })
-	return ids
+	return idsOf(c.members)
 }
 
 // leader returns the id of the member that leads in the greatest term, or 0.
@@ -100,7 +95,7 @@ func (c *cluster) settle() {
 func (c *cluster) handleEach() bool {
 	isBusy := false
 	for _, id := range c.ids() {
-		if m := c.members[id]; m.raw.HasReady() {
+		if m := c.members[id]; m.hasMore() {
 			isBusy = true
 			c.handle(m)
 		}
@@ -110,9 +105,14 @@ func (c *cluster) handleEach() bool {
 
 // handleAll handles all that one member has ready.
 func (c *cluster) handleAll(m *member) {
-	for m.raw.HasReady() {
+	for m.hasMore() {
 		c.handle(m)
 	}
+}
+
+// hasMore says whether there is something to handle, and the member takes it.
+func (m *member) hasMore() bool {
+	return m.ready == nil && m.raw.HasReady()
 }
 
 // wait runs the leader's clock for some heartbeats. With auto-leave, etcd appends the change that leaves to the
@@ -125,21 +125,49 @@ func (c *cluster) wait() {
 	c.settle()
 }
 
-// handle saves, sends and applies what a member has ready.
+// handle saves, sends and applies what a member has ready, at its pace.
 func (c *cluster) handle(m *member) {
-	ready := m.raw.Ready()
-	m.save(ready)
-	for _, message := range ready.Messages {
-		if to := c.members[message.To]; to != nil {
+	for _, message := range m.take().Messages {
+		if to := c.members[message.To]; to != nil && c.reaches(message) {
 			to.raw.Step(message) // an error says that the message is out of date
 		}
 	}
-	for _, entry := range ready.CommittedEntries {
-		if m.apply(entry) && m == c.members[c.leader()] {
-			c.changed = append(c.changed, m.state)
+	switch {
+	case m.pace == prompt || len(m.handed) == 0:
+		c.apply(m)
+	case m.pace == early:
+		m.advance()
+	}
+}
+
+// apply applies what a member was handed, and then ends what it has taken.
+func (c *cluster) apply(m *member) {
+	for _, entry := range m.handed {
+		if m.apply(entry) {
+			m.snapshot()
+			if m == c.members[c.leader()] {
+				c.changed = append(c.changed, m.state)
+			}
 		}
 	}
-	m.raw.Advance(ready)
+	m.handed = nil
+	if m.ready != nil {
+		m.advance()
+	}
+}
+
+// connect lets messages pass within each of these groups from now on, and no others.
+func (c *cluster) connect(groups ...[]uint64) {
+	c.groups = append([][]uint64{}, groups...)
+}
+
+func (c *cluster) reaches(message pb.Message) bool {
+	for _, group := range c.groups {
+		if holds(group, message.From) && holds(group, message.To) {
+			return true
+		}
+	}
+	return c.groups == nil
 }
 
 // taken returns the leader's configuration after each change since the last call.

@@ -8,7 +8,10 @@
 //     confscript names,
 //   - the same on a cluster that serves meanwhile, over a network that drops and reorders messages, and with members that
 //     restart and are down (service.go, network.go); what the members show may not contradict itself (history.go),
-//   - what etcd's own quick checks ask of confchange is asked of confscript (quick_test.go).
+//   - what etcd's own quick checks ask of confchange is asked of confscript (quick_test.go),
+//   - rules that etcd's raft leaves to a program are broken, one by one, until two members have applied different entries
+//     (schedules_test.go),
+//   - random runs keep these rules from outside, and are held against the invariants that then hold (trial.go, observer.go).
 //
 // All that is left to chance comes from seeds, etcd's election timeouts too (election_timeouts.go). No test looks at the
 // time of day: clocks tick when the tests say so, and what does not come within a number of rounds has failed.

@@ -1,15 +1,11 @@
 package etcd
 
-import (
-	"testing"
-
-	pb "go.etcd.io/etcd/raft/raftpb"
-)
+import pb "go.etcd.io/etcd/raft/raftpb"
 
 // A history is what the members of a cluster have shown so far. A member that contradicts it ends the test: a second
 // leader of a term, another entry at an index, another configuration after an entry.
 type history struct {
-	t            *testing.T
+	t            reporter
 	leaders      map[uint64]uint64       // by term
 	entries      map[uint64]applied      // by index
 	states       map[uint64]pb.ConfState // after each change, by index
@@ -23,7 +19,7 @@ type applied struct {
 	data string
 }
 
-func newHistory(t *testing.T) *history {
+func newHistory(t reporter) *history {
 	return &history{t: t, leaders: map[uint64]uint64{}, entries: map[uint64]applied{}, states: map[uint64]pb.ConfState{}}
 }
 

@@ -4,8 +4,8 @@ import (
 	"io"
 	"log"
 	"math"
+	"sort"
 	"strings"
-	"testing"
 
 	"go.etcd.io/etcd/raft"
 	pb "go.etcd.io/etcd/raft/raftpb"
@@ -19,6 +19,28 @@ type member struct {
 	applied uint64
 	state   pb.ConfState // after the last change that it applied
 	entries []string     // all that it has applied but for changes and empty entries
+	pace    pace
+	handed  []pb.Entry  // what it was handed and has not applied
+	ready   *raft.Ready // what it has saved and sent, and Advance was not called for
+}
+
+// A pace is when a member applies what it is handed.
+type pace int
+
+const (
+	prompt pace = iota // at once
+	slow               // when the test says so; until then it takes no more, as raft's page on Ready demands
+	early              // when the test says so; Advance is called before that, which the page allows
+)
+
+// idsOf returns the ids of members, in ascending order.
+func idsOf(members map[uint64]*member) []uint64 {
+	ids := make([]uint64, 0, len(members))
+	for id := range members {
+		ids = append(ids, id)
+	}
+	sort.Slice(ids, func(i, j int) bool { return ids[i] < ids[j] })
+	return ids
 }
 
 // storageOf returns the storage of a member that begins with a snapshot of a configuration.
@@ -29,8 +51,14 @@ func storageOf(state pb.ConfState) *raft.MemoryStorage {
 	return storage
 }
 
+// A reporter ends a test, as testing.T does.
+type reporter interface {
+	Fatal(values ...interface{})
+	Fatalf(format string, values ...interface{})
+}
+
 // startMember starts a member from its storage. etcd panics if it cannot restore the configuration there.
-func startMember(t *testing.T, id uint64, storage *raft.MemoryStorage) *member {
+func startMember(t reporter, id uint64, storage *raft.MemoryStorage) *member {
 	snapshot, err := storage.Snapshot()
 	if err != nil {
 		t.Fatal(err)
@@ -71,8 +99,23 @@ func (m *member) save(ready raft.Ready) {
 	m.storage.Append(ready.Entries)
 }
 
-// apply applies a committed entry, and says whether it changes the configuration. Then there is a new snapshot, which a
-// member that starts with an empty log is sent.
+// take takes what the member has ready, and saves it. It has to be sent, and applied.
+func (m *member) take() raft.Ready {
+	ready := m.raw.Ready()
+	m.save(ready)
+	m.handed = append(m.handed, ready.CommittedEntries...)
+	m.ready = &ready
+	return ready
+}
+
+// advance ends what the member has taken.
+func (m *member) advance() {
+	ready := *m.ready
+	m.ready = nil
+	m.raw.Advance(ready)
+}
+
+// apply applies a committed entry, and says whether it changes the configuration.
 func (m *member) apply(entry pb.Entry) bool {
 	m.applied = entry.Index
 	change := changeOf(entry)
@@ -81,11 +124,10 @@ func (m *member) apply(entry pb.Entry) bool {
 		return false
 	}
 	m.state = *m.raw.ApplyConfChange(change)
-	m.snapshot()
 	return true
 }
 
-// snapshot stores a snapshot of what the member has applied.
+// snapshot stores a snapshot of what the member has applied, which a member that starts with an empty log is sent.
 func (m *member) snapshot() {
 	m.storage.CreateSnapshot(m.applied, &m.state, []byte(strings.Join(m.entries, " ")))
 }

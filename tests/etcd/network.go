@@ -9,10 +9,11 @@ import (
 // A network drops some of the messages that it is given, and delivers each of the others after some rounds. So they
 // overtake each other.
 type network struct {
-	chance  *rand.Rand
-	loss    float64 // the share of the messages that it drops
-	delay   int     // how many rounds a message takes at most
-	carried []carried
+	chance   *rand.Rand
+	loss     float64 // the share of the messages that it drops
+	doubling float64 // the share of the others that it delivers twice
+	delay    int     // how many rounds a message takes at most
+	carried  []carried
 }
 
 // A carried message is delivered in a round.
@@ -28,6 +29,9 @@ func (n *network) send(message pb.Message, round int) (isDropped bool) {
 	}
 	message.Entries = append([]pb.Entry(nil), message.Entries...)
 	n.carried = append(n.carried, carried{message, round + 1 + n.chance.Intn(n.delay)})
+	if n.doubling > 0 && n.chance.Float64() < n.doubling {
+		n.carried = append(n.carried, carried{message, round + 1 + n.chance.Intn(n.delay)})
+	}
 	return false
 }
 

@@ -61,9 +61,14 @@ func replaceOne(t *testing.T, strategy string) (serving, cutOff *cluster) {
 	return serving, cutOff
 }
 
-// firstDifference returns the first index at which two members have applied different entries, or 0.
+// firstDifference returns the first index at which two members have applied different entries, or 0. It looks at those
+// that both have in their logs.
 func firstDifference(t *testing.T, a, b *member) uint64 {
-	for index := uint64(2); index <= a.applied && index <= b.applied; index++ {
+	index, _ := a.storage.FirstIndex()
+	if first, _ := b.storage.FirstIndex(); first > index {
+		index = first
+	}
+	for ; index <= a.applied && index <= b.applied; index++ {
 		ours, err := a.storage.Entries(index, index+1, 1)
 		theirs, other := b.storage.Entries(index, index+1, 1)
 		if err != nil || other != nil {

@@ -2,7 +2,6 @@ package etcd
 
 import (
 	"math/rand"
-	"sort"
 	"strconv"
 	"testing"
 
@@ -71,12 +70,7 @@ func (s *service) stop(ids []uint64) {
 
 // ids returns the members that run, in ascending order.
 func (s *service) ids() []uint64 {
-	ids := make([]uint64, 0, len(s.members))
-	for id := range s.members {
-		ids = append(ids, id)
-	}
-	sort.Slice(ids, func(i, j int) bool { return ids[i] < ids[j] })
-	return ids
+	return idsOf(s.members)
 }
 
 // step passes a round: messages come in, clocks tick, an entry is proposed, and now and then a member restarts, or drops
@@ -153,6 +147,7 @@ func (s *service) handle(id uint64) {
 		for _, entry := range ready.CommittedEntries {
 			s.history.applies(id, entry)
 			if m.apply(entry) {
+				m.snapshot()
 				s.history.becomes(id, entry.Index, m.state)
 			}
 		}

@@ -1,0 +1,105 @@
+"""How a server is named: a new one by NAME=URL, a member by its name or its id."""
+import socket
+import urllib.parse
+from typing import NamedTuple, Tuple
+
+from .reasons import Stop
+
+
+class NewServer(NamedTuple):
+    """A server that is not a member yet: its name, and the URLs at which its peers reach it."""
+
+    name: str
+    peers: Tuple[str, ...]
+
+    def __str__(self):
+        return ",".join(f"{self.name}={url}" for url in self.peers)
+
+
+class Member(NamedTuple):
+    """A member as etcd lists it. One that has not started has no name and no client URLs."""
+
+    id: int
+    name: str
+    peers: Tuple[str, ...]
+    clients: Tuple[str, ...]
+    is_learner: bool
+
+    @property
+    def label(self):
+        return self.name or f"{self.id:x}"
+
+    @property
+    def has_started(self):
+        return bool(self.name or self.clients)
+
+    def shares_url(self, new):
+        return bool(set(self.peers) & set(new.peers))
+
+
+def address(url):
+    """The host and the port of a URL with a scheme that etcd takes."""
+    try:
+        parts = urllib.parse.urlsplit(url)
+        host, port = parts.hostname, parts.port
+    except ValueError:
+        host = port = None
+    if not host or not port or parts.scheme not in ("http", "https") or (parts.path, parts.query, parts.fragment) != ("", "", "") \
+            or parts.username is not None:
+        raise Stop(f"{url!r}: expected a URL with a scheme, a host and a port, such as http://10.0.0.4:2380")
+    return host, port
+
+
+def unreachable(url):
+    """Why nothing can be reached at a URL. None if something listens there."""
+    try:
+        socket.create_connection(address(url), timeout=3).close()
+    except OSError as error:
+        return (error.strerror or str(error)).lower()
+    return None
+
+
+def new_servers(texts):
+    """The servers that texts such as `n4=http://10.0.0.4:2380,n5=..` name, in their order. A name that comes again adds
+    a URL, as in etcd's --initial-cluster."""
+    urls = {}
+    for pair in (pair for text in texts for pair in text.split(",")):
+        name, equals, url = pair.partition("=")
+        if not equals or not name:
+            raise Stop(f"{pair!r}: expected NAME=URL, such as n4=http://10.0.0.4:2380")
+        address(url)
+        urls.setdefault(name, []).append(url)
+    every = [url for its in urls.values() for url in its]
+    for url in every:
+        if every.count(url) > 1:
+            raise Stop(f"{url} is given twice")
+    return [NewServer(name, tuple(its)) for name, its in urls.items()]
+
+
+def server_names(texts):
+    """The servers that texts such as `n2,n3` name, each once."""
+    names = [name for text in texts for name in text.split(",")]
+    for name in names:
+        if not name:
+            raise Stop("a server is named by its name or its id, and servers are separated by commas: n2,n3")
+        if names.count(name) > 1:
+            raise Stop(f"{name} is named twice")
+    return names
+
+
+def find(text, members):
+    """The member that a text names: by its name, or by its id, hexadecimal or decimal. None if there is none."""
+    ids = set()
+    for base in (16, 10):
+        try:
+            ids.add(int(text, base))
+        except ValueError:
+            continue
+    found = [member for member in members if member.name == text or member.id in ids]
+    if len(found) > 1:
+        raise Stop(f"{text} may be {listed_ids(found)}: name it by an id that is only its own")
+    return found[0] if found else None
+
+
+def listed_ids(members):
+    return " or ".join(f"{member.id:x}" for member in members)

@@ -1,0 +1,105 @@
+"""Clusters with certificates, and with users."""
+import ssl
+import subprocess
+import urllib.request
+
+from checks import holds, wait_for
+from clusters import UNANSWERED, Cluster
+from runs import refuses, run, start_command, succeeds
+
+# The key and the certificate of an authority, and those of all servers and clients, which it signs.
+CERTIFICATES = """
+openssl ecparam -name prime256v1 -genkey -noout -out ca.key
+openssl req -x509 -new -key ca.key -subj /CN=ca -days 2 -out ca.pem
+openssl ecparam -name prime256v1 -genkey -noout -out it.key
+openssl req -new -key it.key -subj /CN=it -out it.csr
+printf 'subjectAltName=IP:127.0.0.1\\nextendedKeyUsage=serverAuth,clientAuth\\n' >it.cnf
+openssl x509 -req -in it.csr -CA ca.pem -CAkey ca.key -CAcreateserial -days 2 -extfile it.cnf -out it.pem
+"""
+
+
+class SecureCluster(Cluster):
+    """A cluster in which all connections have certificates."""
+
+    scheme = "https"
+
+    def prepare(self):
+        subprocess.run(["sh", "-e", "-c", CERTIFICATES], cwd=self.folder, check=True, capture_output=True)
+        ca, pem, key = (f"{self.folder}/{name}" for name in ("ca.pem", "it.pem", "it.key"))
+        self.server_options = [
+            f"--cert-file={pem}", f"--key-file={key}", f"--trusted-ca-file={ca}", "--client-cert-auth",
+            f"--peer-cert-file={pem}", f"--peer-key-file={key}", f"--peer-trusted-ca-file={ca}", "--peer-client-cert-auth"]
+        self.etcdctl = ["etcdctl", "--cacert", ca, "--cert", pem, "--key", key]
+        self.context = ssl.create_default_context(cafile=ca)
+        self.context.load_cert_chain(pem, key)
+
+    def opener(self):
+        return urllib.request.build_opener(urllib.request.ProxyHandler({}), urllib.request.HTTPSHandler(context=self.context))
+
+
+def certificates():
+    """A failed server is replaced where all connections have certificates, by options of etcdctl and by its environment."""
+    with SecureCluster(3, ["n4"]).running() as cluster:
+        cluster["n3"].kill()
+        words = ["replace", "n3", "--with", f"n4={cluster['n4'].peer}", "--yes", "--start", start_command(cluster)]
+        status, _, error = run(cluster, *words, etcdctl=["etcdctl"])
+        holds(f"without certificates: {error}", status == 1 and error.startswith("confscript-etcd: no list of members from https://") and error.count("\n") == 1)
+        succeeds(cluster, *words)
+        _, ca, _, pem, _, key = cluster.etcdctl[1:]
+        cluster.variables = {**cluster.variables, "ETCDCTL_CACERT": ca, "ETCDCTL_CERT": pem, "ETCDCTL_KEY": key, "ETCDCTL_WRITE_OUT": "table"}
+        output = succeeds(cluster, *words, etcdctl=["etcdctl"])
+        holds(f"by the environment, nothing is left: {output}", "there is nothing to do" in output)
+        del cluster.variables["ETCDCTL_WRITE_OUT"], cluster.variables["ETCDCTL_CACERT"], cluster.variables["ETCDCTL_CERT"], cluster.variables["ETCDCTL_KEY"]
+        cluster.check_end("n1 n2 n4")
+
+
+class UserCluster(Cluster):
+    """A cluster that asks who calls."""
+
+    def after_start(self):
+        self.wait_for_leader()
+        for words in (["user", "add", "root:secret"], ["user", "grant-role", "root", "root"], ["auth", "enable"]):
+            wait_for(" ".join(words), lambda: self.etcdctl_at(self["n1"], *words))
+        self.variables = {**self.variables, "ETCDCTL_USER": "root:secret"}
+
+    def wait_for_leader(self):
+        wait_for("a server leads", self.leader)
+
+    def token(self, server):
+        try:
+            return self.ask(server, "auth/authenticate", {"name": "root", "password": "secret"})["token"]
+        except UNANSWERED:
+            return None
+
+
+# etcdctl, as if servers wanted to know who asks for their status.
+ASKING = """case " $* " in *" endpoint status "*)
+  [ -n "$ETCDCTL_USER" ] || { echo 'Error: etcdserver: user name is empty' >&2; exit 1; } ;;
+esac
+exec etcdctl "$@"
+"""
+
+
+def users():
+    """A failed server is replaced where each call needs a user. The password is not printed."""
+    with UserCluster(3, ["n4"]).running() as cluster:
+        cluster["n3"].kill()
+        words = ["replace", "n3", "--with", f"n4={cluster['n4'].peer}", "--yes", "--start", start_command(cluster)]
+        cluster.variables["ETCDCTL_USER"] = "root"
+        refuses(cluster, "without a password", "ETCDCTL_USER is root: give the password too, in ETCDCTL_PASSWORD or as ETCDCTL_USER=root:PASSWORD", *words)
+        del cluster.variables["ETCDCTL_USER"]
+        status, _, error = run(cluster, *words)
+        holds(f"without a user: {error}", status == 1 and error.endswith("(give the user and the password: ETCDCTL_USER=root:PASSWORD)\n"))
+        output = succeeds(cluster, *words, etcdctl=["etcdctl", "--user", "root:secret"])
+        holds(f"the password is not printed:\n{output}", "secret" not in output and "member promote" in output)
+        cluster.variables["ETCDCTL_USER"] = "root:secret"
+        output = succeeds(cluster, *words)
+        holds(f"by the environment, nothing is left: {output}", "there is nothing to do" in output)
+        with open(f"{cluster.folder}/asking", "w", encoding="utf-8") as script:
+            script.write(ASKING)
+        output = succeeds(cluster, "status", etcdctl=["sh", script.name])
+        holds(f"the status needs a user: {output}", "3 of 3 voters answer" in output)
+        cluster.check_end("n1 n2 n4")
+
+
+TESTS = (certificates, users)

@@ -1,0 +1,190 @@
+"""What a run waits for: a server that is behind, that never starts, that nobody reaches, a voter that dies meanwhile."""
+import contextlib
+import queue
+import socket
+import threading
+import time
+
+from checks import holds, wait_for
+from clusters import PORTS, Cluster
+from runs import Gate, begin, refuses, run, settings_in, start_command, succeeds
+
+
+class Slow(threading.Thread):
+    """A proxy before the peer URL of a server. What the server sends to one of the others, `slow`, comes a second later, and
+    not before the proxy is open."""
+
+    def __init__(self, server):
+        super().__init__(daemon=True)
+        self.target = int(server.listening.rpartition(":")[2])
+        self.port, self.slow, self.is_open = next(PORTS), None, threading.Event()
+        self.is_open.set()
+        self.listener = socket.create_server(("127.0.0.1", self.port))
+        server.peer = f"http://127.0.0.1:{self.port}"
+
+    def run(self):
+        while True:
+            client, _ = self.listener.accept()
+            with contextlib.suppress(OSError):
+                server = socket.create_connection(("127.0.0.1", self.target))
+                sender = []
+                threading.Thread(target=self.forward, args=(client, server, sender), daemon=True).start()
+                threading.Thread(target=self.delay, args=(server, client, sender), daemon=True).start()
+
+    def forward(self, source, target, sender):
+        """Passes on what a peer sends. Its first request says which one it is."""
+        with contextlib.suppress(OSError):
+            while data := source.recv(65536):
+                if not sender:
+                    lines = data.decode(errors="replace").splitlines()
+                    sender.append(next((line.split()[1] for line in lines if line.lower().startswith("x-server-from:")), ""))
+                target.sendall(data)
+        close(target)
+
+    def delay(self, source, target, sender):
+        """Passes on what the server sends, a second later if it goes to the slow one."""
+        waiting = queue.Queue()
+        threading.Thread(target=self.send_when_due, args=(waiting, target), daemon=True).start()
+        with contextlib.suppress(OSError):
+            while data := source.recv(65536):
+                waiting.put((time.monotonic() + 1 if self.slow and sender == [self.slow] else 0, data))
+        waiting.put((0, b""))
+
+    def send_when_due(self, waiting, target):
+        with contextlib.suppress(OSError):
+            while True:
+                due, data = waiting.get()
+                if not data:
+                    break
+                if due:
+                    self.is_open.wait()
+                    time.sleep(max(0, due - time.monotonic()))
+                target.sendall(data)
+        close(target)
+
+
+def close(it):
+    with contextlib.suppress(OSError):
+        it.shutdown(socket.SHUT_RDWR)
+    it.close()
+
+
+class SlowCluster(Cluster):
+    """A cluster of three whose third server is a second behind, and calls no election if it hears nothing."""
+
+    server_options = ("--pre-vote", "--heartbeat-interval=100", "--election-timeout=5000")
+
+    def start(self):
+        self.proxies = [Slow(server) for server in self.first[:2]]
+        for proxy in self.proxies:
+            proxy.start()
+        super().start()
+
+    def after_start(self):
+        third = self["n3"]
+        leader = wait_for("a server leads", self.leader)
+        if leader is third:
+            self.etcdctl_at(third, "move-leader", f"{self.id(self['n1']):x}")
+            wait_for("another one leads", lambda: self.leader() not in (None, third))
+        for proxy in self.proxies:
+            proxy.slow = f"{self.id(third):x}"
+
+
+def server_is_behind():
+    """The third server is a second behind, and is asked first. A healthy server is replaced. When the new one is added, the
+    third one hears nothing of it before the run waits for that."""
+    with SlowCluster(3, ["n4"]).running() as cluster:
+        seen = []
+
+        def is_add(call):
+            return call[:2] == ["member", "add"]
+
+        def hold(call, process, status):
+            for proxy in cluster.proxies if is_add(call) else ():
+                proxy.is_open.clear()
+
+        def look(call, process, status):
+            if is_add(call) and status:
+                release()
+            elif is_add(call):
+                wait_for("another server lists the new one", lambda: cluster.configuration(cluster["n1"]) == "n1 n2 n3 +n4")
+                seen.append(cluster.configuration(cluster["n3"]))
+
+        def release():
+            for proxy in cluster.proxies:
+                proxy.is_open.set()
+
+        with Gate(cluster, before=hold, after=look) as gate:
+            it = begin(cluster, "replace", "n2", "--with", f"n4={cluster['n4'].peer}", "--healthy", "--yes", "--start", start_command(cluster),
+                       endpoints=[cluster["n3"]], etcdctl=gate.etcdctl)
+            shown = []
+            for line in it.stdout:
+                shown.append(line)
+                if line == "  waiting: n3 has not applied the last change yet\n":
+                    release()
+            output = "".join(shown)
+            holds(f"status {it.wait()}:\n{output}", it.returncode == 0)
+        holds(f"the third server is behind: {seen}", seen == ["n1 n2 n3"])
+        holds(f"the new one starts when all list it:\n{output}", output.index("n3 has not applied the last change yet") < output.index("starting n4"))
+        cluster.check_end("n1 n3 n4")
+
+
+def server_never_starts():
+    """A server that is not started, and then is, with a wrong client URL; and one that its peers cannot reach."""
+    with Cluster(1, ["n2", "n3"]).running() as cluster:
+        words = ["add", f"n2={cluster['n2'].peer}", "--yes"]
+        status, output, error = run(cluster, *words, "--limit", "1")
+        holds(f"it is given up: {error}", (status, error) == (1, "confscript-etcd: step 1 of 2: gave up after 1 s: n2 has not started: see its log; its data "
+                                                      "directory must be empty\n"))
+        holds("it is a learner", cluster.configuration(cluster["n1"]) == "n1 +n2")
+        refuses(cluster, "another one meanwhile", "step 1 of 2: etcd's server takes one learner at a time", "add", f"n3={cluster['n3'].peer}", "--yes")
+        # It advertises a client URL at which it is not reached from here.
+        cluster["n2"].advertised = "http://127.0.0.1:1"
+        cluster["n2"].start(settings_in(output, "n2"))
+        wait_for("the run says where the server does not answer", lambda: run(cluster, *words, "--limit", "1")[2].endswith(
+            "n2 does not answer at http://127.0.0.1:1 (--client-url n2=URL if it is reached elsewhere)\n"))
+        elsewhere = ["--client-url", f"n2={cluster['n2'].client}"]
+        output = succeeds(cluster, *words, *elsewhere)
+        holds(f"the same command carries on:\n{output}", "promote n2" in output and "member add" not in output)
+
+        # A server that listens elsewhere is in sync, and still is not promoted.
+        third = cluster["n3"]
+        third.peer = f"http://127.0.0.1:{next(PORTS)}"
+        words = ["add", f"n3={third.peer}", "--yes", *elsewhere]
+        it = begin(cluster, *words, "--limit", "30", "--start", start_command(cluster))
+        shown = []
+        for line in it.stdout:
+            shown.append(line)
+            if "nothing listens" in line:
+                break
+        holds(f"it is said that nothing listens:\n{''.join(shown)}",
+              shown[-1] == f"  waiting: nothing listens at {third.peer}, where the others are to reach n3: connection refused\n")
+        it.kill()
+        it.wait()
+        holds("it is not promoted", cluster.configuration(cluster["n1"]) == "n1 n2 +n3")
+        status, _, error = run(cluster, *words, "--limit", "1")
+        holds(f"nor by a second run: {error}", status == 1 and "gave up after 1 s: nothing listens at" in error)
+        succeeds(cluster, "remove", f"{cluster.id(third):x}", "--healthy", "--yes", *elsewhere)
+        cluster.check_end("n1 n2")
+
+
+def voter_dies_meanwhile():
+    """While a healthy server is replaced, another one fails. The new one is promoted, and nothing is removed before the
+    other one is back."""
+    with Cluster(3, ["n4"]).running() as cluster:
+        dying = cluster["n2"]
+        start = start_command(cluster, f"kill -9 {dying.process.pid}")
+        it = begin(cluster, "replace", "n1", "--with", f"n4={cluster['n4'].peer}", "--healthy", "--yes", "--start", start)
+        shown = []
+        for line in it.stdout:
+            shown.append(line)
+            if line == "  waiting: n2 does not answer\n":
+                wait_for("the new one votes, and none has left", lambda: cluster.configuration(cluster["n3"]) == "n1 n2 n3 n4")
+                dying.start_again()
+        output = "".join(shown)
+        holds(f"status {it.wait()}:\n{output}", it.returncode == 0)
+        holds(f"it waited:\n{output}", "  waiting: n2 does not answer\n" in output)
+        cluster.check_end("n2 n3 n4")
+
+
+TESTS = (server_is_behind, server_never_starts, voter_dies_meanwhile)
