@@ -74,7 +74,7 @@ class Carrying:
             self.bring_up(step.id)
         else:
             self.show_settings(self.task.new[step.id], self.wait(self.cluster.look).members)
-        self.make(step)
+        self.make(step, later)
         if step.call.adds():
             self.bring_up(step.id)
 
@@ -86,15 +86,17 @@ class Carrying:
             for name, value in settings(new, members).items():
                 say(f'    {name}="{value}"')
 
-    def make(self, step):
-        """Makes the change of a step. It is done when the list of members shows it."""
+    def make(self, step, later):
+        """Makes the change of a step. It is done when the list of members shows it, or shows what a later step makes of it:
+        another run of the same command may have gone on meanwhile."""
+        done = [each.after for each in (step, *later)]
         is_accepted, shown = False, None
 
         def attempt():
             nonlocal is_accepted, shown
             view = self.cluster.look()
             now = self.task.configuration(view.members)
-            if now == step.after:
+            if now in done:
                 return
             if now != step.before:
                 self.refuse_others(step, now, view)
@@ -109,7 +111,7 @@ class Carrying:
                 shown = words
             self.change(words, endpoints, view)
             is_accepted = True
-            if self.task.configuration(self.cluster.look().members) != step.after:
+            if self.task.configuration(self.cluster.look().members) not in done:
                 raise NotYet("the list of members does not show it yet")
 
         self.wait(attempt)

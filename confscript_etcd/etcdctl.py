@@ -28,6 +28,8 @@ PASSING = (
     "server stopped",
     "connection",
     "transport",
+    "EOF",
+    "code = Unavailable",
     "not supported for learner",
 )
 # Parts of the answers of a server that wants to know who asks.

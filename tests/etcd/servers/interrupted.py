@@ -4,7 +4,7 @@ import signal
 
 from checks import Broken, holds
 from clusters import Cluster
-from runs import begin, run, start_command, succeeds
+from runs import Gate, begin, run, start_command, succeeds
 
 # etcdctl, which kills the run that called it after a number of calls.
 KILLING = """#!/bin/sh
@@ -66,6 +66,24 @@ def killed_while_the_leader_is_replaced():
         cluster.check_end("n4 n5")
 
 
+def one_run_overtakes_another():
+    """The first change of a run is held until another run of the same command has made all of them."""
+    with Cluster(3, ["n4"]).running() as cluster:
+        cluster["n3"].kill()
+        words = ["replace", "n3", "--with", f"n4={cluster['n4'].peer}", "--yes", "--start", start_command(cluster)]
+        faster = []
+
+        def overtake(call, pid, status):
+            if not faster:
+                faster.append(None)
+                faster[0] = succeeds(cluster, *words)
+
+        with Gate(cluster, before=overtake) as gate:
+            succeeds(cluster, *words, etcdctl=gate.etcdctl)
+        holds("the other run makes the changes", faster and "member promote" in (faster[0] or ""))
+        cluster.check_end("n1 n2 n4")
+
+
 def two_operators():
     """Two runs of one command on one machine at once both end well. Of two on different machines that replace a server by
     different ones, one ends well, and the other stops."""
@@ -86,4 +104,5 @@ def two_operators():
         cluster.check_end(f"n1 n4 {winner}")
 
 
-TESTS = (killed_while_the_leader_is_replaced, killed_while_a_failed_server_comes_back, killed_while_a_failed_server_is_replaced, two_operators)
+TESTS = (killed_while_the_leader_is_replaced, killed_while_a_failed_server_comes_back, killed_while_a_failed_server_is_replaced,
+         one_run_overtakes_another, two_operators)
