@@ -209,7 +209,8 @@ compile_text() (
     cp -P "$room/bin/ld.lld" "$room/bin/llvm-ar" && cp "$top/tools/clang_to_text" "$room/bin/clang" || exit
   target=x86_64-unknown-linux-gnu
   [ "$processor" = x86_64 ] || target=aarch64-unknown-linux-gnu
-  words=(--target "$target" --toolchain "$room" --backend llvm -o "$room/object")
+  # The log lists the C functions whose contracts the proofs rest on, with which tests/documents compares docs/TRUST.md.
+  words=(--target "$target" --toolchain "$room" --backend llvm --list-axioms -o "$room/object")
   # What `rt check` keeps, if it was used in this clone.
   checked=$top/crates/$crate/out/incremental
   [ -d "$checked" ] || checked=$top/crates/$crate/out/checked
