@@ -16,5 +16,5 @@
 // All that is left to chance comes from seeds, etcd's election timeouts too (election_timeouts.go). No test looks at the
 // time of day: clocks tick when the tests say so, and what does not come within a number of rounds has failed.
 //
-// docs/ETCD.md says what this shows, and what confscript does in its own way.
+// README.md says what this shows, and what confscript does in its own way.
 package etcd

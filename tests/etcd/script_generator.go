@@ -10,7 +10,7 @@ import (
 	pb "go.etcd.io/etcd/raft/raftpb"
 )
 
-// A scriptMaker makes directives of every command over a pool of ids. What docs/ETCD.md names as left out is not
+// A scriptMaker makes directives of every command over a pool of ids. What README.md names as left out is not
 // made.
 type scriptMaker struct {
 	chance *rand.Rand

@@ -15,7 +15,7 @@ import (
 )
 
 // A session answers the directives of one script by etcd's packages. Where a command or a text is confscript's own,
-// the answer is a translation, which docs/ETCD.md names.
+// the answer is a translation, which README.md names.
 type session struct {
 	changer confchange.Changer
 	kept    []tracker.Config // from before each accepted change, the newest last
