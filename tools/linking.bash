@@ -44,12 +44,18 @@ link_program() {
     mv "$made/confscript.linked" "$made/confscript"
 }
 
+# soname: the name by which a program finds the shared library when it runs: libconfscript.so with the major and the minor
+# version of the header, since before 1.0 a minor version may change the parameters of a call.
+soname() {
+  sed -n 's/^#define CONFSCRIPT_VERSION_M[A-Z]* \([0-9]*\)$/\1/p' "$top/include/confscript.h" | paste -sd. | sed 's/^/libconfscript.so./'
+}
+
 # link_library TEXT: links both libraries. The text of the library has all that it needs but the C library.
 link_library() {
   local ar object=$made/libconfscript.o
   ar=$("${cc[@]}" -print-prog-name=ar) &&
     "${cc[@]}" -c "$1" -o "$object" &&
-    "${cc[@]}" -shared -Wl,-soname,libconfscript.so.0,--no-undefined,-z,relro,-z,now,-z,noexecstack "$object" -o "$made/libconfscript.so" &&
+    "${cc[@]}" -shared -Wl,-soname,"$(soname)",--no-undefined,-z,relro,-z,now,-z,noexecstack "$object" -o "$made/libconfscript.so" &&
     rm -f "$made/libconfscript.a" &&
     "$ar" rcsD "$made/libconfscript.a" "$object"
 }

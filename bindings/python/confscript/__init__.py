@@ -115,7 +115,7 @@ Text = Union[str, bytes, bytearray, memoryview]
 
 def _path() -> str:
     beside = os.path.join(os.path.dirname(os.path.abspath(__file__)), "libconfscript.so")
-    return os.environ.get("CONFSCRIPT_LIBRARY") or (beside if os.path.exists(beside) else "libconfscript.so.0")
+    return os.environ.get("CONFSCRIPT_LIBRARY") or (beside if os.path.exists(beside) else "libconfscript.so.{}.{}".format(*HEADER))
 
 
 _library = ctypes.CDLL(_path())
