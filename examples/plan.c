@@ -12,10 +12,9 @@ static const uint8_t *bytes(const char *text) { return (const uint8_t *)text; }
 
 int main(void) {
     uint8_t plan[512], after[512];
-    const uint64_t none[1] = {0}; /* no ids are down; the pointer must not be NULL */
 
     struct confscript_answer planned = confscript_plan(bytes(now), strlen(now), bytes(target), strlen(target),
-                                                       CONFSCRIPT_SHORTEST, CONFSCRIPT_STEPS, none, 0, plan, sizeof plan);
+                                                       CONFSCRIPT_SHORTEST, CONFSCRIPT_STEPS, NULL, 0, plan, sizeof plan);
     if (planned.status != CONFSCRIPT_DONE) {
         fprintf(stderr, "no plan: status %u, number %llu\n", (unsigned)planned.status, (unsigned long long)planned.number);
         return 1;
@@ -31,7 +30,7 @@ int main(void) {
     printf("%.*s\n", (int)applied.number, (const char *)after);
 
     /* 2 has acknowledged the index 9, 3 the index 7, and 5 none yet. The configuration is not joint. */
-    uint64_t acknowledged[] = {9, 7, 0}, outgoing[1];
-    printf("committed %llu\n", (unsigned long long)confscript_committed(acknowledged, 3, outgoing, 0));
+    uint64_t acknowledged[] = {9, 7, 0};
+    printf("committed %llu\n", (unsigned long long)confscript_committed(acknowledged, 3, NULL, 0));
     return 0;
 }

@@ -23,10 +23,9 @@ std::string written(Call call) {
 std::string plan(const std::string &now, const std::string &target, confscript_strategy strategy, confscript_output output,
                  const std::vector<uint64_t> &down = {}) {
     auto bytes = [](const std::string &text) { return reinterpret_cast<const uint8_t *>(text.data()); };
-    uint64_t none = 0;
     return written([&](uint8_t *out, size_t room) {
         return confscript_plan(bytes(now), now.size(), bytes(target), target.size(), strategy, output,
-                               down.empty() ? &none : down.data(), down.size(), out, room);
+                               down.data(), down.size(), out, room);
     });
 }
 

@@ -660,6 +660,53 @@ static void refused_steps(void) {
     REFUSED("step: not a valid configuration", step, CONFSCRIPT_LEARNER_AND_VOTER, 2);
 }
 
+/* Lists of no elements, whose pointers are NULL. */
+static struct confscript_answer null_plan(void) { return confscript_plan(NULL, 0, NULL, 0, strategy, output, NULL, 0, NULL, 0); }
+static struct confscript_answer null_down(void) {
+    return confscript_plan(bytes(first), strlen(first), NULL, 0, strategy, output, NULL, 0, out, room);
+}
+static struct confscript_answer null_apply(void) { return confscript_apply(NULL, 0, NULL, 0, NULL, 0); }
+static struct confscript_answer null_check(void) { return confscript_check(NULL, 0); }
+static struct confscript_answer null_committed(void) {
+    return (struct confscript_answer){CONFSCRIPT_DONE, confscript_committed(NULL, 0, NULL, 0)};
+}
+static struct confscript_answer null_outgoing(void) {
+    return (struct confscript_answer){CONFSCRIPT_DONE, confscript_committed(incoming, incoming_len, NULL, 0)};
+}
+static struct confscript_answer null_vote(void) { return confscript_vote(NULL, 0, NULL, 0); }
+static struct confscript_answer null_restore(void) { return confscript_restore(NULL, 0, NULL, 0); }
+static struct confscript_answer null_step(void) {
+    return confscript_step(configuration, configuration_len, kind, NULL, 0, numbers, numbers_room);
+}
+static struct confscript_answer null_room(void) {
+    return confscript_step(configuration, configuration_len, kind, changes, changes_len, NULL, 0);
+}
+static struct confscript_answer null_may_be_down(void) { return confscript_may_be_down(NULL, 0, NULL, 0, NULL, 0); }
+static struct confscript_answer null_uncounted(void) { return confscript_may_be_down(incoming, incoming_len, NULL, 0, NULL, 0); }
+static struct confscript_answer null_status_text(void) { return confscript_status_text(code, NULL, 0); }
+
+static void null_pointers(void) {
+    expect("NULL: plan", null_plan, CONFSCRIPT_UNKNOWN_FORM, 1, "");
+    on_texts("voters=(1)", "");
+    expect("NULL: plan with no changes and no ids down", null_down, CONFSCRIPT_DONE, 14, "nothing to do\n");
+    expect("NULL: apply", null_apply, CONFSCRIPT_BAD_CONF_STATE, 1, "");
+    expect("NULL: check", null_check, CONFSCRIPT_BAD_CONF_STATE, 1, "");
+    expect("NULL: committed", null_committed, CONFSCRIPT_DONE, UINT64_MAX, "");
+    SET(incoming, 5, 0, 7);
+    expect("NULL: committed with no outgoing voters", null_outgoing, CONFSCRIPT_DONE, 5, "");
+    expect("NULL: vote", null_vote, CONFSCRIPT_DONE, CONFSCRIPT_VOTE_WON, "");
+    REFUSED("NULL: restore", null_restore, CONFSCRIPT_DIFFERENT_LENGTHS, 0);
+    GIVEN(0, 1, 1, 0, 0, 0, 2, 1);
+    BY_NONE(CONFSCRIPT_AUTO);
+    WRITES("NULL: step with no changes", null_step, 0, 1, 0, 0, 0, 0, 2);
+    REFUSED("NULL: step with no room", null_room, CONFSCRIPT_TOO_SMALL, 7);
+    expect("NULL: may be down", null_may_be_down, CONFSCRIPT_NO_QUORUM, 0, "");
+    SET(incoming, 1, 2, 3);
+    expect("NULL: may be down with no outgoing voters", null_uncounted, CONFSCRIPT_DONE, 1, "");
+    code = CONFSCRIPT_DONE;
+    expect("NULL: text of a status", null_status_text, CONFSCRIPT_TOO_SMALL, 4, "");
+}
+
 /* Applies a plan to a line, at most `lines` lines in each call, and writes the last result to `line`. */
 static struct confscript_answer applied(char *line, const char *steps, int lines) {
     struct confscript_answer answer;
@@ -722,6 +769,7 @@ int main(void) {
     restores();
     accepted_steps();
     refused_steps();
+    null_pointers();
     rounds();
     texts();
     return 0;

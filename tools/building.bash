@@ -222,15 +222,25 @@ compile_text() (
   fi && mv "$room/text.s" "$text"
 )
 
-# complete_library ROOM TARGET: adds to the text of the library what it takes from compiled/system.c, as functions that are
-# not seen from outside: each library of the toolchain has functions of these names. Its first line, a comment for
-# assemblers, tells Go when its package links another library. All labels get names that LLVM gives to none: with Rust's
-# link-time optimization LLVM assembles the text in one module with code of its own.
-complete_library() {
+# assembly_of ROOM TARGET FILE: the assembly that the toolchain's clang makes of a file of compiled/, with labels of its own.
+assembly_of() {
   "$1/real/bin/clang" --target="$2" --no-default-config -std=c11 -ffreestanding -O2 -fPIC -ffunction-sections \
-    -fno-asynchronous-unwind-tables -fno-ident -fno-addrsig -fno-verbose-asm -S "$top/compiled/system.c" -o "$1/system.s" &&
-    sed -i -e '1i //go:build cgo \&\& !confscript_flags \&\& !confscript_pkg_config\n' -e '/^\t\.asci[iz]\t/!s/\.L/.Lcs_/g' "$1/text.s" &&
-    sed '/^\t\.file\t/d; /^\t\.globl\t/d; s/\.Lfunc_end/.Lsystem_end/g' "$1/system.s" >>"$1/text.s"
+    -fno-asynchronous-unwind-tables -fno-ident -fno-addrsig -fno-verbose-asm -S "$top/compiled/$3.c" -o "$1/$3.s" &&
+    sed "/^\t\.file\t/d; s/\.L/.L$3_/g" "$1/$3.s"
+}
+
+# complete_library ROOM TARGET: adds to the text of the library what it takes from compiled/system.c, as functions that are
+# not seen from outside: each library of the toolchain has functions of these names. Then what compiled/calls.c has: the
+# calls that are seen from outside, in front of the proved ones, which are named `proved_..` for that. The first line, a
+# comment for assemblers, tells Go when its package links another library. All labels get names that LLVM gives to none:
+# with Rust's link-time optimization LLVM assembles the text in one module with code of its own.
+complete_library() {
+  local system calls names
+  system=$(assembly_of "$1" "$2" system | sed '/^\t\.globl\t/d') && calls=$(assembly_of "$1" "$2" calls) || return
+  names=$(sed -n 's/^\t\.globl\t\(confscript_.*\)$/\1/p' <<<"$calls" | paste -sd '|')
+  sed -i -E -e '1i //go:build cgo \&\& !confscript_flags \&\& !confscript_pkg_config\n' -e '/^\t\.asci[iz]\t/!s/\.L/.Lcs_/g' \
+    -e "/^\t\.globl\t($names)\$/d; s/\b($names)\b/proved_\1/g" "$1/text.s" &&
+    printf '%s\n%s\n' "$system" "$calls" >>"$1/text.s"
 }
 
 # needs_proof WHAT: fails with a message of one line if the sources cannot be proved.

@@ -16,9 +16,8 @@
  * Each call but confscript_version and confscript_committed returns a status and a number. A call keeps no state: it
  * reads its arguments, and writes only to `out`; confscript_committed reorders its arguments. The caller must keep these
  * rules, since no call checks them:
- * - Each pointer is aligned and not NULL, even for no elements, and points to as many elements as the count after it
- *   says. For no elements any pointer will do that is aligned and not NULL: a C++ caller writes
- *   `v.empty() ? &one : v.data()`.
+ * - Each pointer is aligned, and points to as many elements as the length after it says. For a length of 0 it may be any
+ *   pointer, also NULL, as an empty std::vector of C++ has it.
  * - `out` overlaps no other argument, and the two arguments of confscript_committed do not overlap. While the call runs,
  *   nothing else uses these, and nothing changes what the other pointers point to.
  * - malloc, realloc and free belong to one allocator, which aligns a block as malloc of the C library does.
