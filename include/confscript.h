@@ -187,6 +187,30 @@ struct confscript_answer {
     uint64_t number;
 };
 
+/*
+ * How many numbers confscript_restore and confscript_step write at most, from the lengths that they are passed: an `out`
+ * of as many is never too small. Each id of the configuration may be in two lists of the result, and so may the id
+ * of each change.
+ */
+#define CONFSCRIPT_RESTORE_ROOM(configuration_len) CONFSCRIPT_STEP_ROOM(configuration_len, 0)
+#define CONFSCRIPT_STEP_ROOM(configuration_len, changes_len) \
+    (CONFSCRIPT_IDS + 2 * (CONFSCRIPT_IDS_LEN(configuration_len) + (size_t)(changes_len)))
+/* How many ids an array of this length has. */
+#define CONFSCRIPT_IDS_LEN(configuration_len) \
+    ((size_t)(configuration_len) < CONFSCRIPT_IDS ? 0 : (size_t)(configuration_len) - CONFSCRIPT_IDS)
+
+/*
+ * What else a program asks of a configuration, and the call that answers it:
+ * - Is the quorum lost? confscript_may_be_down returns CONFSCRIPT_NO_QUORUM, with the ids that are down as `uncounted`.
+ * - Must a voter still acknowledge an index, or can that commit without it? It must if confscript_vote is
+ *   CONFSCRIPT_VOTE_LOST, with CONFSCRIPT_VOTED_YES for each other voter that has acknowledged it or can still do so, and
+ *   CONFSCRIPT_VOTED_NO for the rest.
+ * - Does raft leave a joint configuration by itself? Then the number CONFSCRIPT_AUTO_LEAVE of its array is 1.
+ * - May an id be removed now? If confscript_step with CONFSCRIPT_REMOVE is done, and confscript_may_be_down too, for the
+ *   configuration and for the one that the step wrote, with the ids that are down as `uncounted`. Its second number is how
+ *   many more may be down afterwards. If one of the two has no quorum, nothing commits there.
+ */
+
 /* The version of the library: 10,000 for each major one, 100 for each minor one, and the patch. */
 uint32_t confscript_version(void);
 
@@ -256,15 +280,15 @@ struct confscript_answer confscript_check(const uint8_t *state, size_t state_len
 /*
  * Returns the committed index of a voter set, or of a joint pair, from the index that each voter has acknowledged, 0 if
  * it is unknown: the greatest index that more than half of `incoming` have reached, or the smaller one of both sets if
- * `outgoing` is not empty. It is 2^64-1 if there are no voters. The call cannot fail. It leaves each array with the same
- * indexes, in any order.
+ * `outgoing` is not empty. It is 2^64-1 if there are no voters. Each index counts as that of another voter, so a voter
+ * that is listed twice counts twice. The call cannot fail. It leaves each array with the same indexes, in any order.
  */
 uint64_t confscript_committed(uint64_t *incoming, size_t incoming_len, uint64_t *outgoing, size_t outgoing_len);
 
 /*
  * Returns the result of a vote by a voter set, or by a joint pair, from the vote of each voter, an
- * enum confscript_ballot. Each set that is not empty must win it. If there are no voters, the vote is won. The number is
- * an enum confscript_vote_result.
+ * enum confscript_ballot. Each set that is not empty must win it. If there are no voters, the vote is won. Each vote counts
+ * as that of another voter, so a voter that is listed twice counts twice. The number is an enum confscript_vote_result.
  */
 struct confscript_answer confscript_vote(const uint8_t *incoming, size_t incoming_len, const uint8_t *outgoing,
                                          size_t outgoing_len);
@@ -272,7 +296,7 @@ struct confscript_answer confscript_vote(const uint8_t *incoming, size_t incomin
 /*
  * Checks a saved configuration in numbers (etcd's ConfState), and writes it to `out` with its ids in ascending order and
  * all members beginning afresh, as when a server restarts (etcd's confchange.Restore). The number is how many numbers
- * are written.
+ * are written, at most CONFSCRIPT_RESTORE_ROOM(configuration_len).
  */
 struct confscript_answer confscript_restore(const uint64_t *configuration, size_t configuration_len, uint64_t *out,
                                             size_t out_len);
@@ -280,8 +304,8 @@ struct confscript_answer confscript_restore(const uint64_t *configuration, size_
 /*
  * Applies changes to a configuration in numbers, as an enum confscript_step_kind says, and writes the configuration
  * after them to `out`. A member begins afresh if it was none before, or if a change removes it and it is added again,
- * unless it is an outgoing voter; the others keep their progress. The number is how many numbers are written. The
- * configuration is checked first, as by confscript_restore.
+ * unless it is an outgoing voter; the others keep their progress. The number is how many numbers are written, at most
+ * CONFSCRIPT_STEP_ROOM(configuration_len, changes_len). The configuration is checked first, as by confscript_restore.
  */
 struct confscript_answer confscript_step(const uint64_t *configuration, size_t configuration_len, uint32_t step,
                                          const struct confscript_change *changes, size_t changes_len, uint64_t *out,
@@ -290,7 +314,8 @@ struct confscript_answer confscript_step(const uint64_t *configuration, size_t c
 /*
  * Returns how many ids may be down, whichever they are, while the other voters in `incoming`, and in `outgoing` if
  * there are any, are a quorum. The ids in `uncounted`, such as members whose logs are still empty, do not count for a
- * quorum, whether they are down or not. The number is the greatest such count.
+ * quorum, whether they are down or not. The number is the greatest such count. If there are no voters, they are no quorum.
+ * An id that is listed twice counts once.
  */
 struct confscript_answer confscript_may_be_down(const uint64_t *incoming, size_t incoming_len, const uint64_t *outgoing,
                                                 size_t outgoing_len, const uint64_t *uncounted, size_t uncounted_len);

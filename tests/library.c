@@ -464,6 +464,8 @@ static void quorums(void) {
     SET(incoming, 3, 3, 3, 3);
     outgoing_len = 0;
     commits("committed: repeated indexes", 3);
+    SET(incoming, 9, 9, 9, 1, 2);
+    commits("committed: a voter that is listed three times counts three times", 9);
     SET(incoming, 2, 8);
     commits("committed: both of two", 2);
     SET(incoming, UINT64_MAX, 1, UINT64_MAX);
@@ -506,6 +508,9 @@ static void quorums(void) {
     expect("may be down: the weaker of both", may_be_down, CONFSCRIPT_DONE, 1, "");
     SET(ids, 2);
     expect("may be down: the weaker, where one does not count", may_be_down, CONFSCRIPT_DONE, 0, "");
+    SET(incoming, 1, 1, 1, 2, 2, 3);
+    outgoing_len = ids_len = 0;
+    expect("may be down: an id that is listed twice counts once", may_be_down, CONFSCRIPT_DONE, 1, "");
     incoming_len = 0;
     expect("may be down: nobody votes", may_be_down, CONFSCRIPT_NO_QUORUM, 0, "");
 }
@@ -660,6 +665,80 @@ static void refused_steps(void) {
     REFUSED("step: not a valid configuration", step, CONFSCRIPT_LEARNER_AND_VOTER, 2);
 }
 
+/* Whether a call just fits into the room of the header's macro, and not into one number less. */
+static void bound(const char *name, call which, size_t most) {
+    struct confscript_answer got[2];
+    for (size_t less = 0; less < 2; less++) {
+        numbers_room = most - less;
+        got[less] = called(which, -1);
+    }
+    numbers_room = ROOM;
+    report(name, got[0].status == CONFSCRIPT_DONE && got[0].number == most && got[1].status == CONFSCRIPT_TOO_SMALL && got[1].number == most, got[0]);
+}
+
+/* Every list of up to three changes of five ids, made in every way in some configurations: whether the macro's room is
+   always enough, and sometimes one number less is not. */
+static void all_rooms(void) {
+    static const uint64_t states[][12] = {
+        {6, 0, 0, 0, 0, 0, 0}, {7, 0, 1, 0, 0, 0, 0, 1}, {9, 0, 2, 0, 1, 0, 0, 1, 3, 2}, {10, 1, 2, 1, 1, 0, 0, 4, 5, 1, 2},
+        {11, 0, 1, 2, 0, 1, 1, 2, 1, 2, 1, 2}};
+    struct confscript_answer got = {CONFSCRIPT_DONE, 0};
+    int is_enough = 1, is_short = 0;
+    for (size_t i = 0; i < sizeof states / sizeof *states; i++) for (kind = 0; kind < 5; kind++) for (changes_len = 0; changes_len < 4; changes_len++) {
+        configuration_len = set(configuration, states[i][0], states[i] + 1);
+        size_t most = CONFSCRIPT_STEP_ROOM(configuration_len, changes_len), lists = 1;
+        for (size_t k = 0; k < changes_len; k++) lists *= 20;
+        for (size_t list = 0; list < lists && is_enough; list++) {
+            size_t rest = list;
+            for (size_t k = 0; k < changes_len; k++, rest /= 20) changes[k] = (struct confscript_change){rest % 4, 1 + rest / 4 % 5};
+            numbers_room = most;
+            got = step();
+            is_enough = got.status != CONFSCRIPT_TOO_SMALL;
+            is_short |= got.status == CONFSCRIPT_DONE && got.number == most;
+        }
+    }
+    numbers_room = ROOM;
+    report("room: every list of three changes", is_enough && is_short, got);
+}
+
+static void rooms(void) {
+    GIVEN(0, 3, 0, 0, 0, 0, 1, 2, 3);
+    bound("room: restore", restore, CONFSCRIPT_RESTORE_ROOM(configuration_len));
+    BY(CONFSCRIPT_EXPLICIT, {VOTER, 4}, {LEARNER, 5}, {VOTER, 6});
+    bound("room: step", step, CONFSCRIPT_STEP_ROOM(configuration_len, changes_len));
+    GIVEN(0, 0, 0, 0, 0, 0);
+    bound("room: restore without ids", restore, CONFSCRIPT_RESTORE_ROOM(configuration_len));
+    all_rooms();
+    uint64_t constant[CONFSCRIPT_STEP_ROOM(9, 2)];
+    struct confscript_answer got = {CONFSCRIPT_DONE, CONFSCRIPT_RESTORE_ROOM(3)};
+    report("room: a length that is no array's", got.number == CONFSCRIPT_IDS && sizeof constant == 16 * sizeof *constant, got);
+}
+
+/* What the header says of questions that other calls answer. */
+static void questions(void) {
+    SET(incoming, 1, 2, 3, 4, 5);
+    outgoing_len = 0;
+    SET(ids, 4, 5);
+    expect("question: the quorum is not lost", may_be_down, CONFSCRIPT_DONE, 0, "");
+    SET(ids, 3, 4, 5);
+    expect("question: the quorum is lost", may_be_down, CONFSCRIPT_NO_QUORUM, 0, "");
+    /* Of five voters, the last is down and has not acknowledged the index. */
+    VOTES(incoming, NO, YES, YES, YES, NO);
+    outgoing_votes_len = 0;
+    votes("question: the first voter need not acknowledge", CONFSCRIPT_DONE, CONFSCRIPT_VOTE_WON);
+    VOTES(outgoing, NO, YES);
+    votes("question: it must, as an outgoing voter", CONFSCRIPT_DONE, CONFSCRIPT_VOTE_LOST);
+    GIVEN(0, 3, 0, 0, 0, 0, 1, 2, 3);
+    BY(CONFSCRIPT_SIMPLE, {REMOVE, 3});
+    WRITES("question: a voter is removed", step, 0, 2, 0, 0, 0, 0, 1, 2);
+    SET(incoming, 1, 2);
+    outgoing_len = 0;
+    SET(ids, 3);
+    expect("question: the others are a quorum", may_be_down, CONFSCRIPT_DONE, 0, "");
+    SET(ids, 2);
+    expect("question: without another that is down they are none", may_be_down, CONFSCRIPT_NO_QUORUM, 0, "");
+}
+
 /* Lists of no elements, whose pointers are NULL. */
 static struct confscript_answer null_plan(void) { return confscript_plan(NULL, 0, NULL, 0, strategy, output, NULL, 0, NULL, 0); }
 static struct confscript_answer null_down(void) {
@@ -770,6 +849,8 @@ int main(void) {
     accepted_steps();
     refused_steps();
     null_pointers();
+    rooms();
+    questions();
     rounds();
     texts();
     return 0;
