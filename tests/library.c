@@ -742,7 +742,7 @@ static void questions(void) {
 /* Lists of no elements, whose pointers are NULL. */
 static struct confscript_answer null_plan(void) { return confscript_plan(NULL, 0, NULL, 0, strategy, output, NULL, 0, NULL, 0); }
 static struct confscript_answer null_down(void) {
-    return confscript_plan(bytes(first), strlen(first), NULL, 0, strategy, output, NULL, 0, out, room);
+    return confscript_plan(bytes(first), strlen(first), bytes(second), strlen(second), strategy, output, NULL, 0, out, room);
 }
 static struct confscript_answer null_apply(void) { return confscript_apply(NULL, 0, NULL, 0, NULL, 0); }
 static struct confscript_answer null_check(void) { return confscript_check(NULL, 0); }
@@ -766,8 +766,8 @@ static struct confscript_answer null_status_text(void) { return confscript_statu
 
 static void null_pointers(void) {
     expect("NULL: plan", null_plan, CONFSCRIPT_UNKNOWN_FORM, 1, "");
-    on_texts("voters=(1)", "");
-    expect("NULL: plan with no changes and no ids down", null_down, CONFSCRIPT_DONE, 14, "nothing to do\n");
+    on_texts("voters=(1)", "voters=(1)");
+    expect("NULL: plan with no ids down", null_down, CONFSCRIPT_DONE, 14, "nothing to do\n");
     expect("NULL: apply", null_apply, CONFSCRIPT_BAD_CONF_STATE, 1, "");
     expect("NULL: check", null_check, CONFSCRIPT_BAD_CONF_STATE, 1, "");
     expect("NULL: committed", null_committed, CONFSCRIPT_DONE, UINT64_MAX, "");

@@ -44,7 +44,7 @@ static confscript_answer may_be_down(const numbers &incoming, const numbers &out
 
 int main() {
     bytes no_text, line(64);
-    expect("plan: no changes, no ids down", plan(text("voters=(1)"), no_text, {}, line), CONFSCRIPT_DONE, 14);
+    expect("plan: no ids down", plan(text("voters=(1)"), text("v1"), {}, line), CONFSCRIPT_DONE, 14);
     expect("plan: no room", plan(text("voters=(1)"), text("v2"), {}, no_text), CONFSCRIPT_TOO_SMALL, 10);
     expect("plan: no configuration", plan(no_text, no_text, {}, no_text), CONFSCRIPT_UNKNOWN_FORM, 1);
     expect("apply: no text", confscript_apply(no_text.data(), 0, no_text.data(), 0, no_text.data(), 0), CONFSCRIPT_BAD_CONF_STATE, 1);

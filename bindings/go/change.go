@@ -70,7 +70,7 @@ func ApplyConfChange(state ConfState, change ConfChangeV2) (next ConfState, fres
 		return step(state, C.uint32_t(change.Transition), change.Changes)
 	default:
 		// The library has steps of other numbers, which are not transitions.
-		return ConfState{}, nil, &Refused{Status: C.CONFSCRIPT_BAD_STEP}
+		return ConfState{}, nil, &Refused{Status: ErrBadStep}
 	}
 }
 
@@ -97,15 +97,14 @@ func LeaveJoint(state ConfState) (next ConfState, fresh []uint64, err error) {
 // when a server restarts.
 func Restore(state ConfState) (restored ConfState, fresh []uint64, err error) {
 	from := state.numbers()
-	return configuration(len(from)+state.size(), func(out *C.uint64_t, room C.size_t) C.struct_confscript_answer {
+	return configuration(room(state, 0), func(out *C.uint64_t, room C.size_t) C.struct_confscript_answer {
 		return C.confscript_restore(first(from), C.size_t(len(from)), out, room)
 	})
 }
 
 func step(state ConfState, kind C.uint32_t, changes []ConfChangeSingle) (ConfState, []uint64, error) {
 	from := state.numbers()
-	// Each id of the result was a member, or is that of a change; a few are in two lists.
-	return configuration(len(from)+state.size()+4*len(changes), func(out *C.uint64_t, room C.size_t) C.struct_confscript_answer {
+	return configuration(room(state, len(changes)), func(out *C.uint64_t, room C.size_t) C.struct_confscript_answer {
 		list := make([]C.struct_confscript_change, len(changes)+1)
 		for i, change := range changes {
 			list[i] = C.struct_confscript_change{kind: C.uint32_t(change.Type), id: C.uint64_t(change.NodeID)}
@@ -133,22 +132,19 @@ func (state ConfState) numbers() []uint64 {
 	return numbers
 }
 
-// configuration returns the configuration that a call writes, and the members that begin afresh in it. If there is not
-// room enough, the call is made again with more.
+// room returns how many numbers a call writes at most, as the macro CONFSCRIPT_STEP_ROOM of confscript.h.
+func room(state ConfState, changes int) int {
+	return C.CONFSCRIPT_IDS + 2*(state.size()+changes)
+}
+
+// configuration returns the configuration that a call writes into this room, and the members that begin afresh in it.
 func configuration(room int, call func(out *C.uint64_t, room C.size_t) C.struct_confscript_answer) (ConfState, []uint64, error) {
-	for {
-		out := make([]uint64, room)
-		answer := call((*C.uint64_t)(unsafe.Pointer(&out[0])), C.size_t(room))
-		if answer.status == C.CONFSCRIPT_TOO_SMALL {
-			room = int(answer.number)
-			continue
-		}
-		if _, err := number(answer); err != nil {
-			return ConfState{}, nil, err
-		}
-		state, fresh := read(out)
-		return state, fresh, nil
+	out := make([]uint64, room)
+	if _, err := number(call((*C.uint64_t)(unsafe.Pointer(&out[0])), C.size_t(room))); err != nil {
+		return ConfState{}, nil, err
 	}
+	state, fresh := read(out)
+	return state, fresh, nil
 }
 
 // read returns the configuration and the fresh members of such an array. The lists are parts of it; an empty one is nil.

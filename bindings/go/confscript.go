@@ -8,6 +8,8 @@
 // return the lines of its steps, PlanAs another output, and Stages what to propose to etcd's raft. Apply and Check take
 // a ConfState line.
 //
+// Any goroutine may call, also at the same time as others: a call keeps no state, and only reads its arguments.
+//
 // The package needs cgo and a C compiler. To link an installed library in place of the compiled code in this package, use
 // one of two build tags: with confscript_pkg_config the compiler finds it by pkg-config, and with confscript_flags by
 // CGO_LDFLAGS.
@@ -33,23 +35,6 @@ func init() {
 			library/10000, library/100%100, library%100, header/10000, header/100%100)
 		os.Exit(1)
 	}
-}
-
-// Refused is the error of a call that was refused: the status of confscript.h and its number.
-type Refused struct {
-	Status uint32
-	Number uint64
-}
-
-// Error returns what the status means, in words, and its number.
-func (refused *Refused) Error() string {
-	text, err := written(func(out *C.uint8_t, room C.size_t) C.struct_confscript_answer {
-		return C.confscript_status_text(C.uint32_t(refused.Status), out, room)
-	})
-	if err != nil || refused.Number == 0 {
-		return text
-	}
-	return fmt.Sprintf("%s (%d)", text, refused.Number)
 }
 
 // Strategy is how a plan goes from one configuration to another.
@@ -130,7 +115,7 @@ func start(text []byte) *C.uint8_t {
 // number returns the number of an answer, or the error of a call that was refused.
 func number(answer C.struct_confscript_answer) (uint64, error) {
 	if answer.status != C.CONFSCRIPT_DONE {
-		return 0, &Refused{uint32(answer.status), uint64(answer.number)}
+		return 0, &Refused{Status(answer.status), uint64(answer.number)}
 	}
 	return uint64(answer.number), nil
 }

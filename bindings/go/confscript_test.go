@@ -3,6 +3,8 @@
 package confscript
 
 import (
+	"errors"
+	"fmt"
 	"math"
 	"strconv"
 	"strings"
@@ -81,17 +83,17 @@ func TestRefusals(t *testing.T) {
 	_, output := PlanAs(3, Options{}, now, target)
 	_, joint := PlanBy(Options{Strategy: OneAtATime}, now, strings.Replace(target, "Outgoing:[]", "Outgoing:[1 2 3]", 1))
 	for text, err := range map[string]error{
-		"not a ConfState line (1)":            first,
-		"not a ConfState line (2)":            second,
-		"can't leave a non-joint config (1)":  step,
-		"no form of a configuration (1)":      form,
-		"not a printed configuration (2)":     printed,
-		"not the JSON of a configuration (1)": json,
-		"not a list of changes (2)":           list,
-		"unknown strategy":                    strategy,
-		"unknown output":                      output,
-		"the target is joint":                 joint,
-		"the id 0":                            Check(strings.Replace(now, "1 2", "0 2", 1)),
+		"not a ConfState line (the configuration)":            first,
+		"not a ConfState line (the target)":                   second,
+		"can't leave a non-joint config (step 1)":             step,
+		"no form of a configuration (the configuration)":      form,
+		"not a printed configuration (the target)":            printed,
+		"not the JSON of a configuration (the configuration)": json,
+		"not a list of changes (the target)":                  list,
+		"unknown strategy":                                    strategy,
+		"unknown output":                                      output,
+		"the target is joint":                                 joint,
+		"the id 0":                                            Check(strings.Replace(now, "1 2", "0 2", 1)),
 	} {
 		if err == nil || err.Error() != text {
 			t.Errorf("%v, and not %s", err, text)
@@ -99,6 +101,51 @@ func TestRefusals(t *testing.T) {
 	}
 	if err := Check(now); err != nil {
 		t.Error(err)
+	}
+}
+
+// statuses are all that the package names.
+var statuses = []Status{
+	ErrNoMemory, ErrBadConfState, ErrRepeatedID, ErrNotAConfiguration, ErrNoVoter, ErrBadLine, ErrAlreadyJoint, ErrZeroVoterJoint, ErrNotJoint,
+	ErrSimpleInJoint, ErrRemovedAllVoters, ErrMoreThanOneVoter, ErrZeroID, ErrNextNotOutgoing, ErrNextAndIncoming, ErrLearnerAndVoter,
+	ErrNotJointButAutoLeave, ErrDifferentLengths, ErrBadVote, ErrNoQuorum, ErrBadStrategy, ErrJointTarget, ErrBadStep, ErrBadChange, ErrBadOutput,
+	ErrUnknownForm, ErrBadPrinted, ErrBadJSON, ErrBadChangeList,
+}
+
+// TestStatuses looks at each number from that of ErrNoMemory on: it has a name here if the library has a text for it.
+func TestStatuses(t *testing.T) {
+	named := map[Status]bool{}
+	for _, status := range statuses {
+		named[status] = true
+	}
+	for status := ErrNoMemory; status < 100; status++ {
+		if is := status.Error() != "unknown status"; is != named[status] {
+			t.Errorf("%d, %v: %v", status, status, named[status])
+		}
+		err := fmt.Errorf("more: %w", &Refused{Status: status, Number: 1})
+		if !errors.Is(err, status) || errors.Is(err, status+1) {
+			t.Errorf("%v", err)
+		}
+	}
+	err := Check(strings.Replace(now, "Learners:[]", "Learners:[2]", 1))
+	if refused := (*Refused)(nil); !errors.As(err, &refused) || refused.Status != ErrLearnerAndVoter || refused.Number != 2 {
+		t.Error(err)
+	}
+}
+
+func TestErrorTexts(t *testing.T) {
+	for text, refused := range map[string]Refused{
+		"no incoming voter":                                             {ErrNoVoter, 0},
+		"no incoming voter (the target)":                                {ErrNoVoter, 2},
+		"not a step (line 3)":                                           {ErrBadLine, 3},
+		"can't leave a non-joint config":                                {ErrNotJoint, 0},
+		"unknown kind of change (change 2)":                             {ErrBadChange, 2},
+		"a next learner is an incoming voter (id 18446744073709551615)": {ErrNextAndIncoming, math.MaxUint64},
+		"unknown status (7)":                                            {1000, 7},
+	} {
+		if refused.Error() != text {
+			t.Errorf("%v, and not %s", refused.Error(), text)
+		}
 	}
 }
 
@@ -124,7 +171,7 @@ func TestMayBeDown(t *testing.T) {
 	if count, err := MayBeDown([]uint64{1, 2, 3}, nil, nil); err != nil || count != 1 {
 		t.Errorf("MayBeDown: %d, %v", count, err)
 	}
-	if _, err := MayBeDown(nil, nil, nil); err == nil || err.Error() != "the voters are no quorum" {
+	if _, err := MayBeDown(nil, nil, nil); !errors.Is(err, ErrNoQuorum) || err.Error() != "the voters are no quorum" {
 		t.Errorf("MayBeDown: %v", err)
 	}
 }

@@ -45,7 +45,7 @@ const (
 )
 
 // CommittedIndex returns the committed index of a voter set, or of a joint pair, from the index that each voter has
-// acknowledged, 0 if none is known. It is 2^64-1 if there are no voters.
+// acknowledged, 0 if none is known. It is 2^64-1 if there are no voters. Each index counts as that of another voter.
 func CommittedIndex(incoming, outgoing []uint64) uint64 {
 	if len(incoming)+len(outgoing) <= fewValues {
 		var few C.struct_few_indexes
@@ -62,8 +62,8 @@ func CommittedIndex(incoming, outgoing []uint64) uint64 {
 	return uint64(C.confscript_committed(first(in), C.size_t(len(in)), first(out), C.size_t(len(out))))
 }
 
-// TallyVotes returns the result of a vote by a voter set, or by a joint pair, from the ballot of each voter. A value that
-// is not a ballot counts as NotVoted.
+// TallyVotes returns the result of a vote by a voter set, or by a joint pair, from the ballot of each voter. It is VoteWon
+// if there are no voters. Each ballot counts as that of another voter. A value that is not a ballot counts as NotVoted.
 func TallyVotes(incoming, outgoing []Ballot) VoteResult {
 	if len(incoming)+len(outgoing) <= fewValues {
 		var few C.struct_few_ballots
@@ -102,8 +102,8 @@ func Committed(incoming, outgoing []uint64, acknowledged map[uint64]uint64) uint
 	return CommittedIndex(ofEach(incoming, index), ofEach(outgoing, index))
 }
 
-// Vote returns the result of a vote by a voter set, or by a joint pair. The map has the vote of each id that has voted. A
-// voter that a list names twice counts once.
+// Vote returns the result of a vote by a voter set, or by a joint pair. The map has the vote of each id that has voted. The
+// vote is won if there are no voters. A voter that a list names twice counts once.
 func Vote(incoming, outgoing []uint64, votes map[uint64]bool) VoteResult {
 	ballot := func(id uint64) Ballot { return BallotOf(votes, id) }
 	return TallyVotes(ofEach(incoming, ballot), ofEach(outgoing, ballot))
@@ -136,8 +136,8 @@ func BallotOf(votes map[uint64]bool, id uint64) Ballot {
 }
 
 // MayBeDown returns how many ids may be down, whichever they are, while the other voters are a quorum, for which the
-// uncounted ids do not count. A voter that a list names twice counts once. If the voters are no quorum even with none down, the error is a Refused with the status
-// 23.
+// uncounted ids do not count. A voter that a list names twice counts once. If the voters are no quorum even with none
+// down, as if there are none, the error wraps ErrNoQuorum.
 func MayBeDown(incoming, outgoing, uncounted []uint64) (uint64, error) {
 	return number(C.confscript_may_be_down(first(incoming), C.size_t(len(incoming)), first(outgoing), C.size_t(len(outgoing)),
 		first(uncounted), C.size_t(len(uncounted))))

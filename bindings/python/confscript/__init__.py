@@ -9,40 +9,103 @@ may also be a list of changes:
     >>> apply("Voters:[1 2] ..", plan("Voters:[1 2] ..", "r1 v3"))
 
 `apply` and `check` take a ConfState line.
-A program that embeds the library keeps a Configuration and makes its steps by `step`, without texts.
+A program that embeds the library keeps a Configuration and makes its steps by `step`, without texts; `stages` gives it
+a plan as proposals to a raft library.
 
-A call that is refused raises Refused, which has the status and the number; if memory runs out, it raises MemoryError.
+Any thread may call, also at the same time as others: a call keeps no state, and releases Python's lock meanwhile.
+
+A call that is refused raises Refused, which has a Status and a number; if memory runs out, it raises MemoryError.
 A number that is not an int raises TypeError, and one that is not in range OverflowError.
 The library is the one that CONFSCRIPT_LIBRARY names, or else the one in this package, or else, in a package that was
 not built, the one that the system's loader finds.
 """
 import ctypes
+import json
 import operator
 import os
 from enum import IntEnum
 from typing import Any, Callable, Iterable, Mapping, NamedTuple, Optional, Sequence, SupportsIndex, Tuple, Union
 
 __all__ = [
-    "ChangeKind", "Configuration", "Output", "Refused", "StepKind", "Strategy", "Vote", "apply", "check", "committed", "may_be_down", "plan", "restore",
-    "step", "version", "vote",
+    "ChangeKind", "ConfChangeSingle", "ConfChangeTransition", "ConfChangeType", "ConfChangeV2", "Configuration", "Output", "Plan", "Refused", "Stage",
+    "Status", "StepKind", "Strategy", "Vote", "apply", "apply_conf_change", "check", "committed", "may_be_down", "plan", "restore", "stages", "step",
+    "version", "vote",
 ]
 
-DONE, TOO_SMALL, NO_MEMORY, NO_QUORUM = 0, 1, 2, 23
+DONE, TOO_SMALL = 0, 1
 # The major and minor version of the confscript.h that the calls below are written for.
 HEADER = (0, 1)
 
 
+class Status(IntEnum):
+    """Why a call is refused: the statuses of confscript.h. Later versions may have more."""
+
+    NO_MEMORY = 2
+    BAD_CONF_STATE = 3
+    REPEATED_ID = 4
+    NOT_A_CONFIGURATION = 5
+    NO_VOTER = 6
+    BAD_LINE = 7
+    ALREADY_JOINT = 9
+    ZERO_VOTER_JOINT = 10
+    NOT_JOINT = 11
+    SIMPLE_IN_JOINT = 12
+    REMOVED_ALL_VOTERS = 13
+    MORE_THAN_ONE_VOTER = 14
+    ZERO_ID = 15
+    NEXT_NOT_OUTGOING = 16
+    NEXT_AND_INCOMING = 17
+    LEARNER_AND_VOTER = 18
+    NOT_JOINT_BUT_AUTO_LEAVE = 20
+    DIFFERENT_LENGTHS = 21
+    BAD_VOTE = 22
+    NO_QUORUM = 23
+    BAD_STRATEGY = 24
+    JOINT_TARGET = 25
+    BAD_STEP = 26
+    BAD_CHANGE = 27
+    BAD_OUTPUT = 28
+    UNKNOWN_FORM = 29
+    BAD_PRINTED = 30
+    BAD_JSON = 31
+    BAD_CHANGE_LIST = 32
+
+
+_TEXTS = {
+    Status.BAD_CONF_STATE, Status.NOT_A_CONFIGURATION, Status.NO_VOTER, Status.UNKNOWN_FORM, Status.BAD_PRINTED, Status.BAD_JSON, Status.BAD_CHANGE_LIST,
+}
+# What the number of a status is counted of.
+_COUNTED = {
+    "id ": {Status.REPEATED_ID, Status.NEXT_NOT_OUTGOING, Status.NEXT_AND_INCOMING, Status.LEARNER_AND_VOTER},
+    "line ": {Status.BAD_LINE},
+    "step ": {
+        Status.ALREADY_JOINT, Status.ZERO_VOTER_JOINT, Status.NOT_JOINT, Status.SIMPLE_IN_JOINT, Status.REMOVED_ALL_VOTERS, Status.MORE_THAN_ONE_VOTER,
+    },
+    "change ": {Status.BAD_CHANGE},
+}
+
+
 class Refused(Exception):
-    """A call was refused: the `status` of confscript.h, and its `number`."""
+    """A call was refused: its `status`, and the `number` that confscript.h gives with it.
+
+    The text names the id, text, line, step or change that the number denotes. The status is a Status, or an int that this
+    version of the package has no name for.
+    """
 
     def __init__(self, status: int, number: int) -> None:
         # An exception is copied and pickled by a call with the arguments that are kept here.
         super().__init__(status, number)
-        self.status, self.number = status, number
+        self.status = Status(status) if status in Status.__members__.values() else status
+        self.number = number
 
     def __str__(self) -> str:
         text = _text_of(self.status)
-        return f"{text} ({self.number})" if self.number else text
+        if not self.number:
+            return text
+        if self.status in _TEXTS:
+            return f"{text} ({'the configuration' if self.number == 1 else 'the target'})"
+        of = "".join(what for what, statuses in _COUNTED.items() if self.status in statuses)
+        return f"{text} ({of}{self.number})"
 
 
 class Strategy(IntEnum):
@@ -100,6 +163,69 @@ class StepKind(IntEnum):
     EXPLICIT = 2
     SIMPLE = 3
     LEAVE_JOINT = 4
+
+
+class ConfChangeType(IntEnum):
+    """What a change of a proposal does to its id, with the names and the numbers of raftpb."""
+
+    ConfChangeAddNode = 0
+    ConfChangeRemoveNode = 1
+    ConfChangeUpdateNode = 2
+    ConfChangeAddLearnerNode = 3
+
+
+class ConfChangeTransition(IntEnum):
+    """How the changes of a proposal are made, with the names and the numbers of raftpb.
+
+    With Auto, no change leaves a joint configuration, one is a simple change, and more enter a joint configuration that
+    raft leaves by itself. With JointImplicit they always enter one, and with JointExplicit another proposal has to leave it.
+    """
+
+    ConfChangeTransitionAuto = 0
+    ConfChangeTransitionJointImplicit = 1
+    ConfChangeTransitionJointExplicit = 2
+
+
+class ConfChangeSingle(NamedTuple):
+    """A change of a proposal."""
+
+    type: ConfChangeType
+    node_id: int
+
+
+class ConfChangeV2(NamedTuple):
+    """A proposal, with the names of raftpb."""
+
+    transition: ConfChangeTransition
+    changes: Tuple[ConfChangeSingle, ...] = ()
+
+
+class Stage(NamedTuple):
+    """A proposal of a plan, and the configuration that it leads to.
+
+    Propose `conf_change` once the stage before it is applied and its members have caught up. A joint configuration with
+    auto_leave is left by raft itself: the stage that leaves it is not proposed, but waited for. `conf_state` is the
+    configuration once it is applied; its `fresh` members have to catch up.
+    """
+
+    conf_change: ConfChangeV2
+    conf_state: Configuration
+    # How many ids may be down there, whichever they are.
+    may_be_down: Optional[int]
+    # How many until the members have caught up; None if nothing commits until then.
+    until_then: Optional[int]
+    # How many besides those that are down already, until the members have caught up; None also if none are.
+    may_be_down_besides: Optional[int]
+
+
+class Plan(NamedTuple):
+    """A plan as proposals, one after another; none if there is nothing to do.
+
+    It stalls if nothing commits in a configuration on the way, the first one among them, with the ids that are down.
+    """
+
+    stages: Tuple[Stage, ...]
+    stalls: bool
 
 
 class _Answer(ctypes.Structure):
@@ -175,7 +301,7 @@ def _numbers(numbers: Iterable[SupportsIndex]) -> Tuple["ctypes.Array[ctypes.c_u
 def _number(answer: _Answer) -> int:
     number: int = answer.number
     if answer.status != DONE:
-        raise MemoryError() if answer.status == NO_MEMORY else Refused(answer.status, number)
+        raise MemoryError() if answer.status == Status.NO_MEMORY else Refused(answer.status, number)
     return number
 
 
@@ -190,20 +316,19 @@ def _written(call: Callable[..., _Answer], *arguments: Any) -> str:
         room = answer.number
 
 
-def _configured(call: Callable[..., _Answer], configuration: Configuration, *arguments: Any) -> Configuration:
-    """The configuration that a call writes. If the buffer is too small, the call is made again with a larger one."""
+def _configured(call: Callable[..., _Answer], configuration: Configuration, changes: int, *arguments: Any) -> Configuration:
+    """The configuration that a call writes, for this number of changes.
+
+    The buffer has the length of the macro CONFSCRIPT_STEP_ROOM of confscript.h.
+    """
     parts = [[*part] for part in (configuration.voters, configuration.voters_outgoing, configuration.learners, configuration.learners_next)]
-    numbers = _numbers([bool(configuration.auto_leave), *map(len, parts), 0, *(id for part in parts for id in part)])
-    room = 64
-    while True:
-        out = (ctypes.c_uint64 * room)()
-        answer = call(*numbers, *arguments, out, room)
-        if answer.status != TOO_SMALL:
-            break
-        room = answer.number
-    auto_leave, *rest = out[: _number(answer)]
-    ids = iter(rest[5:])
-    voters, outgoing, learners, learners_next, fresh = (tuple(next(ids) for _ in range(count)) for count in rest[:5])
+    ids = [id for part in parts for id in part]
+    room = 6 + 2 * (len(ids) + changes)
+    out = (ctypes.c_uint64 * room)()
+    length = _number(call(*_numbers([bool(configuration.auto_leave), *map(len, parts), 0, *ids]), *arguments, out, room))
+    auto_leave, *rest = out[:length]
+    written = iter(rest[5:])
+    voters, outgoing, learners, learners_next, fresh = (tuple(next(written) for _ in range(count)) for count in rest[:5])
     return Configuration(voters, outgoing, learners, learners_next, bool(auto_leave), fresh)
 
 
@@ -220,6 +345,45 @@ def plan(
     `# stalls with 4 5 down`. Each line of JSON is an object, what to propose to etcd's raft among it.
     """
     return _written(_library.confscript_plan, *_bytes(now), *_bytes(target), _uint(strategy, 32), _uint(output, 32), *_numbers(down))
+
+
+def stages(configuration: Configuration, target: Configuration, strategy: Strategy = Strategy.SHORTEST, *, down: Iterable[int] = ()) -> Plan:
+    """Returns the plan from a configuration to a target as the proposals that carry it out.
+
+    A simple step of several changes is as many stages of one change each, since raft would take them through a joint
+    configuration. If one of the two is not valid, the status is NOT_A_CONFIGURATION, and `restore` says why.
+    """
+    lines = plan(_line(configuration), _line(target), strategy, output=Output.JSON, down=down).splitlines()
+    objects = [json.loads(line) for line in lines]
+    return Plan(tuple(_stage(each) for each in objects if each["steps"]), objects[-1].get("stalls", False))
+
+
+def _line(configuration: Configuration) -> str:
+    """The ConfState line of a configuration."""
+    lists = (configuration.voters, configuration.voters_outgoing, configuration.learners, configuration.learners_next)
+    ids = [" ".join(str(_uint(id)) for id in each) for each in lists]
+    return "Voters:[{}] VotersOutgoing:[{}] Learners:[{}] LearnersNext:[{}] AutoLeave:{}".format(*ids, "true" if configuration.auto_leave else "false")
+
+
+def _stage(each: Any) -> Stage:
+    """The stage of an object of the library's JSON."""
+    change, state = each["conf_change"], each["conf_state"]
+    return Stage(
+        ConfChangeV2(
+            ConfChangeTransition[change["transition"]],
+            tuple(ConfChangeSingle(ConfChangeType[single["type"]], single["node_id"]) for single in change["changes"]),
+        ),
+        Configuration(fresh=tuple(each["catch_up"]), **{name: tuple(it) if isinstance(it, list) else it for name, it in state.items()}),
+        each["may_be_down"],
+        each["until_then"],
+        each.get("may_be_down_besides"),
+    )
+
+
+def apply_conf_change(configuration: Configuration, change: ConfChangeV2) -> Configuration:
+    """Returns the configuration after a proposal, as raft applies it."""
+    kind = StepKind(ConfChangeTransition(change.transition))
+    return step(configuration, kind, [(ChangeKind(single.type), single.node_id) for single in change.changes])
 
 
 def apply(state: Text, steps: Text) -> str:
@@ -255,7 +419,7 @@ def _ballots(voters: Iterable[int], votes: Mapping[int, bool]) -> Tuple[bytes, i
 def vote(incoming: Iterable[int], outgoing: Iterable[int], votes: Mapping[int, bool]) -> Vote:
     """Returns the result of a vote by a voter set, or by a joint pair; `votes` maps each id that voted to a bool.
 
-    A voter that is named twice counts once.
+    It is won if there are no voters. A voter that is named twice counts once.
     """
     return Vote(_number(_library.confscript_vote(*_ballots(incoming, votes), *_ballots(outgoing, votes))))
 
@@ -265,21 +429,21 @@ def restore(configuration: Configuration) -> Configuration:
 
     So a server restores it when it restarts (etcd's confchange.Restore).
     """
-    return _configured(_library.confscript_restore, configuration)
+    return _configured(_library.confscript_restore, configuration, 0)
 
 
 def step(configuration: Configuration, kind: StepKind, changes: Iterable[Tuple[ChangeKind, int]] = ()) -> Configuration:
     """Returns the configuration after one step; each of `changes` is a pair of a ChangeKind and an id."""
     checked = [_Change(_uint(change, 32), _uint(id)) for change, id in changes]
     array = (_Change * max(len(checked), 1))(*checked)
-    return _configured(_library.confscript_step, configuration, _uint(kind, 32), array, len(checked))
+    return _configured(_library.confscript_step, configuration, len(checked), _uint(kind, 32), array, len(checked))
 
 
 def may_be_down(incoming: Iterable[int], outgoing: Iterable[int], uncounted: Iterable[int] = ()) -> Optional[int]:
     """Returns how many ids may be down, whichever they are, while the other voters are a quorum.
 
     The uncounted ids do not count for the quorum. A voter that is named twice counts once. Returns None if the voters
-    are no quorum even with none down.
+    are no quorum even with none down, as if there are none.
     """
     answer = _library.confscript_may_be_down(*_numbers(incoming), *_numbers(outgoing), *_numbers(uncounted))
-    return None if answer.status == NO_QUORUM else _number(answer)
+    return None if answer.status == Status.NO_QUORUM else _number(answer)

@@ -39,7 +39,7 @@ class Calls(unittest.TestCase):
         ]:
             self.assertEqual(confscript.plan("voters=(1)", to, output=output, down=down), text)
 
-    def test_stages(self):
+    def test_json(self):
         lines = confscript.plan('{"voters":[18446744073709551615]}', "v2", output=confscript.Output.JSON).splitlines()
         self.assertEqual([json.loads(line)["conf_state"]["voters"] for line in lines], [[2, 2**64 - 1]])
 
@@ -49,15 +49,15 @@ class Calls(unittest.TestCase):
 
     def test_refusals(self):
         for call, status, number, text in [
-            (lambda: confscript.plan("Voters:[1]", TARGET), 3, 1, "not a ConfState line (1)"),
-            (lambda: confscript.plan(NOW, "Voters:[1]"), 3, 2, "not a ConfState line (2)"),
-            (lambda: confscript.plan("", TARGET), 29, 1, "no form of a configuration (1)"),
-            (lambda: confscript.plan(NOW, "voters=(1"), 30, 2, "not a printed configuration (2)"),
-            (lambda: confscript.plan("{}}", TARGET), 31, 1, "not the JSON of a configuration (1)"),
-            (lambda: confscript.plan(NOW, "v1 x"), 32, 2, "not a list of changes (2)"),
+            (lambda: confscript.plan("Voters:[1]", TARGET), 3, 1, "not a ConfState line (the configuration)"),
+            (lambda: confscript.plan(NOW, "Voters:[1]"), 3, 2, "not a ConfState line (the target)"),
+            (lambda: confscript.plan("", TARGET), 29, 1, "no form of a configuration (the configuration)"),
+            (lambda: confscript.plan(NOW, "voters=(1"), 30, 2, "not a printed configuration (the target)"),
+            (lambda: confscript.plan("{}}", TARGET), 31, 1, "not the JSON of a configuration (the configuration)"),
+            (lambda: confscript.plan(NOW, "v1 x"), 32, 2, "not a list of changes (the target)"),
             (lambda: confscript.plan(NOW, "v4", down=[0]), 15, 0, "the id 0"),
             (lambda: confscript.plan(NOW, "v4", output=3), 28, 0, "unknown output"),
-            (lambda: confscript.apply(NOW, "leave-joint"), 11, 1, "can't leave a non-joint config (1)"),
+            (lambda: confscript.apply(NOW, "leave-joint"), 11, 1, "can't leave a non-joint config (step 1)"),
             (lambda: confscript.check(NOW.replace("1 2", "0 2")), 15, 0, "the id 0"),
             (lambda: confscript.plan(NOW, TARGET, 3), 24, 0, "unknown strategy"),
             (lambda: confscript.plan(NOW, NOW.replace("Outgoing:[]", "Outgoing:[4]"), confscript.Strategy.ONE_AT_A_TIME), 25, 0, "the target is joint"),
@@ -67,11 +67,89 @@ class Calls(unittest.TestCase):
             self.assertEqual((raised.exception.status, raised.exception.number, str(raised.exception)), (status, number, text))
         confscript.check(NOW)
 
+    def test_each_status_has_a_name(self):
+        for status in range(2, 100):
+            is_known = confscript._text_of(status) != "unknown status"
+            self.assertEqual(is_known, status in [*map(int, confscript.Status)], status)
+            self.assertIs(isinstance(confscript.Refused(status, 0).status, confscript.Status), is_known)
+        with self.assertRaises(confscript.Refused) as raised:
+            confscript.step(confscript.Configuration([1]), confscript.StepKind.LEAVE_JOINT)
+        self.assertIs(raised.exception.status, confscript.Status.NOT_JOINT)
+        self.assertEqual(raised.exception.status, 11)
+
+    def test_texts_of_refusals(self):
+        for status, number, text in [
+            (6, 0, "no incoming voter"),
+            (6, 2, "no incoming voter (the target)"),
+            (7, 3, "not a step (line 3)"),
+            (11, 0, "can't leave a non-joint config"),
+            (17, 2**64 - 1, f"a next learner is an incoming voter (id {2**64 - 1})"),
+            (27, 2, "unknown kind of change (change 2)"),
+            (1000, 7, "unknown status (7)"),
+        ]:
+            self.assertEqual(str(confscript.Refused(status, number)), text)
+
+    def test_stages(self):
+        from confscript import ConfChangeSingle, ConfChangeTransition, ConfChangeType, ConfChangeV2, Configuration, Plan, Stage, Strategy
+        five, last = (1, 2, 3, 4, 5), (3, 4, 5, 6, 7)
+        auto, add_learner, add, remove = (
+            ConfChangeTransition.ConfChangeTransitionAuto, ConfChangeType.ConfChangeAddLearnerNode, ConfChangeType.ConfChangeAddNode, ConfChangeType.ConfChangeRemoveNode,
+        )
+        joint = ConfChangeV2(ConfChangeTransition.ConfChangeTransitionJointExplicit, tuple(ConfChangeSingle(*it) for it in [(remove, 1), (remove, 2), (add, 6), (add, 7)]))
+        expected = (
+            Stage(ConfChangeV2(auto, (ConfChangeSingle(add_learner, 6),)), Configuration(five, learners=(6,), fresh=(6,)), 2, 2, None),
+            Stage(ConfChangeV2(auto, (ConfChangeSingle(add_learner, 7),)), Configuration(five, learners=(6, 7), fresh=(7,)), 2, 2, None),
+            Stage(joint, Configuration(last, five), 2, 2, None),
+            Stage(ConfChangeV2(auto), Configuration(last), 2, 2, None),
+        )
+        self.assertEqual(confscript.stages(Configuration([5, 4, 3, 2, 1]), Configuration(last), Strategy.LEARNERS_FIRST), Plan(expected, False))
+
+    def test_stages_lead(self):
+        from confscript import Configuration, Strategy
+        most = 2**64 - 1
+        states = [
+            Configuration((most,)),
+            Configuration((1, most - 2, most - 1), (), (most,)),
+            Configuration((2, 2**53 + 1), (1, 2, most), (5,), (most,)),
+            Configuration((3, 4), (1, 2), auto_leave=True),
+        ]
+        for now in states:
+            for target in states:
+                for strategy in Strategy:
+                    if strategy == Strategy.ONE_AT_A_TIME and target.voters_outgoing and now != target:
+                        with self.assertRaises(confscript.Refused) as raised:
+                            confscript.stages(now, target, strategy)
+                        self.assertIs(raised.exception.status, confscript.Status.JOINT_TARGET)
+                        continue
+                    state = now
+                    for stage in confscript.stages(now, target, strategy).stages:
+                        state = confscript.apply_conf_change(state, stage.conf_change)
+                        self.assertEqual(state, stage.conf_state)
+                    self.assertEqual(state._replace(fresh=()), target)
+
+    def test_stages_with_ids_down(self):
+        from confscript import Configuration
+        three = Configuration([1, 2, 3])
+        self.assertEqual(confscript.stages(three, three, down=[1, 2]), ((), True))
+        plan = confscript.stages(three, Configuration([2, 3, 4]), down=[1])
+        self.assertEqual((len(plan.stages), plan.stages[0].may_be_down, plan.stages[0].may_be_down_besides, plan.stalls), (2, 1, 0, False))
+        stage = confscript.stages(Configuration([1]), Configuration([1, 2])).stages[0]
+        self.assertEqual((stage.may_be_down, stage.until_then, stage.conf_state.fresh), (0, None, (2,)))
+        for call, status, number in [
+            (lambda: confscript.stages(three, three, down=[0]), 15, 0),
+            (lambda: confscript.stages(Configuration(), three), 6, 1),
+            (lambda: confscript.stages(three, Configuration([1], learners=[1])), 5, 2),
+        ]:
+            with self.assertRaises(confscript.Refused) as raised:
+                call()
+            self.assertEqual((raised.exception.status, raised.exception.number), (status, number))
+        self.assertRaises(OverflowError, lambda: confscript.stages(three, Configuration([-1])))
+
     def test_a_refusal_is_copied_and_pickled(self):
         refused = confscript.Refused(11, 1)
         for made in [copy.copy(refused), copy.deepcopy(refused), *(pickle.loads(pickle.dumps(refused, protocol)) for protocol in range(pickle.HIGHEST_PROTOCOL + 1))]:
             self.assertIs(type(made), confscript.Refused)
-            self.assertEqual((made.status, made.number, str(made)), (11, 1, "can't leave a non-joint config (1)"))
+            self.assertEqual((made.status, made.number, str(made)), (11, 1, "can't leave a non-joint config (step 1)"))
         # A pool waits forever for a result that cannot be pickled, so the wait has a limit.
         with multiprocessing.Pool(1) as pool:
             with self.assertRaises(confscript.Refused) as raised:
@@ -122,7 +200,7 @@ class Calls(unittest.TestCase):
         self.assertEqual(confscript.restore(confscript.Configuration([3, 1])), confscript.Configuration((1, 3), fresh=(1, 3)))
         with self.assertRaises(confscript.Refused) as raised:
             confscript.restore(confscript.Configuration([1, 2], learners=[2]))
-        self.assertEqual((raised.exception.status, str(raised.exception)), (18, "a learner is a voter (2)"))
+        self.assertEqual((raised.exception.status, str(raised.exception)), (18, "a learner is a voter (id 2)"))
 
     def test_numbers_out_of_range(self):
         from confscript import Configuration

@@ -4,7 +4,10 @@
 //! A plan leads from a configuration to a target, both of which are texts in one of the forms of `confscript.h`, such as
 //! `voters=(1 2 3)`; the target may also be a list of changes, such as `r1 v4`. [`apply`] and [`check`] take a ConfState
 //! line. A program that embeds the library keeps a [`Configuration`], makes its steps by [`step`], and counts by
-//! [`committed`] and [`vote`], without texts.
+//! [`committed`] and [`vote`], without texts; [`stages`] gives it a plan as proposals to a raft library.
+//!
+//! Any thread may call, also at the same time as others: a call keeps no state, and only reads its arguments but for
+//! those of [`committed`].
 //!
 //! # Features
 //!
@@ -21,8 +24,13 @@ extern crate alloc;
 extern crate std;
 
 use alloc::{string::String, vec, vec::Vec};
-use core::fmt;
 use core::sync::atomic::{AtomicBool, Ordering};
+
+mod stages;
+mod status;
+
+pub use stages::{apply_conf_change, stages, ConfChangeSingle, ConfChangeTransition, ConfChangeType, ConfChangeV2, Plan, Stage};
+pub use status::{Error, Status};
 
 // The compiled code, which has the calls as global names.
 #[cfg(all(not(feature = "system"), target_os = "linux", target_arch = "x86_64"))]
@@ -71,85 +79,6 @@ fn check_library() {
 
 const DONE: u32 = 0;
 const TOO_SMALL: u32 = 1;
-
-/// Why a call is refused: the statuses of `confscript.h`, with their numbers if they have one.
-#[derive(Clone, Copy, Debug, PartialEq, Eq)]
-pub enum Error {
-    /// Memory ran out.
-    NoMemory,
-    /// A text is not a ConfState line. The number is 1 for the first text of the call, and 2 for the second.
-    BadConfState(u64),
-    /// A text is in no form of a configuration, or cannot be read in its form: the status that says which, and the number
-    /// as for `BadConfState`.
-    BadText(u32, u64),
-    /// A list names an id twice: the id, the first such one of the first such list.
-    RepeatedId(u64),
-    /// A text names no configuration that the call accepts. The number is as for `BadConfState`.
-    NotAConfiguration(u64),
-    /// A configuration has no incoming voter. The number is as for `BadConfState`, or 0 for a [`Configuration`].
-    NoVoter(u64),
-    /// A line of a plan is not a step: its number, counted from 1.
-    BadLine(u64),
-    /// A step is refused: the status that says why, and the number of the step of a plan, counted from 1, else 0.
-    Step(u32, u64),
-    /// The configuration breaks an invariant: the status that says which, and the least id that breaks it, or 0. For a
-    /// plan, an id that is down is 0.
-    Broken(u32, u64),
-    /// The voters are no quorum even with none down.
-    NoQuorum,
-    /// No plan that changes one member at a time leads into a joint configuration.
-    JointTarget,
-}
-
-impl Error {
-    fn of(answer: &Answer) -> Error {
-        match (answer.status, answer.number) {
-            (2, _) => Error::NoMemory,
-            (3, number) => Error::BadConfState(number),
-            (4, number) => Error::RepeatedId(number),
-            (5, number) => Error::NotAConfiguration(number),
-            (6, number) => Error::NoVoter(number),
-            (7, number) => Error::BadLine(number),
-            (23, _) => Error::NoQuorum,
-            (25, _) => Error::JointTarget,
-            (status @ 9..=14, number) => Error::Step(status, number),
-            (status @ 29..=32, number) => Error::BadText(status, number),
-            (status, number) => Error::Broken(status, number),
-        }
-    }
-
-    /// The status of `confscript.h`.
-    pub fn status(&self) -> u32 {
-        match *self {
-            Error::NoMemory => 2,
-            Error::BadConfState(_) => 3,
-            Error::RepeatedId(_) => 4,
-            Error::NotAConfiguration(_) => 5,
-            Error::NoVoter(_) => 6,
-            Error::BadLine(_) => 7,
-            Error::BadText(status, _) | Error::Step(status, _) | Error::Broken(status, _) => status,
-            Error::NoQuorum => 23,
-            Error::JointTarget => 25,
-        }
-    }
-}
-
-impl fmt::Display for Error {
-    fn fmt(&self, out: &mut fmt::Formatter<'_>) -> fmt::Result {
-        // SAFETY: the pointer is a slice's, and the count its length.
-        let text = written(|room| unsafe { confscript_status_text(self.status(), room.as_mut_ptr(), room.len()) });
-        out.write_str(&text.unwrap_or_default())?;
-        match self {
-            Error::RepeatedId(0) | Error::NoVoter(0) | Error::Step(_, 0) | Error::Broken(_, 0) => Ok(()),
-            Error::BadConfState(number) | Error::BadText(_, number) | Error::NotAConfiguration(number) | Error::NoVoter(number) => write!(out, " ({number})"),
-            Error::RepeatedId(number) | Error::BadLine(number) | Error::Step(_, number) | Error::Broken(_, number) => write!(out, " ({number})"),
-            _ => Ok(()),
-        }
-    }
-}
-
-#[cfg(feature = "std")]
-impl std::error::Error for Error {}
 
 /// How a plan goes from one configuration to another.
 #[derive(Clone, Copy, Debug, Default, PartialEq, Eq)]
@@ -305,19 +234,15 @@ fn written(call: impl Fn(&mut [u8]) -> Answer) -> Result<String, Error> {
     }
 }
 
-// The configuration that a call writes. If the buffer is too small, the call is made again with a larger one.
-fn configured(call: impl Fn(&mut [u64]) -> Answer) -> Result<Configuration, Error> {
+// The configuration that a call writes, from a configuration and this number of changes. The buffer has the length of the
+// macro CONFSCRIPT_STEP_ROOM of confscript.h.
+fn configured(from: &Configuration, changes: usize, call: impl Fn(&[u64], &mut [u64]) -> Answer) -> Result<Configuration, Error> {
     check_library();
-    let mut out = vec![0; 64];
-    loop {
-        let answer = call(&mut out);
-        if answer.status == TOO_SMALL {
-            out = vec![0; answer.number as usize];
-            continue;
-        }
-        out.truncate(number(answer)? as usize);
-        return Ok(Configuration::of(&out));
-    }
+    let numbers = from.numbers();
+    let mut out = vec![0; 6 + 2 * (numbers.len() - 6 + changes)];
+    let length = number(call(&numbers, &mut out))?;
+    out.truncate(length as usize);
+    Ok(Configuration::of(&out))
 }
 
 /// The steps of the shortest plan from a configuration to a target.
@@ -350,14 +275,16 @@ pub fn check(state: &str) -> Result<(), Error> {
 }
 
 /// The committed index of a voter set, or of a joint pair, from the index that each voter has acknowledged, 0 if it is
-/// unknown. It is `u64::MAX` if there are no voters. The indexes are left in another order.
+/// unknown. It is `u64::MAX` if there are no voters. Each index counts as that of another voter. They are left in another
+/// order.
 pub fn committed(incoming: &mut [u64], outgoing: &mut [u64]) -> u64 {
     check_library();
     // SAFETY: as in `plan_by`.
     unsafe { confscript_committed(incoming.as_mut_ptr(), incoming.len(), outgoing.as_mut_ptr(), outgoing.len()) }
 }
 
-/// The result of a vote by a voter set, or by a joint pair, from the vote of each voter, `None` if it has not voted.
+/// The result of a vote by a voter set, or by a joint pair, from the vote of each voter, `None` if it has not voted. The
+/// vote is won if there are no voters. Each vote counts as that of another voter.
 pub fn vote(incoming: &[Option<bool>], outgoing: &[Option<bool>]) -> VoteResult {
     check_library();
     let [incoming, outgoing] = [incoming, outgoing].map(|votes| votes.iter().map(|vote| vote.map_or(2, u8::from)).collect::<Vec<_>>());
@@ -372,22 +299,21 @@ pub fn vote(incoming: &[Option<bool>], outgoing: &[Option<bool>]) -> VoteResult 
 /// Checks a saved configuration, and returns it with its ids in ascending order and all members beginning afresh, as
 /// when a server restarts (etcd's `confchange.Restore`).
 pub fn restore(configuration: &Configuration) -> Result<Configuration, Error> {
-    let numbers = configuration.numbers();
     // SAFETY: as in `vote`.
-    configured(|out| unsafe { confscript_restore(numbers.as_ptr(), numbers.len(), out.as_mut_ptr(), out.len()) })
+    configured(configuration, 0, |numbers, out| unsafe { confscript_restore(numbers.as_ptr(), numbers.len(), out.as_mut_ptr(), out.len()) })
 }
 
 /// The configuration after one step.
 pub fn step(configuration: &Configuration, kind: StepKind, changes: &[Change]) -> Result<Configuration, Error> {
-    let numbers = configuration.numbers();
     // SAFETY: as in `vote`; a `Change` has the layout of a `struct confscript_change`.
-    configured(|out| unsafe {
+    configured(configuration, changes.len(), |numbers, out| unsafe {
         confscript_step(numbers.as_ptr(), numbers.len(), kind as u32, changes.as_ptr(), changes.len(), out.as_mut_ptr(), out.len())
     })
 }
 
 /// How many ids may be down, whichever they are, while the other voters are a quorum, for which the uncounted ids do
-/// not count. The error is `Error::NoQuorum` if the voters are no quorum even with none down.
+/// not count. A voter that is listed twice counts once. The status is `NoQuorum` if the voters are no quorum even with none
+/// down, as if there are none.
 pub fn may_be_down(incoming: &[u64], outgoing: &[u64], uncounted: &[u64]) -> Result<u64, Error> {
     check_library();
     // SAFETY: as in `plan_by`.

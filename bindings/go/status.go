@@ -1,0 +1,102 @@
+//go:build cgo
+
+package confscript
+
+/*
+#include "confscript.h"
+*/
+import "C"
+
+import "fmt"
+
+// Status is why a call was refused, with the number of confscript.h. It is what a Refused wraps, so
+// errors.Is(err, confscript.ErrNotJoint) reports whether that is why.
+type Status uint32
+
+// The statuses of refusals. For ErrNextNotOutgoing, ErrNextAndIncoming, ErrLearnerAndVoter and ErrRepeatedID, the number of
+// the Refused is the id.
+const (
+	ErrNoMemory             Status = C.CONFSCRIPT_NO_MEMORY
+	ErrBadConfState         Status = C.CONFSCRIPT_BAD_CONF_STATE
+	ErrRepeatedID           Status = C.CONFSCRIPT_REPEATED_ID
+	ErrNotAConfiguration    Status = C.CONFSCRIPT_NOT_A_CONFIGURATION
+	ErrNoVoter              Status = C.CONFSCRIPT_NO_VOTER
+	ErrBadLine              Status = C.CONFSCRIPT_BAD_LINE
+	ErrAlreadyJoint         Status = C.CONFSCRIPT_ALREADY_JOINT
+	ErrZeroVoterJoint       Status = C.CONFSCRIPT_ZERO_VOTER_JOINT
+	ErrNotJoint             Status = C.CONFSCRIPT_NOT_JOINT
+	ErrSimpleInJoint        Status = C.CONFSCRIPT_SIMPLE_IN_JOINT
+	ErrRemovedAllVoters     Status = C.CONFSCRIPT_REMOVED_ALL_VOTERS
+	ErrMoreThanOneVoter     Status = C.CONFSCRIPT_MORE_THAN_ONE_VOTER
+	ErrZeroID               Status = C.CONFSCRIPT_ZERO_ID
+	ErrNextNotOutgoing      Status = C.CONFSCRIPT_NEXT_NOT_OUTGOING
+	ErrNextAndIncoming      Status = C.CONFSCRIPT_NEXT_AND_INCOMING
+	ErrLearnerAndVoter      Status = C.CONFSCRIPT_LEARNER_AND_VOTER
+	ErrNotJointButAutoLeave Status = C.CONFSCRIPT_NOT_JOINT_BUT_AUTO_LEAVE
+	ErrDifferentLengths     Status = C.CONFSCRIPT_DIFFERENT_LENGTHS
+	ErrBadVote              Status = C.CONFSCRIPT_BAD_VOTE
+	ErrNoQuorum             Status = C.CONFSCRIPT_NO_QUORUM
+	ErrBadStrategy          Status = C.CONFSCRIPT_BAD_STRATEGY
+	ErrJointTarget          Status = C.CONFSCRIPT_JOINT_TARGET
+	ErrBadStep              Status = C.CONFSCRIPT_BAD_STEP
+	ErrBadChange            Status = C.CONFSCRIPT_BAD_CHANGE
+	ErrBadOutput            Status = C.CONFSCRIPT_BAD_OUTPUT
+	ErrUnknownForm          Status = C.CONFSCRIPT_UNKNOWN_FORM
+	ErrBadPrinted           Status = C.CONFSCRIPT_BAD_PRINTED
+	ErrBadJSON              Status = C.CONFSCRIPT_BAD_JSON
+	ErrBadChangeList        Status = C.CONFSCRIPT_BAD_CHANGE_LIST
+)
+
+// Error returns what the status means, in words.
+func (status Status) Error() string {
+	text, err := written(func(out *C.uint8_t, room C.size_t) C.struct_confscript_answer {
+		return C.confscript_status_text(C.uint32_t(status), out, room)
+	})
+	if err != nil {
+		return fmt.Sprintf("status %d", uint32(status))
+	}
+	return text
+}
+
+// Refused is the error of a call that was refused: the status, and its number in confscript.h, such as the id that is in
+// the wrong list.
+type Refused struct {
+	Status Status
+	Number uint64
+}
+
+// Unwrap returns the status, for errors.Is.
+func (refused *Refused) Unwrap() error { return refused.Status }
+
+// Error returns what the status means, in words, and of which id, text, line, step or change it is reported.
+func (refused *Refused) Error() string {
+	text := refused.Status.Error()
+	if of := refused.of(); of != "" {
+		text += " (" + of + ")"
+	}
+	return text
+}
+
+// of returns what the number names; it is empty if the status has none.
+func (refused *Refused) of() string {
+	if refused.Number == 0 {
+		return ""
+	}
+	switch refused.Status {
+	case ErrBadConfState, ErrNotAConfiguration, ErrNoVoter, ErrUnknownForm, ErrBadPrinted, ErrBadJSON, ErrBadChangeList:
+		if refused.Number == 1 {
+			return "the configuration"
+		}
+		return "the target"
+	case ErrRepeatedID, ErrNextNotOutgoing, ErrNextAndIncoming, ErrLearnerAndVoter:
+		return fmt.Sprint("id ", refused.Number)
+	case ErrBadLine:
+		return fmt.Sprint("line ", refused.Number)
+	case ErrAlreadyJoint, ErrZeroVoterJoint, ErrNotJoint, ErrSimpleInJoint, ErrRemovedAllVoters, ErrMoreThanOneVoter:
+		return fmt.Sprint("step ", refused.Number)
+	case ErrBadChange:
+		return fmt.Sprint("change ", refused.Number)
+	default:
+		return fmt.Sprint(refused.Number)
+	}
+}
