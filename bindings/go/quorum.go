@@ -6,11 +6,16 @@ package confscript
 #include "confscript.h"
 
 // The values of a few voters, the incoming ones first. They are passed by value, so that Go keeps them on its stack.
-struct few_indexes { uint64_t each[16]; };
+struct few_indexes { uint64_t each[8]; };
+struct more_indexes { uint64_t each[16]; };
 struct few_ballots { uint8_t each[16]; };
 
 static inline uint64_t committed_of_few(struct few_indexes few, size_t incoming, size_t outgoing) {
 	return confscript_committed(few.each, incoming, few.each + incoming, outgoing);
+}
+
+static inline uint64_t committed_of_more(struct more_indexes more, size_t incoming, size_t outgoing) {
+	return confscript_committed(more.each, incoming, more.each + incoming, outgoing);
 }
 
 static inline struct confscript_answer vote_of_few(struct few_ballots few, size_t incoming, size_t outgoing) {
@@ -20,9 +25,6 @@ static inline struct confscript_answer vote_of_few(struct few_ballots few, size_
 import "C"
 
 import "unsafe"
-
-// fewValues is how many values are passed without an allocation.
-const fewValues = 16
 
 // VoteResult is the result of a vote.
 type VoteResult uint64
@@ -44,18 +46,31 @@ const (
 	NotVoted Ballot = C.CONFSCRIPT_NOT_VOTED
 )
 
+// FewVoters is how many voters CommittedOfFew takes, those of both sets together.
+const FewVoters = len(C.struct_few_indexes{}.each)
+
+// CommittedOfFew is CommittedIndex for a few voters, in the least time: the array has the indexes of the incoming voters and
+// then those of the outgoing ones, as many as the numbers say.
+func CommittedOfFew(indexes *[FewVoters]uint64, incoming, outgoing int) uint64 {
+	// There are as many, or else this panics.
+	_ = indexes[incoming:][:outgoing]
+	return uint64(C.committed_of_few(*(*C.struct_few_indexes)(unsafe.Pointer(indexes)), C.size_t(incoming), C.size_t(outgoing)))
+}
+
 // CommittedIndex returns the committed index of a voter set, or of a joint pair, from the index that each voter has
 // acknowledged, 0 if none is known. It is 2^64-1 if there are no voters. Each index counts as that of another voter.
 func CommittedIndex(incoming, outgoing []uint64) uint64 {
-	if len(incoming)+len(outgoing) <= fewValues {
-		var few C.struct_few_indexes
-		for i, index := range incoming {
-			few.each[i] = C.uint64_t(index)
-		}
-		for i, index := range outgoing {
-			few.each[len(incoming)+i] = C.uint64_t(index)
-		}
-		return uint64(C.committed_of_few(few, C.size_t(len(incoming)), C.size_t(len(outgoing))))
+	count := len(incoming) + len(outgoing)
+	if count <= FewVoters {
+		var few [FewVoters]uint64
+		copy(few[copy(few[:], incoming):], outgoing)
+		return CommittedOfFew(&few, len(incoming), len(outgoing))
+	}
+	var more C.struct_more_indexes
+	if count <= len(more.each) {
+		all := (*[len(more.each)]uint64)(unsafe.Pointer(&more.each))
+		copy(all[copy(all[:], incoming):], outgoing)
+		return uint64(C.committed_of_more(more, C.size_t(len(incoming)), C.size_t(len(outgoing))))
 	}
 	// The library sorts in place.
 	in, out := append([]uint64(nil), incoming...), append([]uint64(nil), outgoing...)
@@ -65,8 +80,8 @@ func CommittedIndex(incoming, outgoing []uint64) uint64 {
 // TallyVotes returns the result of a vote by a voter set, or by a joint pair, from the ballot of each voter. It is VoteWon
 // if there are no voters. Each ballot counts as that of another voter. A value that is not a ballot counts as NotVoted.
 func TallyVotes(incoming, outgoing []Ballot) VoteResult {
-	if len(incoming)+len(outgoing) <= fewValues {
-		var few C.struct_few_ballots
+	var few C.struct_few_ballots
+	if len(incoming)+len(outgoing) <= len(few.each) {
 		for i, ballot := range incoming {
 			few.each[i] = cast(ballot)
 		}

@@ -25,6 +25,8 @@ func TestCommittedIndex(t *testing.T) {
 		{nil, []uint64{3}, 3},
 		{many, nil, 501},
 		{many[:17], many[:16], 993},
+		{many[:8], many[8:16], 989},
+		{many[:9], nil, 997},
 	} {
 		incoming := append([]uint64(nil), row.incoming...)
 		if index := CommittedIndex(row.incoming, row.outgoing); index != row.index {
@@ -62,6 +64,29 @@ func TestTallyVotes(t *testing.T) {
 		if result := TallyVotes(row.incoming, row.outgoing); result != row.result {
 			t.Errorf("TallyVotes of %d and %d ballots: %d, and not %d", len(row.incoming), len(row.outgoing), result, row.result)
 		}
+	}
+}
+
+func TestCommittedOfFew(t *testing.T) {
+	values := [FewVoters]uint64{9, 0, 7, 5, 8, 6, 4, 1}
+	for incoming := 0; incoming <= FewVoters; incoming++ {
+		for outgoing := 0; incoming+outgoing <= FewVoters; outgoing++ {
+			few := values
+			index := CommittedOfFew(&few, incoming, outgoing)
+			if want := CommittedIndex(values[:incoming], values[incoming:incoming+outgoing]); index != want || few != values {
+				t.Errorf("CommittedOfFew of %d and %d: %d, and not %d; %v", incoming, outgoing, index, want, few)
+			}
+		}
+	}
+	for _, counts := range [][2]int{{FewVoters, 1}, {-1, 2}, {2, -1}, {1 << 62, 1 << 62}} {
+		func() {
+			defer func() {
+				if recover() == nil {
+					t.Errorf("%v voters are no panic", counts)
+				}
+			}()
+			CommittedOfFew(&values, counts[0], counts[1])
+		}()
 	}
 }
 

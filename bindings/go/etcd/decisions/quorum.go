@@ -10,27 +10,43 @@ const fewVoters = 16
 
 // CommittedIndex returns the index that a majority of the set has acknowledged.
 func (c MajorityConfig) CommittedIndex(l AckedIndexer) Index {
-	return JointConfig{c}.CommittedIndex(l)
+	return committed(c, nil, l)
 }
 
 // CommittedIndex returns the index that majorities of both sets have acknowledged.
 func (c JointConfig) CommittedIndex(l AckedIndexer) Index {
-	var few [fewVoters]uint64
-	acked := appendAcked(few[:0], c[0], l)
-	acked = appendAcked(acked, c[1], l)
-	return Index(confscript.CommittedIndex(acked[:len(c[0])], acked[len(c[0]):]))
+	return committed(c[0], c[1], l)
 }
 
-// appendAcked appends the index that each voter has acknowledged, 0 if none is known.
-func appendAcked(acked []uint64, voters MajorityConfig, l AckedIndexer) []uint64 {
-	for id := range voters {
-		if index, found := l.AckedIndex(id); found {
-			acked = append(acked, uint64(index))
-		} else {
-			acked = append(acked, 0)
-		}
+func committed(incoming, outgoing MajorityConfig, l AckedIndexer) Index {
+	first, count := len(incoming), len(incoming)+len(outgoing)
+	if count <= confscript.FewVoters {
+		var few [confscript.FewVoters]uint64
+		incoming.collect(few[:first], l)
+		outgoing.collect(few[first:count], l)
+		return Index(confscript.CommittedOfFew(&few, first, count-first))
 	}
-	return acked
+	acked := make([]uint64, fewVoters)
+	if count > fewVoters {
+		acked = make([]uint64, count)
+	}
+	incoming.collect(acked[:first], l)
+	outgoing.collect(acked[first:count], l)
+	return Index(confscript.CommittedIndex(acked[:first], acked[first:count]))
+}
+
+// collect sets the elements of a list, which are 0, to the index that each voter has acknowledged, as far as one is known.
+func (c MajorityConfig) collect(acked []uint64, l AckedIndexer) {
+	if len(acked) == 0 {
+		return
+	}
+	i := 0
+	for id := range c {
+		if index, found := l.AckedIndex(id); found {
+			acked[i] = uint64(index)
+		}
+		i++
+	}
 }
 
 // VoteResult returns the result of a vote by the set.
