@@ -1,0 +1,117 @@
+package main
+
+import (
+	"bytes"
+	"encoding/json"
+	"io"
+	"os"
+
+	"go.etcd.io/etcd/raft"
+	pb "go.etcd.io/etcd/raft/raftpb"
+)
+
+// A journal is the disk of a server: a file with a record on each line. A record is written whole or not at all, so the
+// entries and the hard state of a Ready are saved as one, which raft leaves to the program. No record is ever dropped; a
+// program that runs for long writes a new journal now and then, which begins with the newest snapshot.
+type journal struct{ file *os.File }
+
+// A record is what a server saves at once. The parts are those of raft, in the form that they have on the wire.
+type record struct {
+	Received, Taken []byte   `json:",omitempty"` // a snapshot of the leader's, or of its own
+	Entries         [][]byte `json:",omitempty"`
+	HardState       []byte   `json:",omitempty"`
+}
+
+// openJournal opens the journal of this name, and returns what it has.
+func openJournal(name string) (*journal, *raft.MemoryStorage, error) {
+	file, err := os.OpenFile(name, os.O_RDWR|os.O_CREATE, 0o644)
+	if err != nil {
+		return nil, nil, err
+	}
+	text, err := io.ReadAll(file)
+	if err != nil {
+		return nil, nil, err
+	}
+	// What follows the last newline is a record whose writing was interrupted.
+	whole := bytes.LastIndexByte(text, '\n') + 1
+	if err := file.Truncate(int64(whole)); err != nil {
+		return nil, nil, err
+	}
+	if _, err := file.Seek(int64(whole), io.SeekStart); err != nil {
+		return nil, nil, err
+	}
+	storage := raft.NewMemoryStorage()
+	for _, line := range bytes.Split(bytes.TrimSuffix(text[:whole], []byte("\n")), []byte("\n")) {
+		if len(line) == 0 {
+			continue
+		}
+		var saved record
+		if err := json.Unmarshal(line, &saved); err != nil {
+			return nil, nil, err
+		}
+		if err := saved.load(storage); err != nil {
+			return nil, nil, err
+		}
+	}
+	return &journal{file}, storage, nil
+}
+
+// load puts a record into raft's storage.
+func (r record) load(storage *raft.MemoryStorage) error {
+	var snapshot pb.Snapshot
+	var state pb.HardState
+	entries := make([]pb.Entry, len(r.Entries))
+	for i, data := range r.Entries {
+		if err := entries[i].Unmarshal(data); err != nil {
+			return err
+		}
+	}
+	if r.Received != nil {
+		if err := snapshot.Unmarshal(r.Received); err != nil {
+			return err
+		}
+		if err := storage.ApplySnapshot(snapshot); err != nil {
+			return err
+		}
+	}
+	if err := storage.Append(entries); err != nil {
+		return err
+	}
+	if r.HardState != nil {
+		if err := state.Unmarshal(r.HardState); err != nil {
+			return err
+		}
+		if err := storage.SetHardState(state); err != nil {
+			return err
+		}
+	}
+	if r.Taken != nil {
+		if err := snapshot.Unmarshal(r.Taken); err != nil {
+			return err
+		}
+		_, err := storage.CreateSnapshot(snapshot.Metadata.Index, &snapshot.Metadata.ConfState, snapshot.Data)
+		return err
+	}
+	return nil
+}
+
+// write writes a record, and returns once it is on the disk.
+func (j *journal) write(r record) error {
+	line, err := json.Marshal(r)
+	if err != nil {
+		return err
+	}
+	if _, err := j.file.Write(append(line, '\n')); err != nil {
+		return err
+	}
+	return j.file.Sync()
+}
+
+// marshaled returns a part of raft in the form that it has on the wire.
+func marshaled(part interface{ Marshal() ([]byte, error) }) []byte {
+	data, err := part.Marshal()
+	if err != nil {
+		panic(err) // raft's own types are always written
+	}
+	return data
+}

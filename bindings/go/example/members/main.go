@@ -1,0 +1,262 @@
+// Members is a raft cluster, on etcd's RawNode, that changes its members by plans of confscript while it serves: servers
+// 4, 5 and 6 take the place of 1, 2 and 3.
+//
+//	members -folder DIR [-exit-after N]
+//
+// All servers are in this program, each in a goroutine, with a journal in the folder; a real one has each server in a
+// program of its own, and sends the messages over a network. A run that is stopped at any point, by kill -9 too, is
+// carried on by the same command. With -exit-after the program stops by itself after N stages, without any care.
+//
+// membership.go is how a plan is carried out, server.go is raft's loop, and journal.go the disk.
+package main
+
+import (
+	"flag"
+	"fmt"
+	"log"
+	"os"
+	"path/filepath"
+	"reflect"
+	"strconv"
+	"strings"
+	"sync"
+	"time"
+
+	"confscript"
+
+	"go.etcd.io/etcd/raft"
+	pb "go.etcd.io/etcd/raft/raftpb"
+)
+
+const (
+	poll = 5 * time.Millisecond
+	// How long a proposal or a new leader is waited for, until it is tried again.
+	trial = time.Second
+	// How long members are waited for.
+	patience = time.Minute
+)
+
+// A cluster is the servers that run here, and the network between them.
+type cluster struct {
+	folder    string
+	exitAfter int
+	mutex     sync.Mutex
+	servers   map[uint64]*server
+}
+
+func main() {
+	folder := flag.String("folder", "", "where the journals are")
+	exitAfter := flag.Int("exit-after", 0, "stop after so many stages")
+	flag.Parse()
+	if *folder == "" {
+		log.Fatal("usage: members -folder DIR [-exit-after N]")
+	}
+	c := &cluster{folder: *folder, exitAfter: *exitAfter, servers: map[uint64]*server{}}
+	if err := c.serve(); err != nil {
+		log.Fatal(err)
+	}
+}
+
+// serve leads the cluster from its first members to the last ones, while lines are proposed.
+func (c *cluster) serve() error {
+	if err := c.startAll([]uint64{1, 2, 3}); err != nil {
+		return err
+	}
+	stop, stopped := make(chan struct{}), make(chan struct{})
+	go c.propose(stop, stopped)
+	target := confscript.ConfState{Voters: []uint64{4, 5, 6}}
+	if err := c.lead(target); err != nil {
+		return err
+	}
+	close(stop)
+	<-stopped
+	_, now, err := c.settled()
+	if err != nil {
+		return err
+	}
+	lines, err := c.compare(members(now))
+	fmt.Printf("done: %s, the same %d lines on each\n", describe(now), lines)
+	return err
+}
+
+// startAll starts the first members, but for those that were removed, and all other servers that have a journal.
+func (c *cluster) startAll(first []uint64) error {
+	for _, id := range first {
+		if _, err := os.Stat(c.path(id, "removed")); err == nil {
+			continue
+		}
+		if err := c.start(id, first); err != nil {
+			return err
+		}
+	}
+	names, err := filepath.Glob(filepath.Join(c.folder, "*.journal"))
+	if err != nil {
+		return err
+	}
+	for _, name := range names {
+		id, err := strconv.ParseUint(strings.TrimSuffix(filepath.Base(name), ".journal"), 10, 64)
+		if err != nil {
+			return err
+		}
+		if c.server(id) == nil {
+			if err := c.start(id, nil); err != nil {
+				return err
+			}
+		}
+	}
+	return nil
+}
+
+func (c *cluster) path(id uint64, kind string) string {
+	return filepath.Join(c.folder, fmt.Sprint(id, ".", kind))
+}
+
+func contains(ids []uint64, id uint64) bool {
+	for _, each := range ids {
+		if each == id {
+			return true
+		}
+	}
+	return false
+}
+
+func (c *cluster) start(id uint64, first []uint64) error {
+	s, err := startServer(id, c.path(id, "journal"), first, c.send)
+	if err != nil {
+		return err
+	}
+	c.mutex.Lock()
+	defer c.mutex.Unlock()
+	c.servers[id] = s
+	return nil
+}
+
+// startNew starts the members of a configuration that do not run yet, with empty journals.
+func (c *cluster) startNew(state confscript.ConfState) error {
+	for _, id := range members(state) {
+		if c.server(id) == nil {
+			if err := c.start(id, nil); err != nil {
+				return err
+			}
+		}
+	}
+	return nil
+}
+
+// retire stops the servers that are not members any more. Their journals get another name, so that they never start again:
+// an id that comes back without its log could vote twice.
+func (c *cluster) retire(state confscript.ConfState) error {
+	for _, s := range c.running() {
+		if contains(members(state), s.id) {
+			continue
+		}
+		c.mutex.Lock()
+		delete(c.servers, s.id)
+		c.mutex.Unlock()
+		close(s.quit)
+		<-s.done
+		if err := os.Rename(c.path(s.id, "journal"), c.path(s.id, "removed")); err != nil {
+			return err
+		}
+	}
+	return nil
+}
+
+// running returns the servers that run.
+func (c *cluster) running() []*server {
+	c.mutex.Lock()
+	defer c.mutex.Unlock()
+	all := make([]*server, 0, len(c.servers))
+	for _, s := range c.servers {
+		all = append(all, s)
+	}
+	return all
+}
+
+func (c *cluster) server(id uint64) *server {
+	c.mutex.Lock()
+	defer c.mutex.Unlock()
+	return c.servers[id]
+}
+
+// send passes a message to the server that it is for, unless that does not run, or does not keep up.
+func (c *cluster) send(message pb.Message) bool {
+	to := c.server(message.To)
+	if to == nil {
+		return false
+	}
+	select {
+	case to.inbox <- message:
+		return true
+	default:
+		return false
+	}
+}
+
+// leader returns the server that leads in the greatest term, or nil.
+func (c *cluster) leader() *server {
+	var leader *server
+	var greatest uint64
+	for _, s := range c.running() {
+		var status raft.BasicStatus
+		if s.do(func() { status = s.node.BasicStatus() }) && status.RaftState == raft.StateLeader && status.Term > greatest {
+			leader, greatest = s, status.Term
+		}
+	}
+	return leader
+}
+
+// waits waits until something is so, and reports whether it came to be within this time.
+func waits(most time.Duration, isSo func() bool) bool {
+	for end := time.Now().Add(most); !isSo(); time.Sleep(poll) {
+		if time.Now().After(end) {
+			return false
+		}
+	}
+	return true
+}
+
+// propose proposes lines to whoever leads, until it is stopped.
+func (c *cluster) propose(stop, stopped chan struct{}) {
+	defer close(stopped)
+	for i := 0; ; i++ {
+		select {
+		case <-stop:
+			return
+		case <-time.After(2 * poll):
+			if leader := c.leader(); leader != nil {
+				leader.do(func() { leader.node.Propose([]byte(fmt.Sprint("line ", i))) })
+			}
+		}
+	}
+}
+
+// after stops the program after as many stages as were asked for, and says how many lines are applied by then.
+func (c *cluster) after(stage int) {
+	if stage != c.exitAfter {
+		return
+	}
+	lines := 0
+	if leader := c.leader(); leader != nil {
+		leader.do(func() { lines = len(leader.lines) })
+	}
+	fmt.Printf("stopped: %d lines\n", lines)
+	os.Exit(0)
+}
+
+// compare demands that these servers have the same lines, and returns how many.
+func (c *cluster) compare(ids []uint64) (int, error) {
+	var first []string
+	for i, id := range ids {
+		var lines []string
+		s := c.server(id)
+		s.do(func() { lines = append(lines, s.lines...) })
+		if i == 0 {
+			first = lines
+		}
+		if !reflect.DeepEqual(lines, first) {
+			return 0, fmt.Errorf("%d and %d have different lines", ids[0], id)
+		}
+	}
+	return len(first), nil
+}
