@@ -13,8 +13,9 @@ static const uint8_t *bytes(const char *text) { return (const uint8_t *)text; }
 int main(void) {
     uint8_t plan[512], after[512];
 
-    struct confscript_answer planned = confscript_plan(bytes(now), strlen(now), bytes(target), strlen(target),
-                                                       CONFSCRIPT_SHORTEST, CONFSCRIPT_STEPS, NULL, 0, plan, sizeof plan);
+    struct confscript_answer planned =
+        confscript_plan(bytes(now), strlen(now), bytes(target), strlen(target), CONFSCRIPT_SHORTEST, CONFSCRIPT_STEPS,
+                        NULL, 0, plan, sizeof plan);
     if (planned.status != CONFSCRIPT_DONE) {
         fprintf(stderr, "no plan: status %u, number %llu\n", (unsigned)planned.status, (unsigned long long)planned.number);
         return 1;

@@ -76,7 +76,7 @@ enum confscript_status {
 
     /* confscript_check, _restore and _step: the first of these that is broken, in this order. For 16 to 18 the number is
        the least id that breaks it. */
-    CONFSCRIPT_ZERO_ID = 15,                    /* a set holds the id 0; confscript_plan: an id that is down is 0 */
+    CONFSCRIPT_ZERO_ID = 15,                    /* a set has the id 0, or `down` of confscript_plan */
     CONFSCRIPT_NEXT_NOT_OUTGOING = 16,          /* a next learner is not an outgoing voter */
     CONFSCRIPT_NEXT_AND_INCOMING = 17,          /* a next learner is an incoming voter */
     CONFSCRIPT_LEARNER_AND_VOTER = 18,          /* a learner is a voter */
@@ -114,15 +114,15 @@ enum confscript_status {
 
 /* How confscript_plan goes from one configuration to another. */
 enum confscript_strategy {
-    CONFSCRIPT_SHORTEST = 0,       /* by as few steps as possible, at most four (the JSON may have more lines) */
-    CONFSCRIPT_LEARNERS_FIRST = 1, /* new voters are learners first, so that they can catch up before they vote */
-    CONFSCRIPT_ONE_AT_A_TIME = 2   /* one member changes a step, once a joint one is left; no plan leads into one */
+    CONFSCRIPT_SHORTEST = 0,       /* as few steps as possible, at most four (the JSON may have more lines) */
+    CONFSCRIPT_LEARNERS_FIRST = 1, /* new voters are learners first, so that they catch up before they vote */
+    CONFSCRIPT_ONE_AT_A_TIME = 2   /* one member a step, once a joint one is left; no plan leads into one */
 };
 
 /* What confscript_plan writes. docs/SPECIFICATION.md has the table and the JSON. */
 enum confscript_output {
     CONFSCRIPT_STEPS = 0, /* a line for each step, as confscript_apply takes them */
-    CONFSCRIPT_TABLE = 1, /* who votes on the way, and how many failures the cluster tolerates there, for a reader */
+    CONFSCRIPT_TABLE = 1, /* who votes on the way, and how many failures are tolerated there, for a reader */
     CONFSCRIPT_JSON = 2   /* an object on a line for each proposal to etcd's raft, for a program */
 };
 
