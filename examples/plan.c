@@ -14,8 +14,8 @@ int main(void) {
     uint8_t plan[512], after[512];
 
     struct confscript_answer planned =
-        confscript_plan(bytes(now), strlen(now), bytes(target), strlen(target), CONFSCRIPT_SHORTEST, CONFSCRIPT_STEPS,
-                        NULL, 0, plan, sizeof plan);
+        confscript_plan(bytes(now), strlen(now), bytes(target), strlen(target),
+                        CONFSCRIPT_SHORTEST, CONFSCRIPT_STEPS, NULL, 0, plan, sizeof plan);
     if (planned.status != CONFSCRIPT_DONE) {
         fprintf(stderr, "no plan: status %u, number %llu\n", (unsigned)planned.status, (unsigned long long)planned.number);
         return 1;
