@@ -1,4 +1,5 @@
 pub mod Offered
+mod FirstInSet
 mod Forms
 mod FormsRead
 mod JsonForm

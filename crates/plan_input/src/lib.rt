@@ -23,11 +23,16 @@
 
 mod changed;
 mod form;
+mod json_text;
 pub mod laws;
+mod member_list;
 mod reading;
 mod short_token;
+mod stranger;
 mod text_fault;
 
+pub use member_list::is_member_list;
 pub use reading::{read_current, read_target};
 pub use short_token::ShortToken;
+pub use stranger::stranger_of;
 pub use text_fault::TextFault;
