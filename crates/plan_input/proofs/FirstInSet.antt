@@ -1,5 +1,5 @@
 -- The first id of a list that passes a test, looked for one by one.
-use Rattle.std.proofs.Common.{◌≡◌, ℕ, ◌+◌, Bool, true, false, cond, List, ◌∷◌, ap, ◌∙◌, drop, slice_get}
+use Rattle.std.proofs.Common.{◌≡◌, ℕ, ◌+◌, Bool, cond, List, ◌∷◌, ap, ◌∙◌, drop, slice_get}
 use Rattle.std.specs.Prelude.{Some, find}
 use Rattle.std.proofs.lemmas.List.{drop_more}
 use Rattle.std.proofs.lemmas.Option.{slice_get_within, get_or_from_slice_get}

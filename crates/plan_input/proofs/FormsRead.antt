@@ -8,13 +8,12 @@ use Rattle.conf_change.specs.ConfStateLine.{DenotesConfState, conf_state_in}
 use Rattle.conf_change.specs.PrintedConfig.{DenotesConfig, config_in}
 use Rattle.conf_change.specs.Violation.{unless_bad, valid_of}
 use Rattle.conf_change.specs.declared.change.Change.{Change}
-use Rattle.plan_input.specs.Changed.{after_changes}
 use Rattle.plan_input.specs.Denoted.{DenotesIn}
 use Rattle.plan_input.specs.Form.{form_of}
-use Rattle.plan_input.specs.Input.{as_text, configuration_as, current_in, target_as, target_in, target_of_changes, valid_or}
+use Rattle.plan_input.specs.Input.{as_text, bad_json, bad_printed, configuration_as, current_in, target_as, target_in, target_of_changes, unless_refused, valid_or}
+use Rattle.plan_input.specs.Refusal.{list_refusal}
 use Rattle.plan_input.specs.declared.form.Form.{Form}
 use Rattle.plan_input.specs.declared.form.Form.TheVariants.{Json, ConfStateLine, Printed, Other}
-use Rattle.plan_input.specs.declared.text_fault.TextFault.TheVariants.{BadJson, BadPrinted}
 use Rattle.plan_input.proofs.Forms.{form-changes, form-line, form-printed}
 use Rattle.plan_input.proofs.JsonForm.{form-json}
 use Rattle.plan_input.proofs.JsonTexts.{saved_in_json-some}
@@ -32,13 +31,13 @@ LinesAreRead = (text : List ℕ) (saved : ConfStateLists) → (DenotesConfState 
 abbrev pub PrintedAreRead : Type 0
 PrintedAreRead = (text : List ℕ) (saved : ConfStateLists) → (DenotesConfig text saved) ↔ (config_in text ≡ Some saved)
 
-configuration_as-denoted : LinesAreRead → PrintedAreRead → (form : Form) (text : List ℕ) (saved : ConfStateLists) → DenotesIn form text saved → configuration_as form text ≡ as_text (valid_of saved)
-configuration_as-denoted lines printed Json text saved h = ap (valid_or BadJson) (saved_in_json-some text saved h)
-configuration_as-denoted lines printed ConfStateLine text saved h = ap (λ read. as_text (unless_bad read)) ((lines text saved).0 h)
-configuration_as-denoted lines printed Printed text saved h = ap (valid_or BadPrinted) ((printed text saved).0 h)
+configuration_as-denoted : LinesAreRead → PrintedAreRead → (form : Form) (text : List ℕ) (saved : ConfStateLists) → DenotesIn form text saved → configuration_as form text ≡ as_text text (valid_of saved)
+configuration_as-denoted lines printed Json text saved h = ap (valid_or text (bad_json text)) (saved_in_json-some text saved h)
+configuration_as-denoted lines printed ConfStateLine text saved h = ap (λ read. as_text text (unless_bad read)) ((lines text saved).0 h)
+configuration_as-denoted lines printed Printed text saved h = ap (valid_or text (bad_printed text)) ((printed text saved).0 h)
 configuration_as-denoted lines printed Other text saved h = absurd h
 
-pub current-denoted : LinesAreRead → PrintedAreRead → (form : Form) (text : List ℕ) (saved : ConfStateLists) → DenotesIn form text saved → current_in text ≡ as_text (valid_of saved)
+pub current-denoted : LinesAreRead → PrintedAreRead → (form : Form) (text : List ℕ) (saved : ConfStateLists) → DenotesIn form text saved → current_in text ≡ as_text text (valid_of saved)
 current-denoted lines printed form text saved h =
     ap (λ (f : Form). configuration_as f text) (form-denoted form text saved h) ∙ configuration_as-denoted lines printed form text saved h
 
@@ -46,9 +45,11 @@ target_as-denoted : (form : Form) (now : Configuration) (text : List ℕ) (saved
 target_as-denoted Other now text saved h = absurd h
 target_as-denoted form now text saved h = refl
 
-pub target-denoted : LinesAreRead → PrintedAreRead → (form : Form) (now : Configuration) (text : List ℕ) (saved : ConfStateLists) → DenotesIn form text saved → target_in now text ≡ as_text (valid_of saved)
+pub target-denoted : LinesAreRead → PrintedAreRead → (form : Form) (now : Configuration) (text : List ℕ) (saved : ConfStateLists) → DenotesIn form text saved → target_in now text ≡ as_text text (valid_of saved)
 target-denoted lines printed form now text saved h =
     ap (λ (f : Form). target_as now f text) (form-denoted form text saved h) ∙ target_as-denoted form now text saved h ∙ configuration_as-denoted lines printed form text saved h
 
-pub target-changes : (now : Configuration) (text : List ℕ) (changes : List Change) → Denotes text changes → changes_in text ≡ Ok changes → target_in now text ≡ Ok (after_changes now changes)
+-- a text of changes is read by them
+pub target-changes : (now : Configuration) (text : List ℕ) (changes : List Change) → Denotes text changes → changes_in text ≡ Ok changes
+    → target_in now text ≡ unless_refused now changes (list_refusal now changes)
 target-changes now text changes h read = ap (λ (f : Form). target_as now f text) (form-changes text changes h) ∙ ap (target_of_changes now) read

@@ -4,5 +4,7 @@ mod Forms
 mod FormsRead
 mod JsonForm
 mod JsonTexts
+mod Refusals
+mod TextItems
 mod ValidTargets
 mod WorkedExamples

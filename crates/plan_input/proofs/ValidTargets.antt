@@ -17,11 +17,11 @@ use Rattle.conf_change.specs.declared.step.Step.TheVariants.{EnterJoint, LeaveJo
 use Rattle.conf_change.proofs.Offered.{ValidByMember-from_is_valid, is_valid-from_configuration_in, is_valid-from_members, is_valid-from_valid_of, outcome-is_valid}
 use Rattle.plan_input.specs.Changed.{after_changes, left_or_empty, when_left}
 use Rattle.plan_input.specs.Form.{form_of}
-use Rattle.plan_input.specs.Input.{as_text, configuration_as, current_in, saved_in_json, target_as, target_in, target_of_changes, valid_or}
+use Rattle.plan_input.specs.Input.{as_text, bad_json, bad_printed, configuration_as, current_in, saved_in_json, target_as, target_in, target_of_changes, unless_refused, valid_or}
+use Rattle.plan_input.specs.Refusal.{list_refusal}
 use Rattle.plan_input.specs.declared.form.Form.{Form}
 use Rattle.plan_input.specs.declared.form.Form.TheVariants.{Json, ConfStateLine, Printed, Other}
 use Rattle.plan_input.specs.declared.text_fault.TextFault.{TextFault}
-use Rattle.plan_input.specs.declared.text_fault.TextFault.TheVariants.{BadJson, BadPrinted}
 
 -- ---- after changes
 step-valid : (c after : Configuration) (step : Step) → is_valid c ≡ true → outcome c step ≡ Ok after → is_valid after ≡ true
@@ -46,25 +46,29 @@ after_changes-valid now changes valid = by_outcome (enter_outcome (when_left now
 abbrev Text : Type 0
 Text = Result Configuration TextFault
 
-as_text-ok : (read : Result Configuration ConfigurationFault) (c : Configuration) → ◌≡◌ {A = Text} (as_text read) (Ok c) → read ≡ Ok c
-as_text-ok (Ok d) c e = let same : d ≡ c = cc in ap Ok same
-as_text-ok (Err fault) c e = cc
+as_text-ok : (text : List ℕ) (read : Result Configuration ConfigurationFault) (c : Configuration) → ◌≡◌ {A = Text} (as_text text read) (Ok c) → read ≡ Ok c
+as_text-ok text (Ok d) c e = let same : d ≡ c = cc in ap Ok same
+as_text-ok text (Err fault) c e = cc
 
-valid_or-valid : (fault : TextFault) (saved : Option ConfStateLists) (c : Configuration) → ◌≡◌ {A = Text} (valid_or fault saved) (Ok c) → is_valid c ≡ true
-valid_or-valid fault None c e = cc
-valid_or-valid fault (Some saved) c e = is_valid-from_valid_of saved c (as_text-ok (valid_of saved) c e)
+valid_or-valid : (text : List ℕ) (fault : TextFault) (saved : Option ConfStateLists) (c : Configuration) → ◌≡◌ {A = Text} (valid_or text fault saved) (Ok c) → is_valid c ≡ true
+valid_or-valid text fault None c e = cc
+valid_or-valid text fault (Some saved) c e = is_valid-from_valid_of saved c (as_text-ok text (valid_of saved) c e)
 
 configuration_as-valid : (form : Form) (text : List ℕ) (c : Configuration) → ◌≡◌ {A = Text} (configuration_as form text) (Ok c) → is_valid c ≡ true
-configuration_as-valid Json text c e = valid_or-valid BadJson (saved_in_json text) c e
-configuration_as-valid ConfStateLine text c e = is_valid-from_configuration_in text c (as_text-ok (configuration_in text) c e)
-configuration_as-valid Printed text c e = valid_or-valid BadPrinted (config_in text) c e
+configuration_as-valid Json text c e = valid_or-valid text (bad_json text) (saved_in_json text) c e
+configuration_as-valid ConfStateLine text c e = is_valid-from_configuration_in text c (as_text-ok text (configuration_in text) c e)
+configuration_as-valid Printed text c e = valid_or-valid text (bad_printed text) (config_in text) c e
 configuration_as-valid Other text c e = cc
 
 pub current_in-valid : (text : List ℕ) (c : Configuration) → ◌≡◌ {A = Text} (current_in text) (Ok c) → is_valid c ≡ true
 current_in-valid text c e = configuration_as-valid (form_of text) text c e
 
+unless_refused-valid : (now : Configuration) (changes : List Change) (why : Option TextFault) (c : Configuration) → is_valid now ≡ true → ◌≡◌ {A = Text} (unless_refused now changes why) (Ok c) → is_valid c ≡ true
+unless_refused-valid now changes None c valid e = let same : after_changes now changes ≡ c = cc in sym (ap is_valid same) ∙ after_changes-valid now changes valid
+unless_refused-valid now changes (Some why) c valid e = cc
+
 of_changes-valid : (now : Configuration) (changes : Result (List Change) BadToken) (c : Configuration) → is_valid now ≡ true → ◌≡◌ {A = Text} (target_of_changes now changes) (Ok c) → is_valid c ≡ true
-of_changes-valid now (Ok changes) c valid e = let same : after_changes now changes ≡ c = cc in sym (ap is_valid same) ∙ after_changes-valid now changes valid
+of_changes-valid now (Ok changes) c valid e = unless_refused-valid now changes (list_refusal now changes) c valid e
 of_changes-valid now (Err bad) c valid e = cc
 
 target_as-valid : (now : Configuration) (form : Form) (text : List ℕ) (c : Configuration) → is_valid now ≡ true → ◌≡◌ {A = Text} (target_as now form text) (Ok c) → is_valid c ≡ true

@@ -15,7 +15,12 @@
 //! ```text
 //! (1 2 3)               r1 v4 l5    (2 3 4) learners=(5)
 //! (2 3 4)&&(1 2 3)      r2          (3 4)
+//! (1 2 3)               r7          refused: 7 is not a member
+//! (1 2 3)               r3 v3       refused: 3 is removed and added again
 //! ```
+//!
+//! The removal of an id that is not a member is refused, and so is a member that is removed and added again: etcd's raft
+//! would take both, and a user hardly means them.
 //!
 //! [`read_current`] reads the one and [`read_target`] the other. How a text begins decides in which form it is read, so
 //! that an error can say what is wrong in that form. All of this is own.
@@ -23,14 +28,18 @@
 
 mod changed;
 mod form;
+mod id_hint;
 mod json_text;
 pub mod laws;
 mod member_list;
 mod reading;
+mod refusal;
 mod short_token;
 mod stranger;
 mod text_fault;
+mod text_ids;
 
+pub use id_hint::IdHint;
 pub use member_list::is_member_list;
 pub use reading::{read_current, read_target};
 pub use short_token::ShortToken;

@@ -6,3 +6,4 @@ mod pairs;
 mod paths_while_down;
 mod plans;
 mod stages;
+mod targets;

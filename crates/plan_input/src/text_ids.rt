@@ -1,0 +1,65 @@
+//! JSON in which an id is a text, as in `{"voters":["1"]}`.
+ghost use Rattle.std.specs.Prelude.{◌≡◌, IfOk, codes};
+ghost use Rattle.serde_json.specs.View.{items_view, view};
+ghost use Rattle.plan_input.specs.TextIds.{any_at, any_item, has_text_id, has_text_ids, has_text_ids_in, is_text};
+
+use crate::json_text::json_in;
+use quorum_sets::NoMemory;
+use serde_json::Value;
+use std::alloc::Global;
+
+/// Whether the text is JSON in which an id is a text: that of a member, or one in a list of a ConfState.
+pub(crate) fn has_text_ids_in(alloc: Global, text: &[u8]) -> Result<bool, NoMemory>
+    ensures { IfOk result (λ has. has ≡ has_text_ids_in text.now) }
+{
+    match json_in(alloc, text)? {
+        Some(value) => Ok(has_text_ids(&value)),
+        None => Ok(false),
+    }
+}
+
+fn has_text_ids(value: &Value) -> bool
+    ensures { result ≡ has_text_ids (view value.now) }
+{
+    has_text_member(value)
+        || has_text_at(value, "voters")
+        || has_text_at(value, "voters_outgoing")
+        || has_text_at(value, "learners")
+        || has_text_at(value, "learners_next")
+}
+
+// Whether the id of a member is a text.
+fn has_text_member(value: &Value) -> bool
+    ensures { result ≡ any_at has_text_id (codes "members") (view value.now) }
+{
+    match value.get("members").and_then(Value::as_array) {
+        Some(items) => has_text_id(items),
+        None => false,
+    }
+}
+
+// Whether the id of one of the members is a text.
+fn has_text_id(members: &Vec<Value>) -> bool
+    ensures { result ≡ any_item has_text_id (items_view members.now.items) }
+{
+    members
+        .iter()
+        .any(|member| member.get("ID").is_some_and(Value::is_string))
+}
+
+// Whether the value at this key is a list with a text.
+fn has_text_at(value: &Value, key: &str) -> bool
+    ensures { result ≡ any_at is_text key.now (view value.now) }
+{
+    match value.get(key).and_then(Value::as_array) {
+        Some(items) => has_text(items),
+        None => false,
+    }
+}
+
+// Whether one of the items is a text.
+fn has_text(items: &Vec<Value>) -> bool
+    ensures { result ≡ any_item is_text (items_view items.now.items) }
+{
+    items.iter().any(Value::is_string)
+}
