@@ -12,14 +12,22 @@
 //! was printed before the error is a prefix of the output.
 #![tactic(auto)]
 
-ghost use Rattle.std.specs.Prelude.{◌≡◌, ◌≢◌, ◌⊎◌};
+ghost use Rattle.std.specs.Prelude.{◌≡◌, ◌≢◌, ◌⊎◌, IfSome, map, None};
+ghost use Rattle.std.specs.IoError.{error_kind};
 ghost use Rattle.std.specs.Process.{exit_status as status_of};
+ghost use Rattle.std.specs.declared.io.ErrorKind.TheVariants.{InvalidData};
 ghost use Rattle.clap.specs.Words.{kind_of};
-ghost use Rattle.dd_file.specs.Gathered.{NothingBuffered};
+ghost use Rattle.dd_file.specs.Device.{LosesPrefix};
+ghost use Rattle.dd_file.specs.Gathered.{buffered_writer, NothingBuffered};
 ghost use Rattle.conf_tool.specs.ExitStatus.{exit_status_of, ExitsWith, PlansWith};
 ghost use Rattle.conf_tool.specs.Outputs.{output_of, planned_texts};
 ghost use Rattle.conf_tool.specs.Ranges.{IsInRange};
+ghost use Rattle.confscript.specs.Asked.{output_over};
+ghost use Rattle.confscript.specs.Ending.{CanEnd, EndsAs, EndsFor, EndsForArguments, EndsWithError, WritesOut};
 
+mod input_files;
+
+use self::input_files::InputFiles;
 use clap::error::ErrorKind;
 use conf_tool::command_line::command_line;
 use conf_tool::exit_status::exit_status;
@@ -27,7 +35,7 @@ use conf_tool::run::{run_and_flush, run_pair_and_flush};
 use conf_tool::{ArgumentFault, Invocation, PairTexts, PlanOptions, Status, ToolFault};
 use dd_file::blocks::Blocks;
 use dd_file::device::{FromRead, Sink, Source, ToWrite};
-use std::fs::File;
+use std::convert::AsStr;
 use std::process::ExitCode;
 use std::{env, io};
 
@@ -42,7 +50,7 @@ const IO_FAILED: u8 = 3;
 
 fn main(rt: HostRuntime) -> ExitCode {
     match arguments(&rt) {
-        Ok(arguments) => run_arguments(&rt, arguments.as_slice()),
+        Ok(arguments) => run_on_system(&rt, arguments.as_slice()),
         Err(error) => report_arguments(&rt, &error),
     }
 }
@@ -54,7 +62,10 @@ fn arguments(rt: &HostRuntime) -> io::Result<Vec<String>> {
 }
 
 // Reports why the arguments could not be read: one of them is not UTF-8, or memory ran out.
-fn report_arguments(rt: &HostRuntime, error: &io::Error) -> ExitCode {
+fn report_arguments(rt: &HostRuntime, error: &io::Error) -> ExitCode
+    ensures text { error_kind error.now ≡ InvalidData → status_of result ≡ 2 }
+    ensures memory { error_kind error.now ≢ InvalidData → status_of result ≡ 3 }
+{
     if error.kind() != io::ErrorKind::InvalidData {
         return end(rt, Err(ToolFault::NoMemory));
     }
@@ -62,10 +73,43 @@ fn report_arguments(rt: &HostRuntime, error: &io::Error) -> ExitCode {
     ExitCode::from(BAD_INPUT)
 }
 
-// Runs the mode that the arguments name.
-fn run_arguments(rt: &HostRuntime, arguments: &[String]) -> ExitCode {
+// Does what the arguments ask for, over the system's files, standard input and standard output. The output is written
+// in blocks, which are flushed before a mode waits for input.
+fn run_on_system(rt: &HostRuntime, arguments: &[String]) -> ExitCode
+    // It ends as is stated for files, an input and an output whose bytes are not known.
+    ensures { (status_of result ≡ 3) ⊎
+        EndsForArguments (map ⟦<String as AsStr>⟧.text arguments.now) (λ _. None) None None None result }
+{
+    match Blocks::new(rt.alloc(), ToWrite::new(rt.stdout())) {
+        Ok(mut output) => run_arguments(
+            rt,
+            arguments,
+            rt,
+            &mut FromRead::new(rt.stdin()),
+            &mut output,
+        ),
+        Err(_) => end(rt, Err(ToolFault::NoMemory)),
+    }
+}
+
+// Does what the arguments ask for, over these files, this standard input and this standard output.
+fn run_arguments<F: InputFiles, R: Source, W: Sink>(
+    rt: &HostRuntime,
+    arguments: &[String],
+    files: &F,
+    input: &mut R,
+    output: &mut Blocks<W>,
+) -> ExitCode
+    requires empty { NothingBuffered output.old }
+
+    // The mode that they ask for runs over the input that they name, or they are refused.
+    ensures ends { EndsForArguments (map ⟦<String as AsStr>⟧.text arguments.now) (F.bytes_of files.now)
+        (R.remaining input.old) (W.contents (buffered_writer output.old)) (W.contents (buffered_writer output.new)) result }
+    ensures read { status_of result ≢ 3 → R.has_failed input.new ≡ R.has_failed input.old }
+    ensures written { WritesOut W.has_failed output.old output.new result }
+{
     match command_line(rt.alloc(), arguments) {
-        Ok(invocation) => run_invocation(rt, invocation),
+        Ok(invocation) => run_invocation(rt, invocation, files, input, output),
         Err(ArgumentFault::Clap(error)) => explain(rt, &error),
         Err(ArgumentFault::BadIds) => {
             let _ = eprintln!(rt;
@@ -83,11 +127,7 @@ fn run_arguments(rt: &HostRuntime, arguments: &[String]) -> ExitCode {
 
 // Prints the help or the version that was asked for, or what is wrong with the arguments.
 fn explain(rt: &HostRuntime, error: &clap::Error) -> ExitCode
-    ensures memory { kind_of error.now ≡ ErrorKind.OutOfMemory → status_of result ≡ 3 }
-    ensures shown { (kind_of error.now ≡ ErrorKind.DisplayHelp) ⊎ (kind_of error.now ≡ ErrorKind.DisplayVersion) → (status_of result ≡ 0) ⊎ (status_of result ≡ 3) }
-
-    // Any other error is one in the arguments.
-    ensures refused { kind_of error.now ≢ ErrorKind.OutOfMemory → kind_of error.now ≢ ErrorKind.DisplayHelp → kind_of error.now ≢ ErrorKind.DisplayVersion → status_of result ≡ 2 }
+    ensures { EndsWithError (kind_of error.now) result }
 {
     if let ErrorKind::OutOfMemory = error.kind() {
         return end(rt, Err(ToolFault::NoMemory));
@@ -102,21 +142,24 @@ fn explain(rt: &HostRuntime, error: &clap::Error) -> ExitCode
     }
 }
 
-// Runs the mode over what the arguments name: a pair of configurations, or a file.
-fn run_invocation(rt: &HostRuntime, invocation: Invocation<'_>) -> ExitCode
-    requires { IsInRange invocation.options }
+// Plans for the pair that the arguments name, or else runs the mode over the input that they name.
+fn run_invocation<F: InputFiles, R: Source, W: Sink>(
+    rt: &HostRuntime,
+    invocation: Invocation<'_>,
+    files: &F,
+    input: &mut R,
+    output: &mut Blocks<W>,
+) -> ExitCode
+    requires range { IsInRange invocation.options }
+    requires empty { NothingBuffered output.old }
+    ensures ends { EndsFor (F.bytes_of files.now) (R.remaining input.old) (W.contents (buffered_writer output.old))
+        (W.contents (buffered_writer output.new)) invocation.entry result }
+    ensures read { status_of result ≢ 3 → R.has_failed input.new ≡ R.has_failed input.old }
+    ensures written { WritesOut W.has_failed output.old output.new result }
 {
     match invocation.pair {
-        Some(texts) => plan_pair(rt, invocation.options.plan, texts),
-        None => open(rt, invocation),
-    }
-}
-
-// Plans for the pair on the command line.
-fn plan_pair(rt: &HostRuntime, options: PlanOptions, texts: PairTexts<'_>) -> ExitCode {
-    match Blocks::new(rt.alloc(), ToWrite::new(rt.stdout())) {
-        Ok(mut writer) => plan_to(rt, options, texts, &mut writer),
-        Err(_) => end(rt, Err(ToolFault::NoMemory)),
+        Some(texts) => plan_to(rt, invocation.options.plan, texts, output),
+        None => run_over(rt, invocation, files, input, output),
     }
 }
 
@@ -129,38 +172,44 @@ fn plan_to<W: Sink>(
 ) -> ExitCode
     requires empty { NothingBuffered writer.old }
 
-    // The exit status is that of the plan from the one text to the other.
-    ensures { PlansWith (planned_texts options texts.entry.from.now texts.entry.to.now) (⟦<Blocks<W> as Sink>⟧.contents writer.old) (⟦<Blocks<W> as Sink>⟧.contents writer.new) result }
+    // The exit status is that of the plan from the one text to the other, ..
+    ensures output { PlansWith (planned_texts options texts.entry.from.now texts.entry.to.now) (⟦<Blocks<W> as Sink>⟧.contents writer.old) (⟦<Blocks<W> as Sink>⟧.contents writer.new) result }
+
+    // .. and unless it is 3, the writer below has the whole output.
+    ensures given { status_of result ≢ 3 → PlansWith (planned_texts options texts.entry.from.now texts.entry.to.now)
+        (W.contents (buffered_writer writer.old)) (W.contents (buffered_writer writer.new)) result }
+    ensures written { WritesOut W.has_failed writer.old writer.new result }
 {
     let outcome = run_pair_and_flush(rt.alloc(), options, texts, writer);
     end(rt, outcome)
 }
 
 // Runs the mode over the file that the arguments name, or over standard input if they name none, or `-`.
-fn open(rt: &HostRuntime, invocation: Invocation<'_>) -> ExitCode
-    requires { IsInRange invocation.options }
+fn run_over<F: InputFiles, R: Source, W: Sink>(
+    rt: &HostRuntime,
+    invocation: Invocation<'_>,
+    files: &F,
+    input: &mut R,
+    output: &mut Blocks<W>,
+) -> ExitCode
+    requires range { IsInRange invocation.options }
+    requires empty { NothingBuffered output.old }
+    ensures ends { IfSome (output_over (F.bytes_of files.now) (R.remaining input.old) invocation.entry) (λ asked.
+        EndsAs asked (W.contents (buffered_writer output.old)) (W.contents (buffered_writer output.new)) result) }
+    ensures kinds { CanEnd invocation.entry.mode result }
+    ensures read { status_of result ≢ 3 → R.has_failed input.new ≡ R.has_failed input.old }
+    ensures written { WritesOut W.has_failed output.old output.new result }
 {
     let name = invocation.file.unwrap_or("-");
     if name == "-" {
-        return run_over(rt, invocation, &mut FromRead::new(rt.stdin()));
+        return run_to(rt, invocation, input, output);
     }
-    match File::open(rt, name) {
-        Ok(file) => run_over(rt, invocation, &mut FromRead::new(file)),
+    match files.open(name) {
+        Ok(file) => run_to(rt, invocation, &mut FromRead::new(file), output),
         Err(_) => {
             let _ = eprintln!(rt; "confscript: cannot open {name}");
             ExitCode::from(IO_FAILED)
         }
-    }
-}
-
-// Runs the mode over this reader. Standard output is written in blocks, which are flushed before the mode waits for
-// input.
-fn run_over<R: Source>(rt: &HostRuntime, invocation: Invocation<'_>, reader: &mut R) -> ExitCode
-    requires { IsInRange invocation.options }
-{
-    match Blocks::new(rt.alloc(), ToWrite::new(rt.stdout())) {
-        Ok(mut writer) => run_to(rt, invocation, reader, &mut writer),
-        Err(_) => end(rt, Err(ToolFault::NoMemory)),
     }
 }
 
@@ -174,9 +223,18 @@ fn run_to<R: Source, W: Sink>(
     requires range { IsInRange invocation.options }
     requires empty { NothingBuffered writer.old }
 
-    // It is the mode with the options that the arguments ask for, and the exit status is that of its result.
-    ensures { ExitsWith (output_of invocation.entry.mode invocation.entry.options) (R.remaining reader.old) (R.remaining reader.new)
+    // It is the mode with the options that the arguments ask for, and the exit status is that of its result, ..
+    ensures output { ExitsWith (output_of invocation.entry.mode invocation.entry.options) (R.remaining reader.old) (R.remaining reader.new)
         (⟦<Blocks<W> as Sink>⟧.contents writer.old) (⟦<Blocks<W> as Sink>⟧.contents writer.new) result }
+
+    // .. and unless it is 3, the writer below has the whole output.
+    ensures given { status_of result ≢ 3 → ExitsWith (output_of invocation.entry.mode invocation.entry.options)
+        (R.remaining reader.old) (R.remaining reader.new)
+        (W.contents (buffered_writer writer.old)) (W.contents (buffered_writer writer.new)) result }
+    ensures consumed { LosesPrefix (R.remaining reader.old) (R.remaining reader.new) }
+    ensures kinds { CanEnd invocation.entry.mode result }
+    ensures read { status_of result ≢ 3 → R.has_failed reader.new ≡ R.has_failed reader.old }
+    ensures written { WritesOut W.has_failed writer.old writer.new result }
 {
     let outcome = run_and_flush(
         rt.alloc(),
