@@ -297,9 +297,9 @@ static void outputs(void) {
     strategy = CONFSCRIPT_SHORTEST;
     on_texts("voters=(1 2 3)", "");
     SET(down, 1, 2);
-    expect("output: steps that stall", plan, CONFSCRIPT_DONE, 37, "# stalls with 1 2 down\nnothing to do\n");
+    expect("output: steps that stall", plan, CONFSCRIPT_DONE, 61, "# no quorum with 1 2 down: no step can be made\nnothing to do\n");
     output = CONFSCRIPT_JSON;
-    expect("output: JSON of a plan that stalls", plan, CONFSCRIPT_DONE, 35, "{\"plan\":1,\"stalls\":true,\"steps\":0}\n");
+    expect("output: JSON of a plan that stalls", plan, CONFSCRIPT_DONE, 48, "{\"down\":[1,2],\"plan\":1,\"stalls\":true,\"steps\":0}\n");
     down_len = 0;
     expect("output: JSON of nothing to do", plan, CONFSCRIPT_DONE, 21, "{\"plan\":1,\"steps\":0}\n");
     output = CONFSCRIPT_TABLE;

@@ -70,7 +70,7 @@ func Plan(now, target string) (string, error) {
 }
 
 // PlanBy returns the steps of the plan from a configuration to a target. If the plan stalls with the ids that are down,
-// they begin with a line such as "# stalls with 4 5 down".
+// they begin with a line such as "# stalls with 4 5 down" or "# no quorum with 4 5 down: no step can be made".
 func PlanBy(options Options, now, target string) (string, error) {
 	return PlanAs(Steps, options, now, target)
 }

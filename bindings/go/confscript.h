@@ -234,8 +234,8 @@ struct confscript_answer confscript_status_text(uint32_t status, uint8_t *out, s
  * `down` has the ids that are down, in any order; for none, `down_len` is 0. With CONFSCRIPT_ONE_AT_A_TIME, voters that
  * are down are removed first, as etcd's server demands, if both configurations commit without them. If ids are down,
  * the table and the JSON report how many others may be down on the way. If nothing commits in some configuration of the
- * plan, the plan stalls: then the steps begin with the line `# stalls with 4 5 down`, which confscript_apply does not
- * take.
+ * plan, the plan stalls: then the steps begin with the line `# stalls with 4 5 down`, or, if the first configuration is
+ * such a one itself, `# no quorum with 4 5 down: no step can be made`. confscript_apply does not take such a line.
  *
  * Both configurations must be valid and have an incoming voter. The voters before and after each step overlap, and no
  * configuration on the way tolerates fewer failures than the weaker end, once its members have caught up; with

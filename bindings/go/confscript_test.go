@@ -50,9 +50,9 @@ now          V .  1 of 1    0                                  0
 		options Options
 		to      string
 	}{
-		table:                               {Table, Options{Down: []uint64{7}}, "v2"},
-		"{\"plan\":1,\"steps\":0}\n":        {JSON, Options{}, "v1"},
-		"# stalls with 1 down\nsimple v2\n": {Steps, Options{Down: []uint64{1}}, "v2"},
+		table:                        {Table, Options{Down: []uint64{7}}, "v2"},
+		"{\"plan\":1,\"steps\":0}\n": {JSON, Options{}, "v1"},
+		"# no quorum with 1 down: no step can be made\nsimple v2\n": {Steps, Options{Down: []uint64{1}}, "v2"},
 	} {
 		if got, err := PlanAs(of.output, of.options, "voters=(1)", of.to); err != nil || got != text {
 			t.Errorf("PlanAs: %q, %v", got, err)

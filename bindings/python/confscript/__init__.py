@@ -342,7 +342,8 @@ def plan(
     """Returns the plan by a strategy from a configuration to a target, as the program prints it with this output.
 
     `down` are the ids that are down. If the plan stalls with them, the steps begin with a line such as
-    `# stalls with 4 5 down`. Each line of JSON is an object, what to propose to etcd's raft among it.
+    `# stalls with 4 5 down` or `# no quorum with 4 5 down: no step can be made`. Each line of JSON is an object, what to
+    propose to etcd's raft among it.
     """
     return _written(_library.confscript_plan, *_bytes(now), *_bytes(target), _uint(strategy, 32), _uint(output, 32), *_numbers(down))
 

@@ -33,7 +33,7 @@ class Calls(unittest.TestCase):
             "1 simple v2  V V  2 of 2    0            2         stalls      stalls\n"
         )
         for output, down, to, text in [
-            (confscript.Output.STEPS, [1], "v2", "# stalls with 1 down\nsimple v2\n"),
+            (confscript.Output.STEPS, [1], "v2", "# no quorum with 1 down: no step can be made\nsimple v2\n"),
             (confscript.Output.TABLE, {7}, "v2", table),
             (confscript.Output.JSON, (), "v1", '{"plan":1,"steps":0}\n'),
         ]:

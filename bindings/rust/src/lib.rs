@@ -95,8 +95,8 @@ pub enum Strategy {
 /// What is written of a plan.
 #[derive(Clone, Copy, Debug, Default, PartialEq, Eq)]
 pub enum Output {
-    /// A line for each step. If the plan stalls with the ids that are down, a line such as `# stalls with 4 5 down` comes
-    /// before them.
+    /// A line for each step. If the plan stalls with the ids that are down, a line such as `# stalls with 4 5 down` or
+    /// `# no quorum with 4 5 down: no step can be made` comes before them.
     #[default]
     Steps = 0,
     /// Who votes on the way, and how many failures the cluster tolerates there.

@@ -46,7 +46,7 @@ fn writes_each_output() {
                  now          V .  1 of 1    0                                  0\n\
                  1 simple v2  V V  2 of 2    0            2         stalls      stalls\n";
     for (output, down, to, text) in [
-        (Output::Steps, vec![1], "v2", "# stalls with 1 down\nsimple v2\n"),
+        (Output::Steps, vec![1], "v2", "# no quorum with 1 down: no step can be made\nsimple v2\n"),
         (Output::Table, vec![7], "v2", table),
         (Output::Json, vec![], "v1", "{\"plan\":1,\"steps\":0}\n"),
     ] {

@@ -30,17 +30,20 @@ step_keys-no_float : (down : Option Ids) (flag : Option Bool) (plan count number
 step_keys-no_float None None plan count number before step after = plain_keys-no_float plan count number before step after
 step_keys-no_float None (Some stalls) plan count number before step after = plain_keys-no_float plan count number before step after
 step_keys-no_float (Some down) None plan count number before step after =
-    rw (has_float-count_json (may_be_down_besides after down)) (plain_keys-no_float plan count number before step after)
+    rw (has_float-ids_json (ascending down), has_float-count_json (may_be_down_besides after down)) (plain_keys-no_float plan count number before step after)
 step_keys-no_float (Some down) (Some stalls) plan count number before step after =
-    rw (has_float-count_json (may_be_down_besides after down)) (plain_keys-no_float plan count number before step after)
+    rw (has_float-ids_json (ascending down), has_float-count_json (may_be_down_besides after down)) (plain_keys-no_float plan count number before step after)
 
 pub has_float-step_json : (down : Option Ids) (flag : Option Bool) (plan count number : ℕ) (before : StageState) (step : Step) (after : StageState)
     → has_float (step_json down flag plan count number before step after) ≡ false
 has_float-step_json down flag plan count number before step after =
     rw (has_float-ids_json (ascending after.catching_up)) (step_keys-no_float down flag plan count number before step after)
 
-pub has_float-no_steps_json : (stalls : Option Bool) (plan : ℕ) → has_float (no_steps_json stalls plan) ≡ false
-has_float-no_steps_json stalls plan = grind arith
+pub has_float-no_steps_json : (down : Option Ids) (stalls : Option Bool) (plan : ℕ) → has_float (no_steps_json down stalls plan) ≡ false
+has_float-no_steps_json None None plan = refl
+has_float-no_steps_json None (Some stalls) plan = refl
+has_float-no_steps_json (Some down) None plan = rw (has_float-ids_json (ascending down)) refl
+has_float-no_steps_json (Some down) (Some stalls) plan = rw (has_float-ids_json (ascending down)) refl
 
 -- ---- the lines of the steps, the first of which has this number and leads from this stage
 abbrev pub lines : Option Ids → Option Bool → ℕ → ℕ → ℕ → StageState → List Step → List ℕ

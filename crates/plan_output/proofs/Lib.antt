@@ -2,6 +2,7 @@ mod StagesOnTheWay
 mod JoinedTexts
 mod GridLines
 mod TableRows
+mod NumberedIds
 mod JsonLines
 mod AutoLeave
 mod SingleChanges

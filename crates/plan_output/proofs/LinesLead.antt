@@ -99,13 +99,15 @@ LinesLead-steps given down flag plan count number stage (step ∷ steps) target 
     let end = ended_then down flag plan count (number + 1) stage.config target step after steps is.valid is_after.valid gives stays rest in
     inr (after.config, end.0, LineLeads-step given down flag plan count number stage step after end.0 is is_after gives each.0 end.1, end.2)
 
-IsNoStep-no_steps_json : (flag : Option Bool) (plan : ℕ) → IsNoStep (no_steps_json flag plan)
-IsNoStep-no_steps_json None plan = record { nothing = refl; nowhere = refl }
-IsNoStep-no_steps_json (Some flag) plan = record { nothing = refl; nowhere = refl }
+IsNoStep-no_steps_json : (down : Option Ids) (flag : Option Bool) (plan : ℕ) → IsNoStep (no_steps_json down flag plan)
+IsNoStep-no_steps_json None None plan = record { nothing = refl; nowhere = refl }
+IsNoStep-no_steps_json None (Some flag) plan = record { nothing = refl; nowhere = refl }
+IsNoStep-no_steps_json (Some down) None plan = record { nothing = refl; nowhere = refl }
+IsNoStep-no_steps_json (Some down) (Some flag) plan = record { nothing = refl; nowhere = refl }
 
 pub LinesLead-each_json : IsGiven → (down : Option Ids) (flag : Option Bool) (plan : ℕ) (now : Configuration) (steps : List Step) (target : Configuration)
     → IsValidWithVoter now → IsRun now steps target → stays_till_last steps ≡ true → list_all is_taken_as_it_is steps ≡ true
     → LinesLead now now (each_json down flag plan now steps) target
-LinesLead-each_json given down flag plan now [] target is run stays taken = inl (IsNoStep-no_steps_json flag plan, run)
+LinesLead-each_json given down flag plan now [] target is run stays taken = inl (IsNoStep-no_steps_json down flag plan, run)
 LinesLead-each_json given down flag plan now (step ∷ steps) target is run stays taken =
     LinesLead-steps given down flag plan (length (step ∷ steps)) 1 (first_stage now) (step ∷ steps) target is run stays taken

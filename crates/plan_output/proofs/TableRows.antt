@@ -14,12 +14,13 @@ use Rattle.plan_output.specs.Stages.{StageState}
 use Rattle.plan_output.specs.Table.{row, rows_of, stage_name, ids_on_the_way}
 
 -- one more row, and those after it
-pub rows_of-next : (ids : List ℕ) (down : Option Ids) (steps : List Step) (i : ℕ) (stage : StageState) (all : List StageState) (so_far : List (List (List ℕ)))
-    → i < length all → stage ≡ get_or all i stage
-    → (so_far ++ row ids down (stage_name steps i) stage ∷ []) ++ rows_of ids down steps (i + 1) (drop (i + 1) all) ≡ so_far ++ rows_of ids down steps i (drop i all)
-rows_of-next ids down steps i stage all so_far within is =
+pub rows_of-next : (name : ℕ → List ℕ) (ids : List ℕ) (down : Option Ids) (steps : List Step) (i : ℕ) (stage : StageState) (all : List StageState)
+    (so_far : List (List (List ℕ))) → i < length all → stage ≡ get_or all i stage
+    → (so_far ++ row name ids down (stage_name name steps i) stage ∷ []) ++ rows_of name ids down steps (i + 1) (drop (i + 1) all)
+    ≡ so_far ++ rows_of name ids down steps i (drop i all)
+rows_of-next name ids down steps i stage all so_far within is =
     append_assoc so_far _ _
-    ∙ sym (ap (λ more. so_far ++ rows_of ids down steps i more) (drop_more all i stage within ∙ ap (λ s. s ∷ drop (i + 1) all) (sym is)))
+    ∙ sym (ap (λ more. so_far ++ rows_of name ids down steps i more) (drop_more all i stage within ∙ ap (λ s. s ∷ drop (i + 1) all) (sym is)))
 
 -- the members of one more stage
 pub ids_on_the_way-one_more : (all : List StageState) (i : ℕ) (stage : StageState) (so_far : Ids) → i < length all → stage ≡ get_or all i stage → so_far ≡ ids_on_the_way (take i all)

@@ -18,6 +18,11 @@ abbrev pub count_json : Option ℕ → Data
 count_json None = null
 count_json (Some count) = number (unsigned count)
 
+-- the other keys, and before them the ids that are down, if ids are given
+abbrev pub with_down : Option Ids → Members → Members
+with_down None others = others
+with_down (Some down) others = member (codes "down") (ids_json (ascending down)) others
+
 -- the other keys, and before them how many may be down besides these ids, if ids are given that are down
 abbrev pub with_besides : Option Ids → StageState → Members → Members
 with_besides None stage others = others
@@ -28,19 +33,20 @@ abbrev pub with_stalls : Option Bool → Members → Members
 with_stalls None others = others
 with_stalls (Some stalls) others = member (codes "stalls") (boolean stalls) others
 
--- The keys of an object from `conf_change` on: what is proposed for the step, where it leads, what may be down there,
--- and which step of how many it is.
+-- The keys of an object from `conf_change` on: what is proposed for the step, where it leads, the ids that are down, how
+-- many may be down there, and which step of how many it is.
 abbrev pub step_keys : Option Ids → Option Bool → ℕ → ℕ → ℕ → StageState → Step → StageState → Members
 step_keys down stalls plan count number_of before step after =
     member (codes "conf_change") (conf_change_json (transition_of step) (proposed_changes before.config step))
     (member (codes "conf_state") (conf_state_json (lists_of after.config))
+    (with_down down
     (member (codes "may_be_down") (count_json (stage_may_be_down after))
     (with_besides down after
     (member (codes "plan") (number (unsigned plan))
     (with_stalls stalls
     (member (codes "step") (number (unsigned number_of))
     (member (codes "steps") (number (unsigned count))
-    (member (codes "until_then") (count_json (until_then after)) no_members))))))))
+    (member (codes "until_then") (count_json (until_then after)) no_members)))))))))
 
 -- the object of a step, which leads from the stage before it to the one after
 abbrev pub step_json : Option Ids → Option Bool → ℕ → ℕ → ℕ → StageState → Step → StageState → Data
@@ -56,13 +62,16 @@ steps_json down stalls plan count number_of before (step ∷ steps) =
     ∷ steps_json down stalls plan count (number_of + 1) (stage_after before.config step) steps
 
 -- the object of a path without a step
-abbrev pub no_steps_json : Option Bool → ℕ → Data
-no_steps_json stalls plan =
-    object (member (codes "plan") (number (unsigned plan)) (with_stalls stalls (member (codes "steps") (number (unsigned 0)) no_members)))
+abbrev pub no_steps_json : Option Ids → Option Bool → ℕ → Data
+no_steps_json down stalls plan =
+    object (with_down down
+    (member (codes "plan") (number (unsigned plan))
+    (with_stalls stalls
+    (member (codes "steps") (number (unsigned 0)) no_members))))
 
 -- the objects of these steps, or the one object if there is none
 abbrev pub each_json : Option Ids → Option Bool → ℕ → Configuration → List Step → List Data
-each_json down stalls plan now [] = no_steps_json stalls plan ∷ []
+each_json down stalls plan now [] = no_steps_json down stalls plan ∷ []
 each_json down stalls plan now (step ∷ steps) = steps_json down stalls plan (length (step ∷ steps)) 1 (first_stage now) (step ∷ steps)
 
 -- the objects of a path, in which a simple step of several changes is as many steps of one change each

@@ -7,44 +7,79 @@
 //! ```
 //!
 //! `L` marks a learner. All cells are own.
-ghost use Rattle.std.specs.Prelude.{◌≡◌, ◌++◌, decimal, length, IfOk, OnOk};
+ghost use Rattle.std.specs.Prelude.{◌≡◌, ◌<◌, ◌^◌, ◌∷◌, ◌++◌, flat_map, IfOk, OnOk};
 ghost use Rattle.quorum_sets.specs.Ids.{ascending};
-ghost use Rattle.conf_change.specs.Text.{spaced_numbers};
+ghost use Rattle.plan_output.specs.Names.{name_by, named_change, names_text};
 ghost use Rattle.plan_output.specs.Table as spec;
 
+use crate::names::Names;
 use crate::stage::Stage;
 use ascii_text::append::{append, append_number, append_times};
-use conf_change::{Config, Step};
+use conf_change::{Change, Config, Step};
 use conf_plan::{changes_text, command_text};
-use itoa::Buffer;
 use quorum_sets::{MemberSet, NoMemory, quorum};
 use std::alloc::Global;
 
-// The name of a step: its number, counted from 1, and its line, as in `1 simple l4 l5`.
-pub(crate) fn step_name(alloc: Global, number: usize, step: &Step) -> Result<Vec<u8>, NoMemory>
-    ensures { IfOk result (λ name. name.items ≡ spec.step_name number step.now) }
+// The name of a step: its number, counted from 1, and its line, as in `1 simple l4 l5` or `1 simple l#4 l#5`.
+pub(crate) fn step_name(
+    alloc: Global,
+    names: &Names,
+    number: usize,
+    step: &Step,
+) -> Result<Vec<u8>, NoMemory>
+    ensures { IfOk result (λ name. name.items ≡ spec.step_name (name_by names.now) number step.now) }
 {
     let mut name = Vec::new(alloc);
     append_number(&mut name, number as u64)?;
     append(&mut name, b" ")?;
     append(&mut name, command_text(step))?;
-    let changes = step.changes();
-    if !changes.is_empty() {
-        append(&mut name, b" ")?;
-        append(&mut name, changes_text(alloc, changes)?.as_slice())?;
-    }
+    append_changes(alloc, &mut name, names, step.changes())?;
     Ok(name)
 }
 
-// Ids, ascending, with one space between, as in `4 5`.
-pub(crate) fn ids_text<S: MemberSet>(alloc: Global, ids: &S) -> Result<Vec<u8>, NoMemory>
-    ensures { IfOk result (λ text. text.items ≡ spaced_numbers (ascending (S.ids ids.now))) }
+// Appends changes, each after a space.
+fn append_changes(
+    alloc: Global,
+    text: &mut Vec<u8>,
+    names: &Names,
+    changes: &[Change],
+) -> Result<(), NoMemory>
+    ensures { OnOk result (text.new.items ≡ text.old.items ++ flat_map (λ change. 32 ∷ named_change (name_by names.now) change) changes.now) }
+{
+    for change in changes {
+        append(text, b" ")?;
+        append_change(alloc, text, names, *change)?;
+    }
+    Ok(())
+}
+
+// Appends a change: its letter, with which its text begins, and the name of its id.
+fn append_change(
+    alloc: Global,
+    text: &mut Vec<u8>,
+    names: &Names,
+    change: Change,
+) -> Result<(), NoMemory>
+    ensures { OnOk result (text.new.items ≡ text.old.items ++ named_change (name_by names.now) change) }
+{
+    let with_digits = changes_text(alloc, &[change])?;
+    append(text, &with_digits.as_slice()[..1])?;
+    names.append(text, change.id)
+}
+
+// The names of ids, ascending, with one space between, as in `4 5` or `#4 #5`.
+pub(crate) fn names_text<S: MemberSet>(
+    alloc: Global,
+    names: &Names,
+    ids: &S,
+) -> Result<Vec<u8>, NoMemory>
+    ensures { IfOk result (λ text. text.items ≡ names_text (name_by names.now) (ascending (S.ids ids.now))) }
 {
     let mut text = Vec::new(alloc);
     for index in 0..ids.len() {
         if let Some(id) = ids.at(index) {
             append_gap(&mut text, index)?;
-            append_number(&mut text, id)?;
+            names.append(&mut text, id)?;
         }
     }
     Ok(text)
@@ -60,36 +95,37 @@ fn append_gap(text: &mut Vec<u8>, index: usize) -> Result<(), NoMemory>
     Ok(())
 }
 
-// The marks of these ids, each flush right below its id.
+// The marks of these ids, each flush right below the name of its id.
 pub(crate) fn marks_text<S: MemberSet>(
     alloc: Global,
+    names: &Names,
     ids: &S,
     config: &Config<S>,
 ) -> Result<Vec<u8>, NoMemory>
-    ensures { IfOk result (λ text. text.items ≡ spec.marks_text (ascending (S.ids ids.now)) config.now) }
+    ensures { IfOk result (λ text. text.items ≡ spec.marks_text (name_by names.now) (ascending (S.ids ids.now)) config.now) }
 {
     let mut text = Vec::new(alloc);
     for index in 0..ids.len() {
         if let Some(id) = ids.at(index) {
             append_gap(&mut text, index)?;
-            append_mark(&mut text, config, id)?;
+            append_mark(&mut text, config, id, names.len(id))?;
         }
     }
     Ok(text)
 }
 
-// Appends the mark of an id, padded on the left to the length of the id.
+// Appends the mark of an id, padded on the left to this width.
 fn append_mark<S: MemberSet>(
     text: &mut Vec<u8>,
     config: &Config<S>,
     id: u64,
+    width: usize,
 ) -> Result<(), NoMemory>
-    ensures { OnOk result (text.new.items ≡ text.old.items ++ spec.flush_right (length (decimal id)) (spec.mark config.now id)) }
+    requires { width < 2 ^ 63 }
+    ensures { OnOk result (text.new.items ≡ text.old.items ++ spec.flush_right width (spec.mark config.now id)) }
 {
     let mark = mark(config, id);
-    let mut buffer = Buffer::new();
-    let digits = buffer.format(id).as_bytes();
-    append_times(text, b' ', digits.len().saturating_sub(mark.len()))?;
+    append_times(text, b' ', width.saturating_sub(mark.len()))?;
     append(text, mark)
 }
 
@@ -167,10 +203,14 @@ pub(crate) fn until_text<S: MemberSet>(alloc: Global, stage: &Stage<S>) -> Resul
 }
 
 // The heading of the last column: `besides 4 6`.
-pub(crate) fn besides_heading<S: MemberSet>(alloc: Global, down: &S) -> Result<Vec<u8>, NoMemory>
-    ensures { IfOk result (λ text. text.items ≡ spec.besides_heading (S.ids down.now)) }
+pub(crate) fn besides_heading<S: MemberSet>(
+    alloc: Global,
+    names: &Names,
+    down: &S,
+) -> Result<Vec<u8>, NoMemory>
+    ensures { IfOk result (λ text. text.items ≡ spec.besides_heading (name_by names.now) (S.ids down.now)) }
 {
-    let ids = ids_text(alloc, down)?;
+    let ids = names_text(alloc, names, down)?;
     let mut text = Vec::from_slice(alloc, b"besides ")?;
     append(&mut text, ids.as_slice())?;
     Ok(text)

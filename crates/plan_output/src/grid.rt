@@ -5,12 +5,11 @@
 //! ["now", "2 of 3"]        ->    now          2 of 3
 //! ["1 simple v4", ""]            1 simple v4
 //! ```
-ghost use Rattle.std.specs.Prelude.{◌≡◌, ℕ, ◌<◌, ◌≤◌, ◌^◌, [], ◌∷◌, ◌++◌, length, flat_map, slice_index, IfOk, OnOk, OnErr};
-ghost use Rattle.ascii_text.specs.Append.{Extends};
+ghost use Rattle.std.specs.Prelude.{◌≡◌, ℕ, ◌<◌, ◌≤◌, ◌^◌, [], ◌∷◌, ◌++◌, length, flat_map, slice_index, IfOk, OnOk};
 ghost use Rattle.plan_output.specs.Grid as grid;
 ghost use Rattle.plan_output.specs.Grid.{cell, width, line_of_row, grid_text};
 
-use ascii_text::append::{append, append_times, keep_whole};
+use ascii_text::append::{append, append_times};
 use ascii_text::white_space::without_trailing_space;
 use quorum_sets::NoMemory;
 use std::alloc::Global;
@@ -66,16 +65,13 @@ impl Row {
     }
 }
 
-/// Appends rows as lines. Each column is as wide as its widest cell, columns are two spaces apart, and no line has
-/// white space at its end. On `NoMemory` the text is unchanged (own).
-pub(crate) fn add_grid(alloc: Global, text: &mut Vec<u8>, rows: &[Row]) -> Result<(), NoMemory>
-    ensures ok { OnOk result (text.new.items ≡ text.old.items ++ grid_text rows.now) }
-    ensures err { OnErr result (text.new.items ≡ text.old.items) }
+/// Rows as lines. Each column is as wide as its widest cell, columns are two spaces apart, and no line has white space
+/// at its end (own).
+pub(crate) fn grid_text(alloc: Global, rows: &[Row]) -> Result<Vec<u8>, NoMemory>
+    ensures { IfOk result (λ text. text.items ≡ grid_text rows.now) }
 {
     let widths = widths(alloc, rows)?;
-    let len = text.len();
-    let appended = append_lines(alloc, text, rows, widths.as_slice());
-    keep_whole(text, len, appended)
+    lines_text(alloc, rows, widths.as_slice())
 }
 
 // The width of each column: that of its widest cell.
@@ -113,23 +109,18 @@ fn width(rows: &[Row], column: usize) -> usize
     width
 }
 
-// Appends a line for each row, by the widths of the columns. On `NoMemory` some lines may be there.
-fn append_lines(
-    alloc: Global,
-    text: &mut Vec<u8>,
-    rows: &[Row],
-    widths: &[usize],
-) -> Result<(), NoMemory>
+// A line for each row, by the widths of the columns.
+fn lines_text(alloc: Global, rows: &[Row], widths: &[usize]) -> Result<Vec<u8>, NoMemory>
     requires { (column : ℕ) → slice_index widths.now column < 2 ^ 63 }
-    ensures ok { OnOk result (text.new.items ≡ text.old.items ++ flat_map (line_of_row (slice_index widths.now)) rows.now) }
-    ensures extends { Extends text.old.items text.new.items }
+    ensures { IfOk result (λ text. text.items ≡ flat_map (line_of_row (slice_index widths.now)) rows.now) }
 {
+    let mut text = Vec::new(alloc);
     for row in rows {
         let cells = cells_text(alloc, row, widths)?;
-        append(text, without_trailing_space(cells.as_slice()))?;
-        append(text, b"\n")?;
+        append(&mut text, without_trailing_space(cells.as_slice()))?;
+        append(&mut text, b"\n")?;
     }
-    Ok(())
+    Ok(text)
 }
 
 // The cells of a row, each padded with spaces to the width of its column and followed by two spaces. The caller cuts

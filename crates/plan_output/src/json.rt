@@ -15,8 +15,10 @@
 //! etcd's raft would make them through a joint configuration that it leaves by itself, in which etcd 3.4.23 panics if
 //! entries are applied meanwhile.
 ghost use Rattle.std.specs.Prelude.{◌≡◌, ◌++◌, false, None, Some, IfOk, OnOk, OnErr, flat_map, option_copied, option_map};
+ghost use Rattle.quorum_sets.specs.Ids.{ascending};
 ghost use Rattle.serde_json.specs.View.{view, members_view};
 ghost use Rattle.serde_json.specs.Written.{has_float};
+ghost use Rattle.raft_json.specs.IdsJson.{ids_json};
 ghost use Rattle.plan_output.specs.Json as spec;
 ghost use Rattle.plan_output.specs.Stages as stage_spec;
 ghost use Rattle.plan_output.specs.Json.{each_json, json_text, value_line, no_plan_json, no_steps_json, step_json};
@@ -45,10 +47,10 @@ struct Number {
 
 /// Appends an object for each change that is proposed, each on its own line: for each step of a path one, and for each
 /// change of a simple step one. It has what is proposed to etcd, the configuration after it, and how many failures that
-/// tolerates. With `down` it also has how many ids may be down besides these, while the members that have to catch up do
-/// not count either, and whether the path stalls. A path without a step is one line, `{"plan":1,"steps":0}`, or with
-/// `down` `{"plan":1,"stalls":false,"steps":0}`, where `stalls` is `true` if the configuration stalls. `plan` is the
-/// number of the path, as the caller counts. On `NoMemory` the text is unchanged (own).
+/// tolerates. With `down` it also has these ids, how many may be down besides them, while the members that have to catch
+/// up do not count either, and whether the path stalls. A path without a step is one line, `{"plan":1,"steps":0}`, or with
+/// `down` `{"down":[4],"plan":1,"stalls":false,"steps":0}`, where `stalls` is `true` if the configuration stalls. `plan` is
+/// the number of the path, as the caller counts. On `NoMemory` the text is unchanged (own).
 pub fn add_json_lines<S: MemberSet>(
     alloc: Global,
     text: &mut Vec<u8>,
@@ -108,7 +110,8 @@ fn lines_of<S: MemberSet>(
 {
     let mut lines = Vec::new(alloc);
     if path.len() == 0 {
-        add_line(alloc, &mut lines, &no_steps_value(alloc, plan, stalls)?)?;
+        let value = no_steps_value(alloc, plan, down, stalls)?;
+        add_line(alloc, &mut lines, &value)?;
         return Ok(lines);
     }
     let steps = path.as_slice();
@@ -160,10 +163,18 @@ fn add_step<S: MemberSet>(
 }
 
 // The object of a path without a step.
-fn no_steps_value(alloc: Global, plan: u64, stalls: Option<bool>) -> Result<Value, NoMemory>
-    ensures { IfOk result (λ v. view v ≡ no_steps_json stalls plan) }
+fn no_steps_value<S: MemberSet>(
+    alloc: Global,
+    plan: u64,
+    down: Option<&S>,
+    stalls: Option<bool>,
+) -> Result<Value, NoMemory>
+    ensures { IfOk result (λ v. view v ≡ no_steps_json (option_map S.ids (option_copied down.entry)) stalls plan) }
 {
     let mut members = Map::new(alloc);
+    if let Some(down) = down {
+        put(&mut members, alloc, "down", set_value(alloc, down)?)?;
+    }
     put(&mut members, alloc, "plan", Value::from(plan))?;
     if let Some(stalls) = stalls {
         put(&mut members, alloc, "stalls", Value::Bool(stalls))?;
@@ -195,15 +206,24 @@ fn step_value<S: MemberSet>(
             "may_be_down_besides",
             count_value(after.may_be_down_besides(down)?),
         )?;
+        let ids_down = set_value(alloc, down)?;
+        put(&mut members, alloc, "down", ids_down)?;
     }
-    let catch_up = list_of(alloc, after.catching_up())?;
     put(
         &mut members,
         alloc,
         "catch_up",
-        ids_value(alloc, catch_up.as_slice())?,
+        set_value(alloc, after.catching_up())?,
     )?;
     Ok(Value::Object(members))
+}
+
+// The ids of a set, in ascending order.
+fn set_value<S: MemberSet>(alloc: Global, ids: &S) -> Result<Value, NoMemory>
+    ensures { IfOk result (λ v. view v ≡ ids_json (ascending (S.ids ids.now))) }
+{
+    let list = list_of(alloc, ids)?;
+    ids_value(alloc, list.as_slice())
 }
 
 // The keys `conf_change` to `until_then`, which every object of a step has.

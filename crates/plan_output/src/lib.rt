@@ -29,6 +29,7 @@ mod cells;
 mod grid;
 mod json;
 pub mod laws;
+mod names;
 mod stage;
 mod steps;
 mod table;

@@ -6,20 +6,24 @@
 //! simple r5
 //! ```
 ghost use Rattle.std.specs.Prelude.{◌≡◌, ◌++◌, Ok, option_copied, option_map, IfOk, OnOk};
+ghost use Rattle.quorum_sets.specs.Ids.{ascending};
+ghost use Rattle.conf_change.specs.Text.{spaced_numbers};
 ghost use Rattle.conf_plan.specs.PlanCode.{path_in};
 ghost use Rattle.conf_plan.specs.PlanText.{plan_text};
 ghost use Rattle.plan_output.specs.Steps as spec;
 ghost use Rattle.plan_output.specs.Steps.{note_line};
 
-use crate::cells::ids_text;
+use crate::cells::names_text;
+use crate::names::Names;
 use crate::stage::stalls;
 use conf_change::Config;
 use conf_plan::{Path, print_path};
-use quorum_sets::{MemberSet, NoMemory};
+use quorum_sets::{MemberSet, NoMemory, commits_without};
 use std::alloc::Global;
 
-/// The note that a path stalls with the ids that are down, such as `stalls with 4 5 down`. `None` if it does not stall,
-/// or if no ids are given (own).
+/// The note that a path stalls with the ids that are down, such as `stalls with 4 5 down`. If no step can be made, since
+/// the configuration with which the path begins has no quorum then, it is `no quorum with 4 5 down: no step can be made`.
+/// `None` if the path does not stall, or if no ids are given (own).
 pub fn stall_note<S: MemberSet>(
     alloc: Global,
     now: &Config<S>,
@@ -29,18 +33,40 @@ pub fn stall_note<S: MemberSet>(
     ensures { IfOk result (λ note. option_map (λ note. note.items) note ≡ spec.stall_note (option_map S.ids (option_copied down.entry)) now.now path.now) }
 {
     match down {
-        Some(down) if stalls(alloc, now, path, down)? => Ok(Some(stall_text(alloc, down)?)),
+        Some(down) if stalls(alloc, now, path, down)? => Ok(Some(stall_text(alloc, now, down)?)),
         _ => Ok(None),
     }
 }
 
 // The text of that note.
-fn stall_text<S: MemberSet>(alloc: Global, down: &S) -> Result<Vec<u8>, NoMemory>
-    ensures { IfOk result (λ text. text.items ≡ spec.stall_text (S.ids down.now)) }
+fn stall_text<S: MemberSet>(alloc: Global, now: &Config<S>, down: &S) -> Result<Vec<u8>, NoMemory>
+    ensures { IfOk result (λ text. text.items ≡ spec.stall_text now.now (S.ids down.now)) }
 {
-    let mut text = Vec::from_slice(alloc, b"stalls with ")?;
-    text.extend_from_slice(ids_text(alloc, down)?.as_slice())?;
-    text.extend_from_slice(b" down")?;
+    if commits_without((&now.incoming, &now.outgoing), down) {
+        around_ids(alloc, b"stalls with ", down, b" down")
+    } else {
+        around_ids(
+            alloc,
+            b"no quorum with ",
+            down,
+            b" down: no step can be made",
+        )
+    }
+}
+
+// Ids between two texts.
+fn around_ids<S: MemberSet>(
+    alloc: Global,
+    before: &[u8],
+    ids: &S,
+    after: &[u8],
+) -> Result<Vec<u8>, NoMemory>
+    ensures { IfOk result (λ text. text.items ≡ before.now ++ spaced_numbers (ascending (S.ids ids.now)) ++ after.now) }
+{
+    let digits = names_text(alloc, &Names::digits(alloc), ids)?;
+    let mut text = Vec::from_slice(alloc, before)?;
+    text.extend_from_slice(digits.as_slice())?;
+    text.extend_from_slice(after)?;
     Ok(text)
 }
 

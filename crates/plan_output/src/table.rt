@@ -7,17 +7,22 @@
 //! now          V V V .  2 of 3    1                                  0
 //! 1 simple v4  V V V V  3 of 4    1            4         0           stalls
 //! ```
+//!
+//! If an id has more than six digits, the table calls its ids by numbers ([`Names`]).
 ghost use Rattle.std.specs.Prelude.{◌≡◌, ◌++◌, option_copied, option_map, IfOk, OnOk, OnErr};
 ghost use Rattle.quorum_sets.specs.Ids.{ascending};
 ghost use Rattle.quorum_sets.specs.Ids.{union as set_union};
+ghost use Rattle.plan_output.specs.Names.{name_by};
 ghost use Rattle.plan_output.specs.Table as spec;
 ghost use Rattle.plan_output.specs.Table.{table_text};
 
 use crate::cells::{
-    besides_heading, down_text, ids_text, majority_text, marks_text, step_name, until_text,
+    besides_heading, down_text, majority_text, marks_text, names_text, step_name, until_text,
 };
-use crate::grid::{Row, add_grid};
+use crate::grid::{Row, grid_text};
+use crate::names::{Names, denoted_text};
 use crate::stage::{Stage, stages};
+use ascii_text::append::append;
 use conf_change::Config;
 use conf_plan::Path;
 use quorum_sets::{MemberSet, NoMemory, union};
@@ -26,8 +31,9 @@ use std::alloc::Global;
 /// Appends the table of a path: a row for the configuration with which it begins, and one for each step with the
 /// configuration after it. A row shows who votes and learns there, the majority, how many may be down, who has to catch
 /// up, and how many may be down until then. With `down`, the last column shows how many may be down besides these,
-/// while the members that have to catch up do not count either. Each line ends with a newline. On `NoMemory` the text
-/// is unchanged (own).
+/// while the members that have to catch up do not count either. Each line ends with a newline. If an id of a column has
+/// more than six digits, these ids are called `#1`, `#2` and so on, and an empty line and a line for each of them follow.
+/// On `NoMemory` the text is unchanged (own).
 pub fn add_table<S: MemberSet>(
     alloc: Global,
     text: &mut Vec<u8>,
@@ -39,25 +45,45 @@ pub fn add_table<S: MemberSet>(
     ensures err { OnErr result (text.new.items ≡ text.old.items) }
 {
     let stages = stages(alloc, now, path)?;
-    let rows = rows(alloc, stages.as_slice(), path, down)?;
-    add_grid(alloc, text, rows.as_slice())
+    let table = table_of(alloc, stages.as_slice(), path, down)?;
+    append(text, table.as_slice())
 }
 
-// The row of headings, and a row for each stage of the path.
-fn rows<S: MemberSet>(
+// The table of these stages. It is made apart from the text, so that all of it is appended or nothing.
+fn table_of<S: MemberSet>(
     alloc: Global,
     stages: &[Stage<S>],
     path: &Path,
     down: Option<&S>,
-) -> Result<Vec<Row>, NoMemory>
-    ensures { IfOk result (λ rows. rows.items ≡ spec.stage_rows stages.now path.now (option_map S.ids (option_copied down.entry))) }
+) -> Result<Vec<u8>, NoMemory>
+    ensures { IfOk result (λ table. table.items
+        ≡ spec.table_of (ascending (spec.ids_on_the_way stages.now)) stages.now path.now (option_map S.ids (option_copied down.entry))) }
 {
     let ids = ids_on_the_way(alloc, stages)?;
+    let names = Names::of_columns(alloc, &ids)?;
+    let rows = rows(alloc, &names, &ids, stages, path, down)?;
+    let mut table = grid_text(alloc, rows.as_slice())?;
+    append(&mut table, denoted_text(alloc, &names)?.as_slice())?;
+    Ok(table)
+}
+
+// The row of headings, and a row for each stage of the path, with columns for these ids.
+fn rows<S: MemberSet>(
+    alloc: Global,
+    names: &Names,
+    ids: &S,
+    stages: &[Stage<S>],
+    path: &Path,
+    down: Option<&S>,
+) -> Result<Vec<Row>, NoMemory>
+    ensures { IfOk result (λ rows. rows.items
+        ≡ spec.stage_rows (name_by names.now) (ascending (S.ids ids.now)) stages.now path.now (option_map S.ids (option_copied down.entry))) }
+{
     let mut rows = Vec::new(alloc);
-    rows.push(headings(alloc, &ids, down)?)?;
+    rows.push(headings(alloc, names, ids, down)?)?;
     for (index, stage) in stages.iter().enumerate() {
-        let name = stage_name(alloc, path, index)?;
-        rows.push(row(alloc, &ids, down, name, stage)?)?;
+        let name = stage_name(alloc, names, path, index)?;
+        rows.push(row(alloc, names, ids, down, name, stage)?)?;
     }
     Ok(rows)
 }
@@ -82,30 +108,35 @@ fn members<S: MemberSet>(config: &Config<S>) -> Result<S, NoMemory>
     union(&voters, &config.learners)
 }
 
-// The headings of the columns; the second one is the ids on the way.
-fn headings<S: MemberSet>(alloc: Global, ids: &S, down: Option<&S>) -> Result<Row, NoMemory>
-    ensures { IfOk result (λ row. row ≡ spec.headings (ascending (S.ids ids.now)) (option_map S.ids (option_copied down.entry))) }
+// The headings of the columns; the second one is the names of the ids.
+fn headings<S: MemberSet>(
+    alloc: Global,
+    names: &Names,
+    ids: &S,
+    down: Option<&S>,
+) -> Result<Row, NoMemory>
+    ensures { IfOk result (λ row. row ≡ spec.headings (name_by names.now) (ascending (S.ids ids.now)) (option_map S.ids (option_copied down.entry))) }
 {
     let mut row = Row::new(alloc);
     row.add(Vec::from_slice(alloc, b"step")?)?;
-    row.add(ids_text(alloc, ids)?)?;
+    row.add(names_text(alloc, names, ids)?)?;
     row.add(Vec::from_slice(alloc, b"majority")?)?;
     row.add(Vec::from_slice(alloc, b"may be down")?)?;
     row.add(Vec::from_slice(alloc, b"catch up")?)?;
     row.add(Vec::from_slice(alloc, b"until then")?)?;
     if let Some(down) = down {
-        row.add(besides_heading(alloc, down)?)?;
+        row.add(besides_heading(alloc, names, down)?)?;
     }
     Ok(row)
 }
 
 // The name of a stage: `now`, or the step that leads to it. Stage 0 is before the first step.
-fn stage_name(alloc: Global, path: &Path, index: usize) -> Result<Vec<u8>, NoMemory>
-    ensures { IfOk result (λ name. name.items ≡ spec.stage_name path.now index) }
+fn stage_name(alloc: Global, names: &Names, path: &Path, index: usize) -> Result<Vec<u8>, NoMemory>
+    ensures { IfOk result (λ name. name.items ≡ spec.stage_name (name_by names.now) path.now index) }
 {
     if index > 0 {
         if let Some(step) = path.step(index - 1) {
-            return step_name(alloc, index, step);
+            return step_name(alloc, names, index, step);
         }
     }
     Ok(Vec::from_slice(alloc, b"now")?)
@@ -114,19 +145,21 @@ fn stage_name(alloc: Global, path: &Path, index: usize) -> Result<Vec<u8>, NoMem
 // The row of a stage, which begins with its name.
 fn row<S: MemberSet>(
     alloc: Global,
+    names: &Names,
     ids: &S,
     down: Option<&S>,
     name: Vec<u8>,
     stage: &Stage<S>,
 ) -> Result<Row, NoMemory>
-    ensures { IfOk result (λ row. row ≡ spec.row (ascending (S.ids ids.now)) (option_map S.ids (option_copied down.entry)) name.items stage.now) }
+    ensures { IfOk result (λ row. row
+        ≡ spec.row (name_by names.now) (ascending (S.ids ids.now)) (option_map S.ids (option_copied down.entry)) name.items stage.now) }
 {
     let mut row = Row::new(alloc);
     row.add(name)?;
-    row.add(marks_text(alloc, ids, stage.config())?)?;
+    row.add(marks_text(alloc, names, ids, stage.config())?)?;
     row.add(majority_text(alloc, stage.config())?)?;
     row.add(down_text(alloc, stage.may_be_down())?)?;
-    row.add(ids_text(alloc, stage.catching_up())?)?;
+    row.add(names_text(alloc, names, stage.catching_up())?)?;
     row.add(until_text(alloc, stage)?)?;
     if let Some(down) = down {
         row.add(down_text(alloc, stage.may_be_down_besides(down)?)?)?;

@@ -13,3 +13,4 @@ mod plan_inputs;
 mod plans;
 #[cfg(test)]
 mod printed_paths;
+mod stall_notes;

@@ -34,7 +34,7 @@ const THREE: &str = "Voters:[1 2 3] VotersOutgoing:[] Learners:[] LearnersNext:[
 const OTHERS_OF_FIVE: &str =
     "Voters:[1 2 3 6 7] VotersOutgoing:[] Learners:[] LearnersNext:[] AutoLeave:false";
 
-static ROWS: [Row; 16] = [
+static ROWS: [Row; 19] = [
     Row {
         now: FIVE,
         target: TWO_OF_FIVE,
@@ -148,14 +148,76 @@ static ROWS: [Row; 16] = [
     },
     // The column of an id is as wide as the id.
     Row {
-        now: "Voters:[9 10 18446744073709551615] VotersOutgoing:[] Learners:[] LearnersNext:[] AutoLeave:false",
-        target: "Voters:[9 10 11 18446744073709551615] VotersOutgoing:[] Learners:[] LearnersNext:[] AutoLeave:false",
+        now: "Voters:[9 10 999999] VotersOutgoing:[] Learners:[] LearnersNext:[] AutoLeave:false",
+        target: "Voters:[9 10 11 999999] VotersOutgoing:[] Learners:[] LearnersNext:[] AutoLeave:false",
         strategy: Strategy::Shortest,
         down: &[],
         printed: Printed::Table(
-            "step          9 10 11 18446744073709551615  majority  may be down  catch up  until then\n\
-            now           V  V  .                    V  2 of 3    1\n\
-            1 simple v11  V  V  V                    V  3 of 4    1            11        0\n",
+            "step          9 10 11 999999  majority  may be down  catch up  until then\n\
+            now           V  V  .      V  2 of 3    1\n\
+            1 simple v11  V  V  V      V  3 of 4    1            11        0\n",
+        ),
+        stalls: false,
+    },
+    // One id has more than six digits, so all are called by numbers.
+    Row {
+        now: "Voters:[9 10 1000000] VotersOutgoing:[] Learners:[] LearnersNext:[] AutoLeave:false",
+        target: "Voters:[9 10 11 1000000] VotersOutgoing:[] Learners:[] LearnersNext:[] AutoLeave:false",
+        strategy: Strategy::Shortest,
+        down: &[],
+        printed: Printed::Table(
+            "step          #1 #2 #3 #4  majority  may be down  catch up  until then\n\
+            now            V  V  .  V  2 of 3    1\n\
+            1 simple v#3   V  V  V  V  3 of 4    1            #3        0\n\
+            \n\
+            #1  9        9\n\
+            #2  10       a\n\
+            #3  11       b\n\
+            #4  1000000  f4240\n",
+        ),
+        stalls: false,
+    },
+    // The ids of an etcd cluster, in which 4 replaces a server that is down.
+    Row {
+        now: "Voters:[10276657743932975437 10501334649042878790 18249187646912138824] VotersOutgoing:[] Learners:[] LearnersNext:[] AutoLeave:false",
+        target: "Voters:[4 10501334649042878790 18249187646912138824] VotersOutgoing:[] Learners:[] LearnersNext:[] AutoLeave:false",
+        strategy: Strategy::OneAtATime,
+        down: &[10276657743932975437],
+        printed: Printed::Table(
+            "step          #1 #2 #3 #4  majority  may be down  catch up  until then  besides #2\n\
+            now            .  V  V  V  2 of 3    1                                  0\n\
+            1 simple r#2   .  .  V  V  2 of 2    0                                  0\n\
+            2 simple l#1   L  .  V  V  2 of 2    0            #1        0           0\n\
+            3 simple v#1   V  .  V  V  2 of 3    1                                  1\n\
+            \n\
+            #1  4                     4\n\
+            #2  10276657743932975437  8e9e05c52164694d\n\
+            #3  10501334649042878790  91bc3c398fb3c146\n\
+            #4  18249187646912138824  fd422379fda50e48\n",
+        ),
+        stalls: false,
+    },
+    // With more than nine numbers, and several ids in a cell. An id that is down and has no column keeps its digits.
+    Row {
+        now: "Voters:[1 2 3 4 5 6 7 8] VotersOutgoing:[] Learners:[] LearnersNext:[] AutoLeave:false",
+        target: "Voters:[1 2 3 4 5 6 7 8] VotersOutgoing:[] Learners:[9 18446744073709551615] LearnersNext:[] AutoLeave:false",
+        strategy: Strategy::Shortest,
+        down: &[2, 1, 7000000],
+        printed: Printed::Table(
+            "step               #1 #2 #3 #4 #5 #6 #7 #8 #9 #10  majority  may be down  catch up  until then  besides #1 #2 7000000\n\
+            now                 V  V  V  V  V  V  V  V  .   .  5 of 8    3                                  1\n\
+            1 simple l#9 l#10   V  V  V  V  V  V  V  V  L   L  5 of 8    3            #9 #10    3           1\n\
+            \n\
+            #1   1                     1\n\
+            #2   2                     2\n\
+            #3   3                     3\n\
+            #4   4                     4\n\
+            #5   5                     5\n\
+            #6   6                     6\n\
+            #7   7                     7\n\
+            #8   8                     8\n\
+            #9   9                     9\n\
+            #10  18446744073709551615  ffffffffffffffff\n",
         ),
         stalls: false,
     },
@@ -179,7 +241,7 @@ static ROWS: [Row; 16] = [
         strategy: Strategy::Shortest,
         down: &[9],
         printed: Printed::Json(
-            "{\"catch_up\":[4,5],\"conf_change\":{\"changes\":[{\"node_id\":1,\"type\":\"ConfChangeRemoveNode\"},{\"node_id\":2,\"type\":\"ConfChangeRemoveNode\"},{\"node_id\":4,\"type\":\"ConfChangeAddNode\"},{\"node_id\":5,\"type\":\"ConfChangeAddNode\"}],\"transition\":\"ConfChangeTransitionJointImplicit\"},\"conf_state\":{\"auto_leave\":true,\"learners\":[],\"learners_next\":[],\"voters\":[3,4,5],\"voters_outgoing\":[1,2,3]},\"may_be_down\":1,\"may_be_down_besides\":null,\"plan\":1,\"stalls\":true,\"step\":1,\"steps\":1,\"until_then\":null}\n",
+            "{\"catch_up\":[4,5],\"conf_change\":{\"changes\":[{\"node_id\":1,\"type\":\"ConfChangeRemoveNode\"},{\"node_id\":2,\"type\":\"ConfChangeRemoveNode\"},{\"node_id\":4,\"type\":\"ConfChangeAddNode\"},{\"node_id\":5,\"type\":\"ConfChangeAddNode\"}],\"transition\":\"ConfChangeTransitionJointImplicit\"},\"conf_state\":{\"auto_leave\":true,\"learners\":[],\"learners_next\":[],\"voters\":[3,4,5],\"voters_outgoing\":[1,2,3]},\"down\":[9],\"may_be_down\":1,\"may_be_down_besides\":null,\"plan\":1,\"stalls\":true,\"step\":1,\"steps\":1,\"until_then\":null}\n",
         ),
         stalls: true,
     },
@@ -190,7 +252,7 @@ static ROWS: [Row; 16] = [
         strategy: Strategy::Shortest,
         down: &[3],
         printed: Printed::Json(
-            "{\"catch_up\":[],\"conf_change\":{\"changes\":[{\"node_id\":2,\"type\":\"ConfChangeUpdateNode\"}],\"transition\":\"ConfChangeTransitionJointExplicit\"},\"conf_state\":{\"auto_leave\":false,\"learners\":[],\"learners_next\":[],\"voters\":[2,3],\"voters_outgoing\":[2,3]},\"may_be_down\":0,\"may_be_down_besides\":null,\"plan\":1,\"stalls\":true,\"step\":1,\"steps\":1,\"until_then\":0}\n",
+            "{\"catch_up\":[],\"conf_change\":{\"changes\":[{\"node_id\":2,\"type\":\"ConfChangeUpdateNode\"}],\"transition\":\"ConfChangeTransitionJointExplicit\"},\"conf_state\":{\"auto_leave\":false,\"learners\":[],\"learners_next\":[],\"voters\":[2,3],\"voters_outgoing\":[2,3]},\"down\":[3],\"may_be_down\":0,\"may_be_down_besides\":null,\"plan\":1,\"stalls\":true,\"step\":1,\"steps\":1,\"until_then\":0}\n",
         ),
         stalls: true,
     },
@@ -233,13 +295,13 @@ static ROWS: [Row; 16] = [
         ),
         stalls: false,
     },
-    // The current configuration stalls, and the path has no step.
+    // The current configuration stalls, and the path has no step. The ids that are down are listed in ascending order.
     Row {
         now: THREE,
         target: THREE,
         strategy: Strategy::Shortest,
-        down: &[1, 2],
-        printed: Printed::Json("{\"plan\":1,\"stalls\":true,\"steps\":0}\n"),
+        down: &[2, 1],
+        printed: Printed::Json("{\"down\":[1,2],\"plan\":1,\"stalls\":true,\"steps\":0}\n"),
         stalls: true,
     },
 ];

@@ -156,7 +156,7 @@ const STALLED_AT_FIRST: &[u8] =
 const OBJECT: &[u8] = b"{\"catch_up\":[],\
     \"conf_change\":{\"changes\":[{\"node_id\":2,\"type\":\"ConfChangeRemoveNode\"}],\"transition\":\"ConfChangeTransitionAuto\"},\
     \"conf_state\":{\"auto_leave\":false,\"learners\":[],\"learners_next\":[],\"voters\":[1],\"voters_outgoing\":[]},\
-    \"may_be_down\":0,\"may_be_down_besides\":0,\"plan\":1,\"stalls\":true,\"step\":1,\"steps\":1,\"until_then\":0}\n";
+    \"down\":[2],\"may_be_down\":0,\"may_be_down_besides\":0,\"plan\":1,\"stalls\":true,\"step\":1,\"steps\":1,\"until_then\":0}\n";
 
 // A pair with a path, one with nothing to do, and two that have no path by the strategy one-at-a-time.
 const FOUR_PAIRS: &[u8] = b"{\"voters\":[1,2]}\n{\"voters\":[1]}\n\
@@ -275,7 +275,7 @@ pub(crate) static PLANNED: [Case; 12] = [
     (
         Command::Plan(Strategy::Shortest, PlanOutput::Steps, &[2]),
         REMOVED,
-        b"# stalls with 2 down\nsimple r2\n",
+        b"# no quorum with 2 down: no step can be made\nsimple r2\n",
         DIFFERENT,
     ),
     (

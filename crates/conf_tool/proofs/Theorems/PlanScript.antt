@@ -4,6 +4,7 @@ use Rattle.std.specs.Prelude.{⊤, Option, Some, None, Result, Ok, Err, codes, n
 use Rattle.std.specs.List.{list_all, ends_with}
 use Rattle.std.proofs.lemmas.List.{append_assoc, append-nil}
 use Rattle.quorum_sets.specs.Ids.{Ids, ascending}
+use Rattle.quorum_sets.specs.Tolerance.{commits_without}
 use Rattle.ascii_text.specs.Lines.{newline}
 use Rattle.ascii_text.proofs.Offered.{list-by_last}
 use Rattle.dd_file.specs.DirectiveText.{DirectiveText}
@@ -13,7 +14,7 @@ use Rattle.dd_file.specs.Laws.{is_line, IsWellFormed, DirectiveIsWellFormed, Wri
 use Rattle.dd_file.specs.declared.item.Item.{Item}
 use Rattle.dd_file.specs.declared.item.Item.TheVariants.{Blank, Directive}
 use Rattle.dd_file.proofs.Offered.{double_end-after, double_end-pushed, ends_with-append}
-use Rattle.conf_change.specs.Configuration.{Configuration, has_voter}
+use Rattle.conf_change.specs.Configuration.{Configuration, has_voter, voters_of}
 use Rattle.conf_change.specs.ConfState.{lists_of}
 use Rattle.conf_change.specs.ConfStateLine.{conf_state_text}
 use Rattle.conf_change.specs.Text.{spaced_numbers}
@@ -98,17 +99,24 @@ restore-read : DirectiveIsWellFormed → (c : Configuration) → CanBeRead (rest
 unfolding restore_directive
 restore-read given c = record { given = (restore-given given c, tt); keys = refl; short = refl }
 
-stall_text-bytes : (down : Ids) → list_all is_line_byte (stall_text down) ≡ true
-stall_text-bytes down =
-    all-append is_line_byte (codes "stalls with ") (spaced_numbers (ascending down) ++ codes " down") refl
-    (all-append is_line_byte (spaced_numbers (ascending down)) (codes " down") (spaced-bytes (ascending down)) refl)
+stall_text-bytes : (now : Configuration) (down : Ids) → list_all is_line_byte (stall_text now down) ≡ true
+stall_text-bytes now down = by (commits_without (voters_of now) down)
+  where
+    by : (b : Bool) → list_all is_line_byte (if b then codes "stalls with " ++ spaced_numbers (ascending down) ++ codes " down"
+        else codes "no quorum with " ++ spaced_numbers (ascending down) ++ codes " down: no step can be made") ≡ true
+    by true =
+        all-append is_line_byte (codes "stalls with ") (spaced_numbers (ascending down) ++ codes " down") refl
+        (all-append is_line_byte (spaced_numbers (ascending down)) (codes " down") (spaced-bytes (ascending down)) refl)
+    by false =
+        all-append is_line_byte (codes "no quorum with ") (spaced_numbers (ascending down) ++ codes " down: no step can be made") refl
+        (all-append is_line_byte (spaced_numbers (ascending down)) (codes " down: no step can be made") (spaced-bytes (ascending down)) refl)
 
 note-read : (down : Option Ids) (now : Configuration) (steps : List Step) → CanBeRead (note_items (stall_note down now steps))
 note-read None now steps = record { given = tt; keys = refl; short = refl }
 note-read (Some down) now steps = by (stalls now steps down)
   where
-    by : (b : Bool) → CanBeRead (note_items (if b then Some (stall_text down) else None))
-    by true = comment-read (stall_text down) (stall_text-bytes down)
+    by : (b : Bool) → CanBeRead (note_items (if b then Some (stall_text now down) else None))
+    by true = comment-read (stall_text now down) (stall_text-bytes now down)
     by false = record { given = tt; keys = refl; short = refl }
 
 script-read : DirectiveIsWellFormed → (down : Option Ids) (now : Configuration) (steps : List Step) → CanBeRead (script_items (stall_note down now steps) now steps)

@@ -1,7 +1,7 @@
 use Rattle.std.proofs.Common.{length, arith}
 use Rattle.std.proofs.lemmas.Grind.{common_steps}
 use Rattle.std.proofs.lemmas.Option.{gets}
-use Rattle.std.specs.Prelude.{decimal}
+use Rattle.plan_output.specs.Names.{name_by}
 use Rattle.plan_output.specs.Table.{mark, flush_right}
 use Rattle.plan_output.proofs.JoinedTexts.{join-one_more}
 use Rattle.plan_output.proofs.cells.marks_text.Goals as goal
@@ -10,6 +10,6 @@ use Rattle.plan_output.proofs.cells.marks_text.Goals.{in-Some+in_ok-append_gap+i
 pub loop-index-preserved : goal.loop-index-preserved
 loop-index-preserved g c = elim c.match-at.branch [
   | in-Some+in_ok-append_gap+in_ok-append_mark w ↦
-      grind (arith, common_steps, gets, join-one_more (λ id. flush_right (length (decimal id)) (mark c.args.config.now id)))
+      grind (arith, common_steps, gets, join-one_more (λ id. flush_right (length (name_by c.args.names.now id)) (mark c.args.config.now id)))
   | in_default w ↦ grind (arith, gets)
 ]

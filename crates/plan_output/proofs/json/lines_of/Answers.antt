@@ -2,8 +2,13 @@ use Rattle.std.proofs.Common.{◌+◌, ◌++◌, length, sym, ap, ◌∙◌, ari
 use Rattle.std.specs.Prelude.{option_copied, option_map}
 use Rattle.std.proofs.lemmas.List.{append-nil, drop_all}
 use Rattle.plan_output.specs.Stages.{first_stage}
-use Rattle.plan_output.proofs.JsonLines.{lines, lines-all, lines-next}
+use Rattle.serde_json.specs.Written.{has_float}
+use Rattle.plan_output.proofs.JsonLines.{has_float-no_steps_json, lines, lines-all, lines-next}
 use Rattle.plan_output.proofs.json.lines_of.Goals as goal
+
+pub add_line-requires : goal.add_line-requires
+add_line-requires g c =
+    ap has_float c.in_ok-value.ensures ∙ has_float-no_steps_json (option_map g.S.MemberSet.ids (option_copied c.args.down)) c.args.stalls c.args.plan
 
 pub loop-index-preserved : goal.loop-index-preserved
 loop-index-preserved g c =

@@ -1,12 +1,16 @@
 use Rattle.std.proofs.Common.{◌++◌, ap, ◌∙◌}
 use Rattle.std.proofs.lemmas.Result.{on_ok_weaker}
 use Rattle.std.specs.Prelude.{option_map, option_copied}
-use Rattle.plan_output.specs.Grid.{grid_text}
-use Rattle.plan_output.specs.Table.{stage_rows}
+use Rattle.quorum_sets.specs.Ids.{ascending}
+use Rattle.plan_output.specs.Table as spec
+use Rattle.plan_output.specs.Table.{ids_on_the_way}
 use Rattle.plan_output.proofs.table.add_table.Goals as goal
 
 pub returns-clause-ok : goal.returns-clause-ok
 returns-clause-ok g c =
     let down = option_map g.S.MemberSet.ids (option_copied c.args.down) in
-    let rows = c.as_slice-2.ensures.value ∙ c.in_ok-rows.ensures ∙ ap (λ all. stage_rows all c.args.path.now down) (c.as_slice.ensures.value ∙ c.in_ok-stages.ensures) in
-    on_ok_weaker c.add_grid.result (λ is. is ∙ ap (λ r. c.args.text.now.items ++ grid_text r) rows) c.add_grid.ensures.ok
+    let path = c.args.path.now in
+    let table =
+    c.as_slice-2.ensures.value ∙ c.in_ok-table.ensures
+    ∙ ap (λ all. spec.table_of (ascending (ids_on_the_way all)) all path down) (c.as_slice.ensures.value ∙ c.in_ok-stages.ensures) in
+    on_ok_weaker c.append.result (λ is. is ∙ ap (λ text. c.args.text.now.items ++ text) table) c.append.ensures.ok

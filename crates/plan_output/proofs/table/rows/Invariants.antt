@@ -1,12 +1,14 @@
-use Rattle.std.proofs.Common.{◌≡◌, ◌∷◌, ◌++◌, drop}
+use Rattle.std.proofs.Common.{◌≡◌, ◌++◌, drop}
 use Rattle.std.specs.Prelude.{option_map, option_copied}
 use Rattle.quorum_sets.specs.Ids.{ascending}
-use Rattle.plan_output.specs.Table.{headings, rows_of}
+use Rattle.plan_output.specs.Names.{name_by}
+use Rattle.plan_output.specs.Table.{rows_of, stage_rows}
 use Rattle.plan_output.proofs.table.rows.Given as goal
 
 -- the rows so far, before those of the other stages, are all rows
 abbrev pub invariant-loop-index : goal.invariant-loop-index
 invariant-loop-index g l =
+    let name = name_by l.names in
     let ids = ascending (g.S.MemberSet.ids l.ids) in
     let down = option_map g.S.MemberSet.ids (option_copied l.down) in
-    l.rows.items ++ rows_of ids down l.path l.index (drop l.index l.stages) ≡ headings ids down ∷ rows_of ids down l.path 0 l.stages
+    l.rows.items ++ rows_of name ids down l.path l.index (drop l.index l.stages) ≡ stage_rows name ids l.stages l.path down
