@@ -3,6 +3,5 @@ mod DirectiveTokens
 mod WorkedExamples
 mod Rewriting
 mod TextLines
-mod LineReading
 mod ScriptGrammar
-mod ItemReading
+mod Reading

@@ -1,6 +1,6 @@
 -- The lemmas of this crate that the proofs of the crates above cite. No other module of its proofs is public.
 
-pub use Rattle.dd_file.proofs.ItemReading.BytesTaken.{next_item-takes, next_line-takes}
+pub use Rattle.dd_file.proofs.Reading.BytesTaken.{next_item-takes, next_line-takes}
 pub use Rattle.dd_file.proofs.Rewriting.KnownBytes.{append-part, appends-append, part-append, part-part}
 pub use Rattle.dd_file.proofs.Rewriting.PartByPart.{begun-more, breaks-first, breaks-second, continues-append}
 pub use Rattle.dd_file.proofs.TextLines.CutAgain.{IsOutputOf, full_lines-output, has_blank_line-lines, text_of-end}

@@ -43,13 +43,17 @@ abbrev pub is_line_buffered : Position → List ℕ → Bool
 is_line_buffered position buffered = list_any ends_in_newline (full_lines buffered)
 
 -- whether no further line could change the first item
-abbrev pub is_ended : FirstItem → Bool
+abbrev pub is_ended : {A : Type 0} → FirstItem A → Bool
 is_ended (Ended result left) = true
 is_ended first = false
 
--- whether an item or its error is buffered: the buffered lines that end in a newline are enough to end it
+-- whether what comes next is buffered: the buffered lines that end in a newline are enough to end it
+abbrev pub is_first_buffered : {A : Type 0} → (List (List ℕ) → FirstItem A) → Position → List ℕ → Bool
+is_first_buffered first position buffered = is_ended (first (whole_lines buffered))
+
+-- whether an item or its error is buffered
 abbrev pub is_item_buffered : Position → List ℕ → Bool
-is_item_buffered position buffered = is_ended (first_of (whole_lines buffered))
+is_item_buffered = is_first_buffered first_of
 
 -- A call that reads nothing: if the next item or line is buffered, it returns that; otherwise it returns `None`, and
 -- nothing changes.

@@ -1,124 +1,92 @@
--- An item of a script while its lines are read. A state means the item that the lines so far begin, given any lines
--- that follow (first_item_in).
-use Rattle.std.specs.Prelude.{◌≡◌, ℕ, Bool, true, false, ◌&&◌, ◌||◌, List, [], ◌∷◌, ◌++◌, Option, Some, None, Result, Ok, Err, ⊤, if◌then◌else◌, codes}
-use Rattle.std.specs.List.{list_any}
-use Rattle.ascii_text.specs.WhiteSpace.{is_blank}
-use Rattle.dd_file.specs.Cut.{cut}
-use Rattle.dd_file.specs.DirectiveLine.{CommandText, command_of}
-use Rattle.dd_file.specs.Script.{FirstItem, Ended, first_of, is_last_line, is_separator, is_dashes, cut_at_pair, directive, after_pair, in_double, in_single, after_separator, body, at_directive, at_line}
-use Rattle.dd_file.specs.Grammar.{fault_between}
-use Rattle.dd_file.specs.declared.draft_state.DraftState.{DraftState}
-use Rattle.dd_file.specs.declared.draft_state.DraftState.TheVariants.{Begin, CommentLine, BlankLines, DirectiveLines, NoCommand, Input, Separator, Single, Double, Dashes, Pair, Complete, AfterPair}
-use Rattle.dd_file.specs.declared.item.Item.{Item}
-use Rattle.dd_file.specs.declared.item.Item.TheVariants.{Comment, Blank}
+-- An item or a line while its lines are read from buffered bytes.
+use Rattle.std.specs.Prelude.{◌≡◌, ℕ, ◌<◌, ◌≤◌, Bool, true, false, List, [], ◌∷◌, ◌++◌, length, Option, Some, None, Result, Ok, Err}
+use Rattle.ascii_text.specs.Lines.{full_lines, lines_of}
+use Rattle.dd_file.specs.Position.{Position, longest_input}
+use Rattle.dd_file.specs.Script.{FirstItem, NoItem, Ended, Open, first_line_of}
+use Rattle.dd_file.specs.Grammar.{Next, Over, Parsed, Faulty, fault_between, next_of}
+use Rattle.dd_file.specs.Answer.{is_read_fault}
+use Rattle.dd_file.specs.Buffered.{HasNoNewline, IsInterruption, is_whole_text}
+use Rattle.dd_file.specs.declared.scan.Scan.{Scan}
 use Rattle.dd_file.specs.declared.fault.FileFault.{FileFault}
 use Rattle.dd_file.specs.declared.fault.SyntaxFault.{SyntaxFault}
-use Rattle.dd_file.specs.declared.fault.SyntaxFault.TheVariants.{BadDirective, AfterDouble, UnclosedDouble}
 
--- the lines of an item so far, by the parts that they belong to
-pub record DraftParts : Type 0 where
-  pub directive_lines : List (List ℕ)
-  pub input : List (List ℕ)
-  pub expected : List (List ℕ)
+-- The lines so far of an item: the first item if these lines follow, the item or its error if no line follows, and
+-- whether it is complete.
+pub record BegunItem (A : Type 0) : Type 0 where
+  pub first_with : List (List ℕ) → FirstItem A
+  pub result : Option (Result A SyntaxFault)
+  pub is_done : Bool
 
--- no line
-abbrev pub no_parts : DraftParts
-no_parts = record { directive_lines = []; input = []; expected = [] }
+-- no line yet
+abbrev pub no_lines : {A : Type 0} → (List (List ℕ) → FirstItem A) → BegunItem A
+no_lines first = record { first_with = first; result = None; is_done = false }
 
--- an item so far: its parts, and its state, which has the command of a directive
-pub record DraftText : Type 0 where
-  pub parts : DraftParts
-  pub state : DraftState
+-- a line alone: no line yet, or a complete line
+abbrev pub begun_line : Option (List ℕ) → BegunItem (List ℕ)
+begun_line None = no_lines first_line_of
+begun_line (Some line) = record { first_with = Ended (Ok line); result = Some (Ok line); is_done = true }
 
--- an item that has no lines yet
-abbrev pub blank_draft : DraftText
-blank_draft = record { parts = no_parts; state = Begin }
+-- one more line was added
+abbrev pub Adds : {A : Type 0} → BegunItem A → List ℕ → BegunItem A → Type 0
+Adds old line new = (more : List (List ℕ)) → new.first_with more ≡ old.first_with (line ∷ more)
 
--- the state after directive lines, by their command
-abbrev pub state_of_command : Option CommandText → DraftState
-state_of_command None = NoCommand
-state_of_command (Some command) = Input command
+-- the first item with this result, if a further line could change it
+abbrev pub opened : {A : Type 0} → Option (Result A SyntaxFault) → FirstItem A
+opened None = NoItem
+opened (Some result) = Open result
 
--- the state after directive lines, by their text; if that is white space only, the item is a blank
-abbrev pub state_after_directive_line : List ℕ → DraftState
-state_after_directive_line text = if is_blank text then BlankLines else state_of_command (command_of text)
+-- no further line changes the item, and its result is known
+pub record IsEnded {A : Type 0} (item : BegunItem A) : Type 0 where
+  pub result : Result A SyntaxFault
+  pub is : item.result ≡ Some result
+  pub ended : (more : List (List ℕ)) → item.first_with more ≡ Ended result more
 
--- whether the item is complete: the next line begins another
-abbrev pub is_done : DraftState → Bool
-is_done CommentLine = true
-is_done BlankLines = true
-is_done NoCommand = true
-is_done (Complete command) = true
-is_done AfterPair = true
-is_done state = false
-
--- a line of four dashes
-abbrev pub dashes_line : List ℕ
-dashes_line = codes "----"
-
--- the directive of the parts so far
-abbrev pub drafted : DraftParts → CommandText → Item
-drafted parts command = directive 1 command parts.directive_lines parts.input parts.expected
-
--- the item of the lines so far if these lines follow, by state
-abbrev pub first_item_in : DraftState → DraftParts → List (List ℕ) → FirstItem
-first_item_in Begin parts more = first_of more
-first_item_in CommentLine parts more = Ended (Ok (Comment parts.directive_lines)) more
-first_item_in BlankLines parts more = Ended (Ok (Blank parts.directive_lines)) more
-first_item_in DirectiveLines parts more = at_directive (cut is_last_line (parts.directive_lines ++ more))
-first_item_in NoCommand parts more = Ended (Err BadDirective) more
-first_item_in (Input command) parts more = body command parts.directive_lines (cut is_separator (parts.input ++ more))
-first_item_in (Separator command) parts more = after_separator command parts.directive_lines parts.input more
-first_item_in (Single command) parts more = in_single command parts.directive_lines parts.input (cut is_blank (parts.expected ++ more))
-first_item_in (Double command) parts more = in_double command parts.directive_lines parts.input (cut_at_pair (parts.expected ++ more))
-first_item_in (Dashes command) parts more = in_double command parts.directive_lines parts.input (cut_at_pair (parts.expected ++ dashes_line ∷ more))
-first_item_in (Pair command) parts more = after_pair (drafted parts command) more
-first_item_in (Complete command) parts more = Ended (Ok (drafted parts command)) more
-first_item_in AfterPair parts more = Ended (Err AfterDouble) more
-
--- the item of the lines so far, or its error, if no line follows; none if there is no line
-abbrev pub result_in : DraftState → DraftParts → Option (Result Item SyntaxFault)
-result_in Begin parts = None
-result_in CommentLine parts = Some (Ok (Comment (parts.directive_lines ++ parts.input)))
-result_in BlankLines parts = Some (Ok (Blank (parts.directive_lines ++ parts.input)))
-result_in DirectiveLines parts = Some (Err BadDirective)
-result_in NoCommand parts = Some (Err BadDirective)
-result_in (Input command) parts = Some (Ok (drafted parts command))
-result_in (Separator command) parts = Some (Ok (drafted parts command))
-result_in (Single command) parts = Some (Ok (drafted parts command))
-result_in (Double command) parts = Some (Err UnclosedDouble)
-result_in (Dashes command) parts = Some (Err UnclosedDouble)
-result_in (Pair command) parts = Some (Ok (drafted parts command))
-result_in (Complete command) parts = Some (Ok (drafted parts command))
-result_in AfterPair parts = Some (Err AfterDouble)
-
--- whether there is a pair of dashes
-abbrev pub has_pair : List (List ℕ) → Bool
-has_pair [] = false
-has_pair (line ∷ []) = false
-has_pair (line ∷ next ∷ lines) = (is_dashes line && is_dashes next) || has_pair (next ∷ lines)
-
--- the parts so far fit a state: no line in them ends the part that it is in
-abbrev pub FitsIn : DraftState → DraftParts → Type 0
-FitsIn Begin parts = parts ≡ no_parts
-FitsIn CommentLine parts = parts.input ≡ []
-FitsIn BlankLines parts = parts.input ≡ []
-FitsIn DirectiveLines parts = (list_any is_last_line parts.directive_lines ≡ false) × (parts.input ≡ []) × (parts.expected ≡ [])
-FitsIn (Input command) parts = (list_any is_separator parts.input ≡ false) × (parts.expected ≡ [])
-FitsIn (Separator command) parts = parts.expected ≡ []
-FitsIn (Single command) parts = list_any is_blank parts.expected ≡ false
-FitsIn (Double command) parts = has_pair (parts.expected ++ dashes_line ∷ []) ≡ false
-FitsIn (Dashes command) parts = has_pair (parts.expected ++ dashes_line ∷ []) ≡ false
-FitsIn state parts = ⊤
-
--- One more line was added: with any lines that follow, the new state and parts give the item that the old ones give with
--- this line and then those.
-pub record AddsIn (state : DraftState) (old : DraftParts) (next : DraftState) (new : DraftParts) (line : List ℕ) : Type 0 where
-  pub fits : FitsIn next new
-  pub first_item : (more : List (List ℕ)) → first_item_in next new more ≡ first_item_in state old (line ∷ more)
+-- an item is ended once it is complete, and open until then
+pub record IsBegun {A : Type 0} (item : BegunItem A) : Type 0 where
+  pub ended : item.is_done ≡ true → IsEnded item
+  pub open_end : item.is_done ≡ false → item.first_with [] ≡ opened item.result
 
 -- the result of a read: the item at its line, or its error; none if there is no line
-abbrev pub item_result : ℕ → ℕ → Option (Result Item SyntaxFault) → Result (Option Item) FileFault
-item_result first last None = Ok None
-item_result first last (Some (Ok item)) = Ok (Some (at_line first item))
-item_result first last (Some (Err fault)) = Err (fault_between first last fault)
+abbrev pub item_result : {A : Type 0} → (ℕ → A → A) → ℕ → ℕ → Option (Result A SyntaxFault) → Result (Option A) FileFault
+item_result numbered first last None = Ok None
+item_result numbered first last (Some (Ok item)) = Ok (Some (numbered first item))
+item_result numbered first last (Some (Err fault)) = Err (fault_between first last fault)
+
+-- The draft has the lines that end in the first bytes, and the scan counts those lines and bytes. How many of the bytes
+-- after them have no newline is noted too.
+pub record DraftOf {A D : Type 0} (first : List (List ℕ) → FirstItem A) (begun : D → BegunItem A) (Fits : D → Type 0) (draft : D) (scan : Scan) (bytes : List ℕ) : Type 0 where
+  pub whole : List ℕ
+  pub rest : List ℕ
+  pub is : bytes ≡ whole ++ rest
+  pub ends : is_whole_text whole ≡ true
+  pub consumed : scan.bytes ≡ length whole
+  pub count : scan.lines ≡ length (full_lines whole)
+  pub searched : HasNoNewline scan.searched rest
+  pub fits : Fits draft
+  pub first_item : (more : List (List ℕ)) → (begun draft).first_with more ≡ first (lines_of whole ++ more)
+
+-- The draft has all lines of the bytes, also one without a newline at the end, and this is their number.
+pub record DraftOfAll {A D : Type 0} (first : List (List ℕ) → FirstItem A) (begun : D → BegunItem A) (Fits : D → Type 0) (draft : D) (lines : ℕ) (bytes : List ℕ) : Type 0 where
+  pub count : lines ≡ length (full_lines bytes)
+  pub fits : Fits draft
+  pub first_item : (begun draft).first_with [] ≡ first (lines_of bytes)
+
+-- nothing comes next only at the end of the bytes; an item or line has a byte and a line; an error is one of the input
+abbrev pub IsSound : {A : Type 0} → (Position → FileFault → Type 0) → Position → List ℕ → Next A → Type 0
+IsSound IsFault position bytes Over = bytes ≡ []
+IsSound IsFault position bytes (Parsed item after left) = (length left < length bytes) × (position.lines < after.lines)
+IsSound {A} IsFault position bytes (Faulty fault) = IsFault position fault × (is_read_fault {X = Option A} (Err fault) ≡ false)
+
+-- what holds of lines and of items alike
+pub record IsGrammar {A : Type 0} (next : Position → List ℕ → Next A) (IsFault : Position → FileFault → Type 0) : Type 0 where
+  pub sound : (position : Position) (bytes : List ℕ) → IsSound IsFault position bytes (next position bytes)
+  pub over : (position : Position) → position.bytes ≤ longest_input → next position [] ≡ Over
+  pub interrupted : (position : Position) (fault : FileFault) → IsInterruption fault → IsFault position fault
+
+-- A draft that has no line yet, of items or lines that can be read: they are those of a grammar, and a draft of them is
+-- ended or open.
+pub record IsNew {A D : Type 0} (first : List (List ℕ) → FirstItem A) (numbered : ℕ → A → A) (IsFault : Position → FileFault → Type 0) (begun : D → BegunItem A) (Fits : D → Type 0) (draft : D) : Type 0 where
+  pub fits : Fits draft
+  pub none : begun draft ≡ no_lines first
+  pub grammar : IsGrammar (next_of first numbered longest_input) IsFault
+  pub known : (other : D) → Fits other → IsBegun (begun other)

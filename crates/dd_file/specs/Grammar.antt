@@ -4,7 +4,7 @@ use Rattle.std.specs.Prelude.{ℕ, ◌+◌, ◌-◌, zero, suc, Bool, true, fals
 use Rattle.std.specs.List.{concat}
 use Rattle.dd_file.specs.Position.{Position, start, longest_input}
 use Rattle.ascii_text.specs.Lines.{full_lines, line_of, ends_in_newline}
-use Rattle.dd_file.specs.Script.{FirstItem, NoItem, Ended, Open, first_of, at_line}
+use Rattle.dd_file.specs.Script.{FirstItem, NoItem, Ended, Open, first_of, first_line_of, at_line}
 use Rattle.dd_file.specs.declared.item.Item.{Item}
 use Rattle.dd_file.specs.declared.fault.SyntaxFault.{SyntaxFault}
 use Rattle.dd_file.specs.declared.fault.SyntaxFault.TheVariants.{AfterDouble}
@@ -43,33 +43,32 @@ abbrev pub fault_between : ℕ → ℕ → SyntaxFault → FileFault
 fault_between first last AfterDouble = Syntax last AfterDouble
 fault_between first last fault = Syntax first fault
 
--- what comes next, given an item of count lines, or its error
-abbrev pub with_count : ℕ → Result Item SyntaxFault → Position → List ℕ → Next Item
-with_count count (Ok item) position bytes = next_of_lines count (at_line (position.lines + 1) item) position bytes
-with_count count (Err fault) position bytes = Faulty (fault_between (position.lines + 1) (position.lines + count) fault)
+-- what comes next, given an item of count lines, or its error; `numbered` gives an item that begins at a line
+abbrev pub with_count : {A : Type 0} → (ℕ → A → A) → ℕ → Result A SyntaxFault → Position → List ℕ → Next A
+with_count numbered count (Ok item) position bytes = next_of_lines count (numbered (position.lines + 1) item) position bytes
+with_count numbered count (Err fault) position bytes = Faulty (fault_between (position.lines + 1) (position.lines + count) fault)
 
 -- What comes next, given this many lines and their first item. If the input is too long, an item that is not ended is
 -- an error.
-abbrev pub from_first_item : Bool → ℕ → FirstItem → Position → List ℕ → Next Item
-from_first_item too_long count NoItem position bytes = at_end too_long position
-from_first_item too_long count (Ended result left) position bytes = with_count (count - length left) result position bytes
-from_first_item true count (Open result) position bytes = at_end true position
-from_first_item false count (Open result) position bytes = with_count count result position bytes
+abbrev pub from_first_item : {A : Type 0} → (ℕ → A → A) → Bool → ℕ → FirstItem A → Position → List ℕ → Next A
+from_first_item numbered too_long count NoItem position bytes = at_end too_long position
+from_first_item numbered too_long count (Ended result left) position bytes = with_count numbered (count - length left) result position bytes
+from_first_item numbered true count (Open result) position bytes = at_end true position
+from_first_item numbered false count (Open result) position bytes = with_count numbered count result position bytes
+
+-- what comes next, in an input with these bytes from this position on, by the first item of its lines
+abbrev pub next_of : {A : Type 0} → (List (List ℕ) → FirstItem A) → (ℕ → A → A) → ℕ → Position → List ℕ → Next A
+next_of first numbered limit position bytes =
+    let lines = map line_of (full_lines_within limit position bytes) in
+    from_first_item numbered (is_too_long limit position bytes) (length lines) (first lines) position bytes
 
 -- what item comes next, in an input with these bytes from this position on
 abbrev pub next_item : ℕ → Position → List ℕ → Next Item
-next_item limit position bytes =
-    let lines = map line_of (full_lines_within limit position bytes) in
-    from_first_item (is_too_long limit position bytes) (length lines) (first_of lines) position bytes
-
--- what line comes next, given the full lines that are left
-abbrev pub from_full_lines : Bool → List (List ℕ) → Position → List ℕ → Next (List ℕ)
-from_full_lines too_long [] position bytes = at_end too_long position
-from_full_lines too_long (full_line ∷ more) position bytes = next_of_lines 1 (line_of full_line) position bytes
+next_item = next_of first_of at_line
 
 -- what line comes next, in an input with these bytes from this position on
 abbrev pub next_line : ℕ → Position → List ℕ → Next (List ℕ)
-next_line limit position bytes = from_full_lines (is_too_long limit position bytes) (full_lines_within limit position bytes) position bytes
+next_line = next_of first_line_of (λ n line. line)
 
 -- the items or lines of an input, in order, and the error that ends them, if there is one
 pub record Script (A : Type 0) : Type 0 where

@@ -138,7 +138,7 @@ IsCompleteWith lines left (Some (Ok item)) = (has_separator item (length left) (
 IsCompleteWith lines left (Some (Err fault)) = ⊥
 
 -- complete by the first item of the lines, if there is one
-abbrev pub IsCompleteBy : List (List ℕ) → FirstItem → Type 0
+abbrev pub IsCompleteBy : List (List ℕ) → FirstItem Item → Type 0
 IsCompleteBy lines first = IsCompleteWith lines (lines_left first) (result_of first)
 
 -- lines are complete exactly when they are complete by their first item

@@ -5,10 +5,10 @@ pub mod Script
 pub mod Position
 pub mod Grammar
 pub mod ReaderState
-pub mod Draft
+pub mod ItemDraft
 pub mod Answer
 pub mod Buffered
-pub mod DraftOf
+pub mod Draft
 pub mod InOrder
 pub mod Rewritten
 pub mod RewriterState

@@ -1,4 +1,4 @@
-//! A buffered writer: small writes are gathered into a block, which is then written as a whole.
+//! A buffered writer (own): small writes are gathered into a block, which is then written as a whole.
 //!
 //! No contract of std's `BufWriter` states what was written when a write fails. Here a failed write is the last one,
 //! and what the writer got is a prefix of what was written to the blocks.
@@ -17,7 +17,7 @@ use std::alloc::{AllocError, Global};
 const BLOCK_BYTES: usize = 16_384;
 
 /// A sink that buffers what is written until it has a block of 16,384 bytes, and then writes the block. Call `flush` at
-/// the end. After an error the writer is not called again (own).
+/// the end. After an error the writer is not called again.
 #[derive(Drop)]
 pub struct Blocks<W> {
     writer: W,
@@ -32,7 +32,7 @@ pub struct Blocks<W> {
 impl<W: Sink> Blocks<W> {
     ghost use Rattle.dd_file.specs.Gathered.{buffered_writer, buffered_output, NothingBuffered};
 
-    /// A sink with an empty block, over this writer. If memory runs out, the writer is dropped (own).
+    /// A sink with an empty block, over this writer. If memory runs out, the writer is dropped.
     pub fn new(alloc: Global, writer: W) -> Result<Blocks<W>, AllocError>
     where
         W: Drop,
@@ -91,7 +91,7 @@ impl<W: Sink> Blocks<W> {
         Ok(count)
     }
 
-    /// Writes the buffered bytes to the writer. It fails if the writer fails, or has failed before (own).
+    /// Writes the buffered bytes to the writer. It fails if the writer fails, or has failed before.
     pub fn flush(&mut self) -> Result<(), WriteFault>
         ensures bytes { Keeps (⟦<Blocks<W> as Sink>⟧.contents self.old) (⟦<Blocks<W> as Sink>⟧.contents self.new) }
         ensures ok { OnOk result (NothingBuffered self.new) }
@@ -108,7 +108,7 @@ impl<W: Sink> Blocks<W> {
         }
     }
 
-    /// The writer. Bytes that are still buffered are lost: call `flush` first (own).
+    /// The writer. Bytes that are still buffered are lost: call `flush` first.
     pub fn into_inner(self) -> W
         ensures writer { result ≡ buffered_writer self }
         ensures part { Appends (W.contents result) (⟦<Blocks<W> as Sink>⟧.contents self) (buffered_output self) }

@@ -1,298 +1,42 @@
-//! An item of a script while its lines are read.
-//!
-//! A reader gets one line at a time, and cannot look ahead. So a draft decides what each line is by the state that the
-//! lines before it have led to ([`DraftState`]): a directive line, input, expected output, or a line that is not
-//! stored, such as a separator. It reports when the item is complete. Lines that come after that belong to the next
-//! item.
-ghost use Rattle.std.specs.Prelude.{◌≡◌, [], ◌∷◌, ◌++◌, false, IfOk, OnOk};
-ghost use Rattle.dd_file.specs.Draft.{blank_draft, no_parts, FitsIn, AddsIn, state_after_directive_line, result_in, item_result, is_done};
+//! An item or a line of an input while its lines are read.
+ghost use Rattle.std.specs.Prelude.{◌≡◌, ℕ, List, false, IfOk, OnOk};
+ghost use Rattle.dd_file.specs.Position.{Position};
+ghost use Rattle.dd_file.specs.Script.{FirstItem};
+ghost use Rattle.dd_file.specs.Draft.{BegunItem, Adds, item_result};
+ghost use Rattle.dd_file.specs.declared.fault.FileFault.{FileFault as ReadFault};
 
-use crate::command::{Command, parse_command};
-use crate::draft_state::DraftState;
-use crate::fault::{FileFault, SyntaxFault};
-use crate::item::{Directive, Item};
-use crate::joined_lines::joined;
-use crate::line_kinds::{is_comment, is_continued, is_dashes, is_separator};
-use crate::raw_lines::RawLines;
-use ascii_text::white_space::{is_blank, trimmed};
-use std::alloc::{AllocError, Global};
-use std::marker::Model;
-use std::mem::replace;
+use crate::fault::FileFault;
+use std::alloc::AllocError;
 
-/// The lines of an item so far, by the parts that they belong to.
-#[derive(Drop)]
-struct DraftParts {
-    alloc: Global,
-    /// The directive lines, and then the lines of the input.
-    raw_lines: RawLines,
-    /// How many of the raw lines are directive lines.
-    directive_line_count: usize,
-    expected: RawLines,
-}
+/// An item while its lines are read, one at a time and without a look at the next one. In an input that is read line by
+/// line, each line is an item.
+pub(crate) trait Draft<P> {
+    /// The first item of some lines.
+    ghost first_item: { List (List ℕ) → FirstItem P };
 
-impl Model for DraftParts {
-    ghost use Rattle.std.specs.Prelude.{◌≤◌, length, take, drop};
-    ghost use Rattle.dd_file.specs.Draft.{DraftParts as PartsText};
+    /// An item that begins at the line with this number.
+    ghost numbered: { ℕ → P → P };
 
-    ghost Value = { PartsText };
+    /// The errors that reading from a position on may return.
+    ghost IsFault: { Position → ReadFault → Type 0 };
 
-    ghost view = { λ a. record {
-      directive_lines = take a.directive_line_count a.raw_lines;
-      input = drop a.directive_line_count a.raw_lines;
-      expected = a.expected;
-    } };
+    /// The item, given any lines that follow.
+    ghost begun: { Self → BegunItem P };
 
-    ghost invariant = { λ a. a.directive_line_count ≤ length a.raw_lines };
-}
-
-impl DraftParts {
-    /// Adds a line in this state, and returns the state after it.
-    fn next_state(&mut self, state: DraftState, line: &[u8]) -> Result<DraftState, AllocError>
-        requires fits { FitsIn state self.old }
-        requires open_end { is_done state ≡ false }
-        ensures { IfOk result (λ next. AddsIn state self.old next self.new line.now) }
-    {
-        match state {
-            DraftState::Begin => self.add_first(line),
-            DraftState::DirectiveLines => self.add_directive_line(line),
-            DraftState::Input(command) => self.add_input(command, line),
-            DraftState::Separator(command) => self.add_output(command, line),
-            DraftState::Single(command) => self.add_single(command, line),
-            DraftState::Double(command) => self.add_double(command, line),
-            DraftState::Dashes(command) => self.add_after_dashes(command, line),
-            DraftState::Pair(command) => Ok(self.add_after_pair(command, line)),
-            done => Ok(done),
-        }
-    }
-
-    /// Stores a line as a directive line. The line of a comment or a blank is stored as one too.
-    fn keep_directive_line(&mut self, line: &[u8]) -> Result<(), AllocError>
-        requires { self.old.input ≡ [] }
-        ensures { OnOk result (self.new ≡ record self.old { directive_lines = self.old.directive_lines ++ line.now ∷ [] }) }
-    {
-        self.raw_lines.push(line)?;
-        self.directive_line_count = self.raw_lines.count();
-        Ok(())
-    }
-
-    /// Stores a line as input.
-    fn keep_input(&mut self, line: &[u8]) -> Result<(), AllocError>
-        ensures { OnOk result (self.new ≡ record self.old { input = self.old.input ++ line.now ∷ [] }) }
-    {
-        self.raw_lines.push(line)
-    }
-
-    /// Stores a line as expected output.
-    fn keep_output(&mut self, line: &[u8]) -> Result<(), AllocError>
-        ensures { OnOk result (self.new ≡ record self.old { expected = self.old.expected ++ line.now ∷ [] }) }
-    {
-        self.expected.push(line)
-    }
-
-    /// The first line decides the kind of the item: a comment, a blank, or a directive.
-    fn add_first(&mut self, line: &[u8]) -> Result<DraftState, AllocError>
-        requires fits { FitsIn DraftState.Begin self.old }
-        ensures { IfOk result (λ next. AddsIn DraftState.Begin self.old next self.new line.now) }
-    {
-        if is_comment(line) {
-            self.keep_directive_line(line)?;
-            Ok(DraftState::CommentLine)
-        } else if is_blank(line) {
-            self.keep_directive_line(line)?;
-            Ok(DraftState::BlankLines)
-        } else {
-            self.add_directive_line(line)
-        }
-    }
-
-    /// The first line that is not continued ends the directive lines, and the command is parsed from all of them
-    /// together.
-    fn add_directive_line(&mut self, line: &[u8]) -> Result<DraftState, AllocError>
-        requires fits { FitsIn DraftState.DirectiveLines self.old }
-        ensures { IfOk result (λ next. AddsIn DraftState.DirectiveLines self.old next self.new line.now) }
-    {
-        self.keep_directive_line(line)?;
-        if is_continued(line) {
-            return Ok(DraftState::DirectiveLines);
-        }
-        if self.directive_line_count == 1 {
-            return state_after_directive_line(self.alloc, trimmed(line));
-        }
-        let text = joined(self.alloc, &self.raw_lines)?;
-        state_after_directive_line(self.alloc, text.as_slice())
-    }
-
-    /// Input continues up to the separator, and may contain blank lines and lines that look like comments.
-    fn add_input(&mut self, command: Command, line: &[u8]) -> Result<DraftState, AllocError>
-        requires fits { FitsIn (DraftState.Input command) self.old }
-        ensures { IfOk result (λ next. AddsIn (DraftState.Input command) self.old next self.new line.now) }
-    {
-        if is_separator(line) {
-            return Ok(DraftState::Separator(command));
-        }
-        self.keep_input(line)?;
-        Ok(DraftState::Input(command))
-    }
-
-    /// The first line after the separator: dashes make it a double separator, and any other line a single one.
-    fn add_output(&mut self, command: Command, line: &[u8]) -> Result<DraftState, AllocError>
-        requires fits { FitsIn (DraftState.Separator command) self.old }
-        ensures { IfOk result (λ next. AddsIn (DraftState.Separator command) self.old next self.new line.now) }
-    {
-        if is_dashes(line) {
-            return Ok(DraftState::Double(command));
-        }
-        self.add_single(command, line)
-    }
-
-    /// Expected output after a single separator continues up to a blank line.
-    fn add_single(&mut self, command: Command, line: &[u8]) -> Result<DraftState, AllocError>
-        requires fits { FitsIn (DraftState.Single command) self.old }
-        ensures { IfOk result (λ next. AddsIn (DraftState.Single command) self.old next self.new line.now) }
-    {
-        if is_blank(line) {
-            return Ok(DraftState::Complete(command));
-        }
-        self.keep_output(line)?;
-        Ok(DraftState::Single(command))
-    }
-
-    /// Expected output after a double separator continues up to two lines of dashes in a row.
-    fn add_double(&mut self, command: Command, line: &[u8]) -> Result<DraftState, AllocError>
-        requires fits { FitsIn (DraftState.Double command) self.old }
-        ensures { IfOk result (λ next. AddsIn (DraftState.Double command) self.old next self.new line.now) }
-    {
-        if is_dashes(line) {
-            return Ok(DraftState::Dashes(command));
-        }
-        self.keep_output(line)?;
-        Ok(DraftState::Double(command))
-    }
-
-    /// A second line of dashes closes the output; after any other line the first one is output.
-    fn add_after_dashes(&mut self, command: Command, line: &[u8]) -> Result<DraftState, AllocError>
-        requires fits { FitsIn (DraftState.Dashes command) self.old }
-        ensures { IfOk result (λ next. AddsIn (DraftState.Dashes command) self.old next self.new line.now) }
-    {
-        if is_dashes(line) {
-            return Ok(DraftState::Pair(command));
-        }
-        self.keep_output(b"----")?;
-        self.keep_output(line)?;
-        Ok(DraftState::Double(command))
-    }
-
-    /// The line after the closing pair of dashes has to be blank, and belongs to the item (datadriven requires it to be
-    /// empty).
-    fn add_after_pair(&self, command: Command, line: &[u8]) -> DraftState
-        ensures { AddsIn (DraftState.Pair command) self.now result self.now line.now }
-    {
-        let _ = self;
-        if is_blank(line) {
-            DraftState::Complete(command)
-        } else {
-            DraftState::AfterPair
-        }
-    }
-}
-
-/// An item of a script while its lines are read.
-#[derive(Drop)]
-pub(crate) struct Draft {
-    parts: DraftParts,
-    state: DraftState,
-}
-
-impl Model for Draft {
-    ghost use Rattle.dd_file.specs.Draft.{DraftText};
-
-    ghost Value = { DraftText };
-
-    ghost view = { λ a. record { parts = a.parts; state = a.state } };
-}
-
-impl Draft {
-    /// An item without lines.
-    pub(crate) fn new(alloc: Global, raw_lines: RawLines) -> Draft
-        requires { raw_lines ≡ [] }
-        ensures { result ≡ blank_draft }
-    {
-        let parts = DraftParts {
-            alloc,
-            raw_lines,
-            directive_line_count: 0,
-            expected: RawLines::new(alloc),
-        };
-        Draft {
-            parts,
-            state: DraftState::Begin,
-        }
-    }
+    /// Whether the draft can have a next line.
+    ghost Fits: { Self → Type 0 };
 
     /// Adds the next line, and returns whether the item ends with it. If memory runs out, the draft is no longer
     /// usable.
-    pub(crate) fn add(&mut self, line: &[u8]) -> Result<bool, AllocError>
-        requires fits { FitsIn self.old.state self.old.parts }
-        requires open_end { is_done self.old.state ≡ false }
-        ensures added { OnOk result (AddsIn self.old.state self.old.parts self.new.state self.new.parts line.now) }
-        ensures done { IfOk result (λ done. done ≡ is_done self.new.state) }
-    {
-        let state = replace(&mut self.state, DraftState::Begin);
-        self.state = self.parts.next_state(state, line)?;
-        Ok(self.state.is_done())
-    }
+    fn add(&mut self, line: &[u8]) -> Result<bool, AllocError>
+        requires fits { Fits self.old }
+        requires open_end { (begun self.old).is_done ≡ false }
+        ensures kept { OnOk result (Fits self.new) }
+        ensures added { OnOk result (Adds (begun self.old) line.now (begun self.new)) }
+        ensures done { IfOk result (λ done. done ≡ (begun self.new).is_done) };
 
-    /// The item of the lines so far, if no further line comes; `None` if there are no lines. A script may end after the
-    /// input, the separator or the output of a directive, but not within continued lines or between double separators.
-    /// The first and the last line of the item have these numbers.
-    #[inline(always)]
-    pub(crate) fn finish(self, first: usize, last: usize) -> Result<Option<Item>, FileFault>
-        ensures { result ≡ item_result first last (result_in self.state self.parts) }
-    {
-        let Draft { parts, state } = self;
-        let DraftParts {
-            alloc: _,
-            raw_lines,
-            directive_line_count,
-            expected,
-        } = parts;
-        let command = match state {
-            DraftState::Begin => return Ok(None),
-            DraftState::CommentLine => return Ok(Some(Item::Comment(raw_lines))),
-            DraftState::BlankLines => return Ok(Some(Item::Blank(raw_lines))),
-            DraftState::DirectiveLines => return Err(SyntaxFault::BadDirective.between(
-                first, last,
-            )),
-            DraftState::NoCommand => return Err(SyntaxFault::BadDirective.between(first, last)),
-            DraftState::Double(_) => return Err(SyntaxFault::UnclosedDouble.between(first, last)),
-            DraftState::Dashes(_) => return Err(SyntaxFault::UnclosedDouble.between(first, last)),
-            DraftState::AfterPair => return Err(SyntaxFault::AfterDouble.between(first, last)),
-            DraftState::Input(command)
-            | DraftState::Separator(command)
-            | DraftState::Single(command)
-            | DraftState::Pair(command)
-            | DraftState::Complete(command) => command,
-        };
-        let expected = expected.into_text();
-        Ok(Some(Item::Directive(Directive::new(
-            first,
-            command,
-            raw_lines,
-            directive_line_count,
-            expected,
-        ))))
-    }
-}
-
-/// The state after complete directive lines with this text, which may be blank, a command, or neither.
-fn state_after_directive_line(alloc: Global, text: &[u8]) -> Result<DraftState, AllocError>
-    ensures { IfOk result (λ state. state ≡ state_after_directive_line text.now) }
-{
-    if is_blank(text) {
-        return Ok(DraftState::BlankLines);
-    }
-    match parse_command(alloc, text)? {
-        Some(command) => Ok(DraftState::Input(command)),
-        None => Ok(DraftState::NoCommand),
-    }
+    /// The item of the lines so far, if no further line comes; `None` if there are no lines. Its first and its last line
+    /// have these numbers.
+    fn finish(self, first: usize, last: usize) -> Result<Option<P>, FileFault>
+        ensures { result ≡ item_result numbered first last (begun self).result };
 }

@@ -12,7 +12,7 @@
 //!                    Complete
 //! ```
 ghost use Rattle.std.specs.Prelude.{◌≡◌};
-ghost use Rattle.dd_file.specs.Draft.{is_done};
+ghost use Rattle.dd_file.specs.ItemDraft.{is_done};
 
 use crate::command::Command;
 

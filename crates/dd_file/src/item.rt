@@ -1,7 +1,8 @@
 //! The items of a script. Each keeps its lines as they were written, and a directive also what they parse to.
 //!
 //! A program needs both: it runs a directive by its command, arguments and input, and writes it again from its raw
-//! lines, so that spaces, continued lines and the order of arguments stay as they were.
+//! lines, so that spaces, continued lines and the order of arguments stay as they were. What does not name datadriven is
+//! own.
 ghost use Rattle.std.specs.Prelude.{◌≡◌, ◌≤◌, [], ◌∷◌, true, length, drop, map, IfOk, option_map, slice_get};
 ghost use Rattle.ascii_text.specs.WhiteSpace.{trimmed};
 ghost use Rattle.ascii_text.specs.Lines.{text_of};
@@ -164,7 +165,7 @@ impl Directive {
         self.command.as_slice()
     }
 
-    /// The argument at an index, counted from 0; `None` after the last (own).
+    /// The argument at an index, counted from 0; `None` after the last.
     pub fn arg(&self, i: usize) -> Option<&Argument>
         ensures { option_map (λ argument. argument.now) result ≡ slice_get self.now.arguments i }
     {
@@ -194,7 +195,7 @@ impl Directive {
     }
 }
 
-/// An item of a script. Every line of a script belongs to one of its items (own; datadriven returns directives alone).
+/// An item of a script. Every line of a script belongs to one of its items (datadriven returns directives alone).
 #[derive(Drop)]
 pub enum Item {
     /// One line, whose first byte that is not white space is `#`.
@@ -208,7 +209,7 @@ pub enum Item {
 impl Item {
     ghost use Rattle.dd_file.specs.Rewritten.{raw_lines_of, kept_text, is_directive};
 
-    /// A comment of one line, which should begin with `#`: this is not checked. It fails only if memory runs out (own).
+    /// A comment of one line, which should begin with `#`: this is not checked. It fails only if memory runs out.
     pub fn comment(alloc: Global, line: Vec<u8>) -> Result<Item, AllocError>
         ensures { IfOk result (λ item. item ≡ Item.Comment (line.items ∷ [])) }
     {
@@ -216,7 +217,7 @@ impl Item {
     }
 
     /// A directive that a program makes itself, at line 1: a directive line, lines of input, and no expected output.
-    /// `None` if the directive line is not valid. It fails only if memory runs out (own).
+    /// `None` if the directive line is not valid. It fails only if memory runs out.
     pub fn directive(
         alloc: Global,
         line: Vec<u8>,
@@ -235,7 +236,7 @@ impl Item {
     }
 
     /// The raw line at an index, counted from 0; `None` after the last. The raw lines of a directive end before its
-    /// separator (own).
+    /// separator.
     pub fn raw_line(&self, i: usize) -> Option<&[u8]>
         ensures { option_map (λ line. line.now) result ≡ slice_get (raw_lines_of self.now) i }
     {

@@ -1,12 +1,12 @@
-//! A line of an input.
-ghost use Rattle.std.specs.Prelude.{◌≡◌, IfOk};
-ghost use Rattle.ascii_text.specs.Lines.{line_of};
+//! A line of an input (own).
+ghost use Rattle.std.specs.Prelude.{◌≡◌, None};
 
-use ascii_text::lines::line_of;
+use crate::draft::Draft;
+use crate::fault::FileFault;
 use std::alloc::{AllocError, Global};
 use std::marker::Model;
 
-/// A line without its newline. It need not be UTF-8 (own).
+/// A line without its newline. It need not be UTF-8.
 #[derive(Drop)]
 pub struct Line {
     bytes: Vec<u8>,
@@ -21,19 +21,62 @@ impl Model for Line {
 }
 
 impl Line {
-    /// The line of a full line.
-    pub(crate) fn of_full_line(alloc: Global, full_line: &[u8]) -> Result<Line, AllocError>
-        ensures { IfOk result (λ line. line ≡ line_of full_line.now) }
-    {
-        Ok(Line {
-            bytes: Vec::from_slice(alloc, line_of(full_line))?,
-        })
-    }
-
-    /// The bytes of the line (own).
+    /// The bytes of the line.
     pub fn as_slice(&self) -> &[u8]
         ensures { result.now ≡ self.now }
     {
         self.bytes.as_slice()
+    }
+}
+
+/// A line while it is read: an item of one line, which is complete once it is there.
+#[derive(Drop)]
+pub(crate) struct LineDraft {
+    alloc: Global,
+    line: Option<Line>,
+}
+
+impl Model for LineDraft {
+    ghost use Rattle.std.specs.Prelude.{List, ℕ, Option};
+
+    ghost Value = { Option (List ℕ) };
+
+    ghost view = { λ a. a.line };
+}
+
+impl LineDraft {
+    pub(crate) fn new(alloc: Global) -> LineDraft
+        ensures { result ≡ None }
+    {
+        LineDraft { alloc, line: None }
+    }
+}
+
+impl Draft<Line> for LineDraft {
+    ghost use Rattle.std.specs.Prelude.{⊤};
+    ghost use Rattle.dd_file.specs.Script.{first_line_of};
+    ghost use Rattle.dd_file.specs.Answer.{IsLineFault};
+    ghost use Rattle.dd_file.specs.Draft.{begun_line};
+
+    ghost first_item = { first_line_of };
+
+    ghost numbered = { λ first line. line };
+
+    ghost IsFault = { IsLineFault };
+
+    ghost begun = { begun_line };
+
+    ghost Fits = { λ draft. ⊤ };
+
+    fn add(&mut self, line: &[u8]) -> Result<bool, AllocError> {
+        let bytes = Vec::from_slice(self.alloc, line)?;
+        self.line = Some(Line { bytes });
+        Ok(true)
+    }
+
+    fn finish(self, first: usize, last: usize) -> Result<Option<Line>, FileFault> {
+        let _ = (first, last);
+        let LineDraft { alloc: _, line } = self;
+        Ok(line)
     }
 }

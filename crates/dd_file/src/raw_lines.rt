@@ -1,5 +1,5 @@
-//! Lines that are stored as one text, together with the positions of their newlines. The lines of an item are written
-//! as this text.
+//! Lines that are stored as one text, together with the positions of their newlines (own). The lines of an item are
+//! written as this text.
 //!
 //! ```text
 //! lines    "v1"  ""  "----"
@@ -15,7 +15,7 @@ use std::alloc::{AllocError, Global};
 use std::marker::Model;
 use std::mem::replace;
 
-/// Lines without their newlines, in the order in which they were added (own).
+/// Lines without their newlines, in the order in which they were added.
 #[derive(Drop)]
 pub struct RawLines {
     /// The lines, each with a newline.
@@ -96,7 +96,7 @@ impl RawLines {
         self.ends.len()
     }
 
-    /// The line at an index, counted from 0; `None` after the last (own).
+    /// The line at an index, counted from 0; `None` after the last.
     pub fn get(&self, i: usize) -> Option<&[u8]>
         ensures { option_map (λ line. line.now) result ≡ slice_get self.now i }
     {

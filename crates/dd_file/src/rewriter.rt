@@ -160,7 +160,7 @@ impl Model for Rewriter {
 }
 
 impl Rewriter {
-    /// A rewriter at the beginning of its script, with nothing written (own).
+    /// A rewriter at the beginning of its script, with nothing written.
     pub fn new() -> Rewriter
         ensures stage { result.stage ≡ Stage.Ready }
         ensures nothing { (start : Option (List ℕ)) → HasWritten result.newlines start start [] }

@@ -1,8 +1,7 @@
 //! The buffered bytes of a line or an item while they are looked at.
 ghost use Rattle.std.specs.Prelude.{◌≡◌, ◌≤◌, ◌<◌, ◌+◌, true, false, length, IfOk, IfSome, OnOk, MatchOption};
 ghost use Rattle.dd_file.specs.Buffered.{HasNoNewline, BeginsWithLine};
-ghost use Rattle.dd_file.specs.Draft.{is_done};
-ghost use Rattle.dd_file.specs.DraftOf.{DraftOf, DraftOfAll};
+ghost use Rattle.dd_file.specs.Draft.{DraftOf, DraftOfAll};
 
 use crate::draft::Draft;
 use ascii_text::lines::{ends_in_newline, first_line_len, line_of};
@@ -49,15 +48,15 @@ pub(crate) fn whole_line_from(bytes: &[u8], searched: usize) -> Option<&[u8]>
 
 /// Adds the lines that end in the bytes to the draft, up to the last line of the item. Returns whether the item is
 /// complete. If memory runs out, the draft is no longer usable.
-pub(crate) fn add_lines(
-    draft: &mut Draft,
+pub(crate) fn add_lines<P, D: Draft<P>>(
+    draft: &mut D,
     scan: &mut Scan,
     bytes: &[u8],
 ) -> Result<bool, AllocError>
-    requires so_far { DraftOf draft.old scan.old bytes.now }
-    requires open_end { is_done draft.old.state ≡ false }
-    ensures lines { OnOk result (DraftOf draft.new scan.new bytes.now) }
-    ensures done { IfOk result (λ done. done ≡ is_done draft.new.state) }
+    requires so_far { DraftOf D.first_item D.begun D.Fits draft.old scan.old bytes.now }
+    requires open_end { (D.begun draft.old).is_done ≡ false }
+    ensures lines { OnOk result (DraftOf D.first_item D.begun D.Fits draft.new scan.new bytes.now) }
+    ensures done { IfOk result (λ done. done ≡ (D.begun draft.new).is_done) }
     ensures some { IfOk result (λ done. done ≡ true → scan.old.bytes + scan.old.searched ≤ scan.new.bytes) }
     ensures none { IfOk result (λ done. done ≡ false → scan.new.bytes + scan.new.searched ≡ length bytes.now) }
 {
@@ -80,15 +79,15 @@ pub(crate) fn add_lines(
 }
 
 /// Adds the last line of the input to the draft, if it has no newline, and returns how many lines the item has.
-pub(crate) fn add_last_line(
-    draft: &mut Draft,
+pub(crate) fn add_last_line<P, D: Draft<P>>(
+    draft: &mut D,
     scan: Scan,
     bytes: &[u8],
 ) -> Result<usize, AllocError>
-    requires so_far { DraftOf draft.old scan bytes.now }
-    requires open_end { is_done draft.old.state ≡ false }
+    requires so_far { DraftOf D.first_item D.begun D.Fits draft.old scan bytes.now }
+    requires open_end { (D.begun draft.old).is_done ≡ false }
     requires searched { scan.bytes + scan.searched ≡ length bytes.now }
-    ensures all { IfOk result (λ count. DraftOfAll draft.new count bytes.now) }
+    ensures all { IfOk result (λ count. DraftOfAll D.first_item D.begun D.Fits draft.new count bytes.now) }
     ensures few { IfOk result (λ count. count ≤ length bytes.now) }
 {
     if scan.bytes == bytes.len() {

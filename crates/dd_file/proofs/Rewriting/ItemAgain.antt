@@ -10,7 +10,7 @@ use Rattle.ascii_text.specs.WhiteSpace.{is_blank, without_trailing_space}
 use Rattle.dd_file.specs.Cut.{cut}
 use Rattle.dd_file.specs.DirectiveLine.{CommandText, command_of}
 use Rattle.dd_file.specs.Script.{FirstItem, Ended, Open, first_of, joined, is_comment, is_separator, is_dashes, cut_at_pair, directive, in_double, in_single, after_separator, body, at_line}
-use Rattle.dd_file.specs.Draft.{dashes_line, has_pair}
+use Rattle.dd_file.specs.ItemDraft.{dashes_line, has_pair}
 use Rattle.dd_file.specs.Rewritten.{entry_text, output_text, opening, closing, has_blank_line, is_output, is_output_line}
 use Rattle.dd_file.specs.Laws.{is_line, IsSameItem}
 use Rattle.dd_file.specs.declared.item.Item.{Item}
@@ -76,7 +76,7 @@ written_lines is_ended double raw lines h k output =
     ∙ ap (λ t. without_returns raw ++ dashes_line ∷ t) (output_after-returns is_ended double lines output)
 
 -- what is read of an item, ended by these lines or open at the end
-abbrev pub found_as : Bool → Item → List (List ℕ) → FirstItem
+abbrev pub found_as : Bool → Item → List (List ℕ) → FirstItem Item
 found_as true item more = Ended (Ok item) more
 found_as false item more = Open (Ok item)
 

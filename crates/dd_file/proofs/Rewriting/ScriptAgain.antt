@@ -11,7 +11,7 @@ use Rattle.ascii_text.specs.WhiteSpace.{is_blank}
 use Rattle.dd_file.specs.DirectiveLine.{CommandText, command_of}
 use Rattle.dd_file.specs.Script.{Ended, Open, first_of, joined, is_comment, is_separator, directive, at_line}
 use Rattle.dd_file.specs.Buffered.{is_whole_text}
-use Rattle.dd_file.specs.Draft.{dashes_line}
+use Rattle.dd_file.specs.ItemDraft.{dashes_line}
 use Rattle.dd_file.specs.Position.{longest_input}
 use Rattle.dd_file.specs.Grammar.{Script, script_of, with_first}
 use Rattle.dd_file.specs.Rewritten.{Entry, entry, entry_text, has_blank_line, is_output, rewritten_text, without_double_end}

@@ -49,13 +49,13 @@ items_at-enough (suc k) (suc j) before (line ∷ lines) hk hj =
     ap (from_result (result_of (first_of (line ∷ lines))) before (own_count (line ∷ lines))) (items_at-enough k j _ (lines_left (first_of (line ∷ lines))) (omega (arith, fewer, hk)) (omega (arith, fewer, hj)))
 
 -- the first item, and those of the lines after it
-pub items_of-first : (before : ℕ) (lines : List (List ℕ)) (first : FirstItem) (item : Item) → first_of lines ≡ first → result_of first ≡ Some (Ok item) →
+pub items_of-first : (before : ℕ) (lines : List (List ℕ)) (first : FirstItem Item) (item : Item) → first_of lines ≡ first → result_of first ≡ Some (Ok item) →
     items_of before lines ≡ with_first (at_line (before + 1) item) (items_of (before + (length lines - length (lines_left first))) (lines_left first))
 items_of-first before [] first item is found = let none = ap result_of is ∙ found in cc
 items_of-first before (line ∷ lines) first item is found =
     let fewer = rw is at (lines_left-shorter line lines) in
     let count = length (line ∷ lines) - length (lines_left first) in
-    ap (λ (f : FirstItem). from_result (result_of f) before (length (line ∷ lines) - length (lines_left f)) (items_at (length lines) (before + (length (line ∷ lines) - length (lines_left f))) (lines_left f))) is
+    ap (λ (f : FirstItem Item). from_result (result_of f) before (length (line ∷ lines) - length (lines_left f)) (items_at (length lines) (before + (length (line ∷ lines) - length (lines_left f))) (lines_left f))) is
     ∙ ap (λ (r : Option (Result Item SyntaxFault)). from_result r before count (items_at (length lines) (before + count) (lines_left first))) found
     ∙ ap (with_first (at_line (before + 1) item)) (items_at-enough (length lines) (length (lines_left first)) (before + count) (lines_left first) (omega (arith, fewer)) (omega arith))
 
@@ -121,7 +121,7 @@ first_items-lines (suc fuel) position bytes fits =
       lines = lines_of bytes
 
       result : (count : ℕ) (r : Result Item SyntaxFault) (left : List (List ℕ)) → drop count lines ≡ left → AreOfLines fuel →
-          followed (first_items (next_item longest_input) fuel) (with_count count r position bytes) ≡ from_result (Some r) position.lines count (items_at fuel (position.lines + count) left)
+          followed (first_items (next_item longest_input) fuel) (with_count at_line count r position bytes) ≡ from_result (Some r) position.lines count (items_at fuel (position.lines + count) left)
       result count (Ok item) left same ih =
           let consumed = length (concat (take count (full_lines bytes))) in
           let bound = concat-take count (full_lines bytes) in
@@ -131,7 +131,7 @@ first_items-lines (suc fuel) position bytes fits =
           ∙ ap (items_at fuel (position.lines + count)) (ap (map line_of) (full_lines-drop count bytes) ∙ sym (drop-map line_of count (full_lines bytes)) ∙ same))
       result count (Err fault) left same ih = refl
 
-      at : (first : FirstItem) → first_of lines ≡ first → AreOfLines fuel → followed (first_items (next_item longest_input) fuel) (from_first_item false (length lines) first position bytes)
+      at : (first : FirstItem Item) → first_of lines ≡ first → AreOfLines fuel → followed (first_items (next_item longest_input) fuel) (from_first_item at_line false (length lines) first position bytes)
           ≡ from_result (result_of first) position.lines (length lines - length (lines_left first)) (items_at fuel (position.lines + (length lines - length (lines_left first))) (lines_left first))
       at NoItem e ih = refl
       at (Ended r left) e ih = result (length lines - length left) r left (left-drop lines left _ (first_of-left lines left r e)) ih

@@ -6,7 +6,7 @@ use Rattle.std.specs.List.{list_any}
 use Rattle.std.proofs.lemmas.List.{append_assoc}
 use Rattle.dd_file.specs.Cut.{Cut, Whole, Parted, prepend, cut}
 use Rattle.dd_file.specs.Script.{is_dashes, cut_at_pair}
-use Rattle.dd_file.specs.Draft.{has_pair}
+use Rattle.dd_file.specs.ItemDraft.{has_pair}
 
 -- no element passes, and then one does
 pub cut-parted : {X : Type 0} (test : X → Bool) (xs : List X) (x : X) (ys : List X) → list_any test xs ≡ false → test x ≡ true → cut test (xs ++ x ∷ ys) ≡ Parted xs x ys

@@ -3,7 +3,7 @@ use Rattle.std.proofs.Common.{◌≡◌, ℕ, zero, suc, Bool, true, false, not,
 use Rattle.std.specs.Prelude.{◌==◌, Some, Result, Ok, Err, filter}
 use Rattle.std.specs.List.{list_all}
 use Rattle.ascii_text.specs.Lines.{newline, full_lines, before_first_line, without_last, line_of, ends_in_newline}
-use Rattle.dd_file.specs.Script.{FirstItem, NoItem, Ended, Open, result_of, first_of}
+use Rattle.dd_file.specs.Script.{FirstItem, NoItem, Ended, Open, result_of, first_of, at_line}
 use Rattle.dd_file.specs.Position.{Position, start, longest_input}
 use Rattle.dd_file.specs.Grammar.{followed, first_items, with_count, from_first_item, next_item, script_of, is_too_long, full_lines_within}
 use Rattle.dd_file.specs.Laws.{is_line, AreWellFormed}
@@ -52,12 +52,12 @@ first_items-given limit (suc fuel) position bytes = at (is_too_long limit positi
   lines = map line_of (full_lines_within limit position bytes)
 
   found : (count : ℕ) (r : Result Item SyntaxFault) → result_of (first_of lines) ≡ Some r → ((p : Position) (bs : List ℕ) → AreWellFormed (first_items (next_item limit) fuel p bs).items) →
-      AreWellFormed (followed (first_items (next_item limit) fuel) (with_count count r position bytes)).items
+      AreWellFormed (followed (first_items (next_item limit) fuel) (with_count at_line count r position bytes)).items
   found count (Ok item) e ih = (record { number = position.lines + 1; lines = lines; are_lines = full_lines_within-are limit position bytes; first = item; is_first = e; is = refl }, ih _ _)
   found count (Err fault) e ih = tt
 
-  at : (too_long : Bool) (f : FirstItem) → first_of lines ≡ f → ((p : Position) (bs : List ℕ) → AreWellFormed (first_items (next_item limit) fuel p bs).items) →
-      AreWellFormed (followed (first_items (next_item limit) fuel) (from_first_item too_long (length lines) f position bytes)).items
+  at : (too_long : Bool) (f : FirstItem Item) → first_of lines ≡ f → ((p : Position) (bs : List ℕ) → AreWellFormed (first_items (next_item limit) fuel p bs).items) →
+      AreWellFormed (followed (first_items (next_item limit) fuel) (from_first_item at_line too_long (length lines) f position bytes)).items
   at true NoItem e ih = tt
   at false NoItem e ih = tt
   at too_long (Ended r left) e ih = found (length lines - length left) r (ap result_of e) ih

@@ -57,7 +57,7 @@ items_of-joined : (before : ℕ) (lines more : List (List ℕ)) → IsComplete l
 items_of-joined before lines more Done =
     let sum : before + 1 ≡ before + 0 + 1 = omega arith in subst (λ (k : ℕ). AreJoined (items_of before ([] ∷ more)) no_items (items_of k more)) sum (items_of-blank before more)
 items_of-joined before lines more (More ls item first separated rest) = at (first_of ls) refl first separated (λ m. items_of-joined m (lines_left (first_of ls)) more rest) where
-  at : (f : FirstItem) → first_of ls ≡ f → result_of f ≡ Some (Ok item) → has_separator item (length (lines_left f)) (length ls) ≡ true →
+  at : (f : FirstItem Item) → first_of ls ≡ f → result_of f ≡ Some (Ok item) → has_separator item (length (lines_left f)) (length ls) ≡ true →
       ((m : ℕ) → AreJoined (items_of m (lines_left f ++ [] ∷ more)) (items_of m (lines_left f)) (items_of (m + length (lines_left f) + 1) more)) →
       AreJoined (items_of before (ls ++ [] ∷ more)) (items_of before ls) (items_of (before + length ls + 1) more)
   at NoItem e is sep ih = cc

@@ -39,11 +39,11 @@ left-parted j k whole lines xs x ys left e le =
     }
 
 -- an open item with these lines is ended by a blank line, if it is a directive with its separator
-abbrev Closes : List (List ℕ) → List (List ℕ) → Result Item SyntaxFault → FirstItem → Type 0
+abbrev Closes : List (List ℕ) → List (List ℕ) → Result Item SyntaxFault → FirstItem Item → Type 0
 Closes more lines result grown = (left : List (List ℕ)) (item : Item) → more ≡ [] ∷ left → result ≡ Ok item → has_separator item 0 (length lines) ≡ true → grown ≡ Ended result left
 
 -- the first item of these lines, and what it is where more lines follow
-abbrev Grows : List (List ℕ) → List (List ℕ) → FirstItem → FirstItem → Type 0
+abbrev Grows : List (List ℕ) → List (List ℕ) → FirstItem Item → FirstItem Item → Type 0
 Grows more lines NoItem grown = lines ≡ []
 Grows more lines (Ended result left) grown = IsLeft (fewest result) lines left × (grown ≡ Ended result (left ++ more))
 Grows more lines (Open result) grown = (fewest result ≤ length lines) × Closes more lines result grown
@@ -136,7 +136,7 @@ first_of-closes lines left item is separated = (subst (λ first. Grows ([] ∷ l
 -- lines have a first item
 pub first_of-none : (lines : List (List ℕ)) → result_of (first_of lines) ≡ None → lines ≡ []
 first_of-none lines is = at (first_of lines) (first_of-grows [] lines) is where
-  at : (first : FirstItem) → Grows [] lines first (first_of (lines ++ [])) → result_of first ≡ None → lines ≡ []
+  at : (first : FirstItem Item) → Grows [] lines first (first_of (lines ++ [])) → result_of first ≡ None → lines ≡ []
   at NoItem none e = none
   at (Ended r left) own e = cc
   at (Open r) own e = cc
@@ -147,14 +147,14 @@ fewest-some result = grind arith
 
 pub first_of-fewest : (lines : List (List ℕ)) (result : Result Item SyntaxFault) → result_of (first_of lines) ≡ Some result → fewest result ≤ length lines
 first_of-fewest lines result is = at (first_of lines) (first_of-grows [] lines) is where
-  at : (first : FirstItem) → Grows [] lines first (first_of (lines ++ [])) → result_of first ≡ Some result → fewest result ≤ length lines
+  at : (first : FirstItem Item) → Grows [] lines first (first_of (lines ++ [])) → result_of first ≡ Some result → fewest result ≤ length lines
   at NoItem none e = cc
   at (Ended r left) own e = let same : r ≡ result = cc in subst (λ x. fewest x ≤ length lines) same (left-some _ lines left own.0)
   at (Open r) own e = let same : r ≡ result = cc in subst (λ x. fewest x ≤ length lines) same own.0
 
 pub lines_left-shorter : (line : List ℕ) (lines : List (List ℕ)) → length (lines_left (first_of (line ∷ lines))) < length (line ∷ lines)
 lines_left-shorter line lines = at (first_of (line ∷ lines)) (first_of-grows [] (line ∷ lines)) where
-  at : (first : FirstItem) → Grows [] (line ∷ lines) first (first_of ((line ∷ lines) ++ [])) → length (lines_left first) < length (line ∷ lines)
+  at : (first : FirstItem Item) → Grows [] (line ∷ lines) first (first_of ((line ∷ lines) ++ [])) → length (lines_left first) < length (line ∷ lines)
   at NoItem none = omega arith
   at (Ended r left) own = let some = own.0.some in let fewest = fewest-some r in let all = ap length own.0.is in let len = length-append own.0.own left in omega (arith, some, fewest, all, len)
   at (Open r) own = omega arith

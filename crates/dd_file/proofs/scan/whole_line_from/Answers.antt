@@ -1,7 +1,7 @@
 use Rattle.std.proofs.Common.{◌≡◌, ℕ, ◌+◌, List, take, drop, ap, sym, ◌∙◌, arith}
 use Rattle.ascii_text.specs.Lines.{first_len}
 use Rattle.dd_file.specs.Buffered.{HasNoNewline}
-use Rattle.dd_file.proofs.LineReading.NoNewline.{first_len-beyond, first_len-farther, none-found, begins-first}
+use Rattle.dd_file.proofs.Reading.NoNewline.{first_len-beyond, first_len-farther, none-found, begins-first}
 use Rattle.dd_file.proofs.scan.whole_line_from.Goals as goal
 
 -- the full line is the first
