@@ -15,7 +15,7 @@ use Rattle.conf_tool.specs.Outputs.{Output}
 use Rattle.conf_tool.specs.Program.{OfProgram}
 use Rattle.conf_tool.specs.Run.{CanAnswer}
 use Rattle.conf_tool.specs.declared.argument_fault.ArgumentFault.{ArgumentFault}
-use Rattle.conf_tool.specs.declared.argument_fault.ArgumentFault.TheVariants.{Clap, BadIds, BadPair, NoMemory}
+use Rattle.conf_tool.specs.declared.argument_fault.ArgumentFault.TheVariants.{Clap, NoMemory}
 use Rattle.conf_tool.specs.declared.invocation.Invocation.{Invocation}
 use Rattle.conf_tool.specs.declared.mode.Mode.{Mode}
 use Rattle.conf_tool.specs.declared.status.Status.{Status}
@@ -61,9 +61,8 @@ pub record EndsWithError (kind : ErrorKind) (code : ExitCode) : Type 0 where
 -- the exit status after arguments are refused for this reason
 abbrev pub EndsForFault : ArgumentFault → ExitCode → Type 0
 EndsForFault (Clap error) code = EndsWithError (kind_of error) code
-EndsForFault BadIds code = exit_status code ≡ 2
-EndsForFault BadPair code = exit_status code ≡ 2
 EndsForFault NoMemory code = exit_status code ≡ 3
+EndsForFault fault code = exit_status code ≡ 2
 
 -- The arguments are in order, and what they ask for is done.
 pub record EndsAsAsked (arguments : List Text) (files : List ℕ → Option (List ℕ)) (standard before after : Option (List ℕ)) (code : ExitCode) : Type 0 where
