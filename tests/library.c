@@ -158,16 +158,17 @@ static void expect_numbers(const char *name, call which, int allocates, uint32_t
 static void on_texts(const char *a, const char *b) { first = a; second = b; room = ROOM; }
 
 static void texts(void) {
-    /* The text of each status, by its code; 8, 19 and the last number are not statuses. */
+    /* The text of each status, by its code; the last number is not a status. */
     static const char *const words[] = {
         "done", "the buffer is too small", "out of memory", "not a ConfState line", "an id is named twice", "not a configuration",
-        "no incoming voter", "not a step", "unknown status", "config is already joint", "can't make a zero-voter config joint",
+        "no incoming voter", "not a step", "not a member", "config is already joint", "can't make a zero-voter config joint",
         "can't leave a non-joint config", "can't apply simple config change in joint config", "removed all voters",
         "more than one voter changed without entering joint config", "the id 0", "a next learner is not an outgoing voter",
-        "a next learner is an incoming voter", "a learner is a voter", "unknown status",
+        "a next learner is an incoming voter", "a learner is a voter", "removed and added again",
         "auto-leave without outgoing voters", "the counts do not match the length", "a vote is neither 0, 1 nor 2",
         "the voters are no quorum", "unknown strategy", "the target is joint", "unknown step", "unknown kind of change", "unknown output",
-        "no form of a configuration", "not a printed configuration", "not the JSON of a configuration", "not a list of changes", "unknown status"};
+        "no form of a configuration", "not a printed configuration", "not the JSON of a configuration", "not a list of changes",
+        "down and not a member", "unknown status"};
     room = ROOM;
     for (code = 0; code < sizeof words / sizeof *words; code++)
         expect(words[code], status_text, CONFSCRIPT_DONE, strlen(words[code]), words[code]);
@@ -231,8 +232,14 @@ static void forms(void) {
     expect("form: a list of members with a learner", plan, CONFSCRIPT_DONE, 14, "nothing to do\n");
     on_texts("voters=(2 3 4)&&(1 2 3)", "r2");
     expect("form: changes, where the first is joint", plan, CONFSCRIPT_DONE, 22, "leave-joint\nsimple r2\n");
-    on_texts("voters=(1)", "");
-    expect("form: no changes", plan, CONFSCRIPT_DONE, 14, "nothing to do\n");
+    on_texts("voters=(1)&&(1 2)", " \n");
+    expect("form: no changes", plan, CONFSCRIPT_BAD_CHANGE_LIST, 2, "");
+    on_texts("voters=(1)", "v1 u7");
+    expect("form: changes without effect", plan, CONFSCRIPT_DONE, 14, "nothing to do\n");
+    on_texts("voters=(1 2)&&(1 3)", "r3 v7 r7");
+    expect("form: a removal of an id that is not a member", plan, CONFSCRIPT_NOT_A_MEMBER, 7, "");
+    on_texts("voters=(1 2) learners=(18446744073709551615)", "r18446744073709551615 l18446744073709551615 r7");
+    expect("form: a member is removed and added again", plan, CONFSCRIPT_ADDED_AGAIN, UINT64_MAX, "");
     on_texts("voters=(1)", "r1");
     expect("form: changes that leave no voter", plan, CONFSCRIPT_NO_VOTER, 2, "");
     on_texts("", "v1");
@@ -295,7 +302,7 @@ static void outputs(void) {
     output = CONFSCRIPT_STEPS;
     expect("output: steps with ids down, which are removed first", plan, CONFSCRIPT_DONE, strlen(retired), retired);
     strategy = CONFSCRIPT_SHORTEST;
-    on_texts("voters=(1 2 3)", "");
+    on_texts("voters=(1 2 3)", "v1");
     SET(down, 1, 2);
     expect("output: steps that stall", plan, CONFSCRIPT_DONE, 61, "# no quorum with 1 2 down: no step can be made\nnothing to do\n");
     output = CONFSCRIPT_JSON;
@@ -305,6 +312,9 @@ static void outputs(void) {
     output = CONFSCRIPT_TABLE;
     on_texts("voters=(1)", "v2");
     expect("output: a table", plan, CONFSCRIPT_DONE, strlen(table), table);
+    on_texts("voters=(1 2)", "r2 v4");
+    SET(down, 9, 4, 7, 2);
+    expect("output: ids are down that are not members", plan, CONFSCRIPT_DOWN_NOT_A_MEMBER, 7, "");
     on_texts("", "");
     SET(down, 1, 0);
     expect("output: the id 0 is down", plan, CONFSCRIPT_ZERO_ID, 0, "");

@@ -65,6 +65,8 @@ enum confscript_status {
     CONFSCRIPT_NO_VOTER = 6,
     /* A line of the plan is not a step. The number is that of the line, counted from 1. */
     CONFSCRIPT_BAD_LINE = 7,
+    /* confscript_plan: a change of the target removes an id that is not a member. The number is the id. */
+    CONFSCRIPT_NOT_A_MEMBER = 8,
 
     /* confscript_apply and _step: a step is refused. confscript_apply: the number is that of the step, counted from 1. */
     CONFSCRIPT_ALREADY_JOINT = 9,
@@ -81,6 +83,10 @@ enum confscript_status {
     CONFSCRIPT_NEXT_AND_INCOMING = 17,          /* a next learner is an incoming voter */
     CONFSCRIPT_LEARNER_AND_VOTER = 18,          /* a learner is a voter */
     CONFSCRIPT_NOT_JOINT_BUT_AUTO_LEAVE = 20,   /* auto-leave without outgoing voters */
+
+    /* confscript_plan: the changes of the target remove a member, and then make it a voter or a learner again. A server
+       that lost its log needs a new id. The number is the id. */
+    CONFSCRIPT_ADDED_AGAIN = 19,
 
     /* confscript_restore and _step: the array does not have the form of enum confscript_part. It has fewer than six
        numbers, its first number is neither 0 nor 1, or its length is not what the counts make it. */
@@ -106,10 +112,12 @@ enum confscript_status {
     CONFSCRIPT_BAD_OUTPUT = 28,
     /* confscript_plan: a text cannot be read. How it begins decides in which form it is read. The number is as for
        CONFSCRIPT_BAD_CONF_STATE. */
-    CONFSCRIPT_UNKNOWN_FORM = 29,   /* the first text begins as no form of a configuration does */
-    CONFSCRIPT_BAD_PRINTED = 30,    /* it begins with `voters`, and is not a printed configuration */
-    CONFSCRIPT_BAD_JSON = 31,       /* it begins with `{`, and is not the JSON of a configuration */
-    CONFSCRIPT_BAD_CHANGE_LIST = 32 /* the second text is in no other form, and not a list of changes */
+    CONFSCRIPT_UNKNOWN_FORM = 29,    /* the first text begins as no form of a configuration does */
+    CONFSCRIPT_BAD_PRINTED = 30,     /* it begins with `voters`, and is not a printed configuration */
+    CONFSCRIPT_BAD_JSON = 31,        /* it begins with `{`, and is not the JSON of a configuration */
+    CONFSCRIPT_BAD_CHANGE_LIST = 32, /* the second text is in no other form, and is blank or not a list of changes */
+    /* confscript_plan: an id that is down is a member of neither configuration. The number is the least such id. */
+    CONFSCRIPT_DOWN_NOT_A_MEMBER = 33
 };
 
 /* How confscript_plan goes from one configuration to another. */
@@ -229,13 +237,15 @@ struct confscript_answer confscript_status_text(uint32_t status, uint8_t *out, s
  *     {"voters":[1,2,3],"learners":[4]}                                     a raftpb.ConfState in JSON
  *     {"members":[{"ID":1},{"ID":2},{"ID":4,"isLearner":true}]}             etcdctl member list -w json
  * The target may also be a list of changes, such as `r1 v4 l5`, which are made at once in the first configuration; if
- * that is joint, it is left first. An empty text is a list of no changes.
+ * that is joint, it is left first. The list must not be empty, remove an id that is not a member of the first
+ * configuration, or remove a member and make it a voter or a learner again.
  *
- * `down` has the ids that are down, in any order; for none, `down_len` is 0. With CONFSCRIPT_ONE_AT_A_TIME, voters that
- * are down are removed first, as etcd's server demands, if both configurations commit without them. If ids are down,
- * the table and the JSON report how many others may be down on the way. If nothing commits in some configuration of the
- * plan, the plan stalls: then the steps begin with the line `# stalls with 4 5 down`, or, if the first configuration is
- * such a one itself, `# no quorum with 4 5 down: no step can be made`. confscript_apply does not take such a line.
+ * `down` has the ids that are down, in any order; for none, `down_len` is 0. Each must be a member of one of the two
+ * configurations. With CONFSCRIPT_ONE_AT_A_TIME, voters that are down are removed first, as etcd's server demands, if
+ * both configurations commit without them. If ids are down, the table and the JSON report how many others may be down
+ * on the way. If nothing commits in some configuration of the plan, the plan stalls: then the steps begin with the line
+ * `# stalls with 4 5 down`, or, if the first configuration is such a one itself, `# no quorum with 4 5 down: no step can
+ * be made`. confscript_apply does not take such a line.
  *
  * Both configurations must be valid and have an incoming voter. The voters before and after each step overlap, and no
  * configuration on the way tolerates fewer failures than the weaker end, once its members have caught up; with

@@ -6,16 +6,22 @@ use Rattle.plan_input.specs.declared.text_fault.TextFault.{TextFault}
 use Rattle.plan_input.specs.declared.text_fault.TextFault.TheVariants as fault
 use Rattle.confscript_c.specs.Answer.{status_answer, no_memory}
 use Rattle.confscript_c.specs.declared.answer.Answer.{Answer}
-use Rattle.confscript_c.specs.declared.status.Status.TheVariants.{BadConfState, NotAConfiguration, UnknownForm, BadPrinted, BadJson, BadChangeList}
+use Rattle.confscript_c.specs.declared.status.Status.TheVariants.{BadConfState, NotAConfiguration, UnknownForm, BadPrinted, BadJson, BadChangeList, NotAMember, AddedAgain}
 
--- the answer for an error of the text with this number
+-- the answer for an error of the text with this number; a change that is refused has the number of its id
 abbrev pub text_answer : ℕ → TextFault → Answer
 text_answer number fault.UnknownForm = status_answer UnknownForm number
-text_answer number fault.BadConfState = status_answer BadConfState number
-text_answer number fault.BadPrinted = status_answer BadPrinted number
-text_answer number fault.BadJson = status_answer BadJson number
+text_answer number (fault.BadConfState hint) = status_answer BadConfState number
+text_answer number (fault.BadPrinted hint) = status_answer BadPrinted number
+text_answer number (fault.CommasBetween hint) = status_answer BadPrinted number
+text_answer number (fault.BadJson hint) = status_answer BadJson number
+text_answer number (fault.TextIds hint) = status_answer BadJson number
 text_answer number (fault.NotAConfiguration violation) = status_answer NotAConfiguration number
-text_answer number (fault.BadChange token) = status_answer BadChangeList number
+text_answer number (fault.BadChange token hint) = status_answer BadChangeList number
+text_answer number (fault.BareId token) = status_answer BadChangeList number
+text_answer number fault.Empty = status_answer BadChangeList number
+text_answer number (fault.NotAMember id) = status_answer NotAMember id
+text_answer number (fault.AddedAgain id) = status_answer AddedAgain id
 text_answer number fault.NoMemory = no_memory
 
 -- the configuration of the text with this number, or the answer if it has none

@@ -1,5 +1,5 @@
 -- The plan from the configuration of one text to that of another, by a strategy, as one of the program's outputs.
-use Rattle.std.specs.Prelude.{◌≡◌, ℕ, List, Option, Result, Ok, Err, if◌then◌else◌}
+use Rattle.std.specs.Prelude.{◌≡◌, ℕ, List, Option, Some, None, option_and_then, Result, Ok, Err, if◌then◌else◌}
 use Rattle.quorum_sets.specs.Ids.{Ids}
 use Rattle.conf_change.specs.Configuration.{Configuration, has_voter}
 use Rattle.conf_change.specs.ConfState.{lists_of}
@@ -10,6 +10,7 @@ use Rattle.conf_plan.specs.PathBy.{has_path, path_by, KeepsPromises}
 use Rattle.conf_plan.specs.PlanText.{plan_text}
 use Rattle.conf_plan.specs.declared.strategy.NoPath.{NoPath}
 use Rattle.conf_plan.specs.declared.strategy.NoPath.TheVariants as none
+use Rattle.plan_input.specs.Stranger.{stranger_of}
 use Rattle.plan_output.specs.Json.{json_text}
 use Rattle.plan_output.specs.Steps.{ids_down, steps_text}
 use Rattle.plan_output.specs.Table.{table_text}
@@ -22,7 +23,7 @@ use Rattle.confscript_c.specs.declared.answer.Answer.{Answer}
 use Rattle.confscript_c.specs.declared.request.Output.{Output}
 use Rattle.confscript_c.specs.declared.request.Output.TheVariants.{Steps, Table, Json}
 use Rattle.confscript_c.specs.declared.request.Request.{Request}
-use Rattle.confscript_c.specs.declared.status.Status.TheVariants.{NoVoter, JointTarget}
+use Rattle.confscript_c.specs.declared.status.Status.TheVariants.{NoVoter, JointTarget, DownNotAMember}
 
 -- the text of a path as this output, for the first pair; the definitions are those of the program's mode `plan`
 abbrev pub text_as : Output → Option Ids → Configuration → List Step → List ℕ
@@ -48,11 +49,20 @@ path_result request now target =
     else Err (status_answer NoVoter 2))
     else Err (status_answer NoVoter 1)
 
--- the result for a request and two configurations; an error of the request comes first
+-- the least id that is down and a member of neither configuration
+abbrev pub stranger_in : Option Ids → Configuration → Configuration → Option ℕ
+stranger_in down now target = option_and_then (λ ids. stranger_of ids now target) down
+
+-- a result, or the answer for an id that is down and not a member
+abbrev pub unless_stranger : Option ℕ → OutResult → OutResult
+unless_stranger None result = result
+unless_stranger (Some id) result = Err (status_answer DownNotAMember id)
+
+-- the result for a request and two configurations; an error of the request comes first, and then one of a text
 abbrev pub result_for : Result Request Answer → Result (Configuration × Configuration) Answer → OutResult
 result_for (Err why) pair = Err why
 result_for (Ok request) (Err why) = Err why
-result_for (Ok request) (Ok pair) = path_result request pair.0 pair.1
+result_for (Ok request) (Ok pair) = unless_stranger (stranger_in request.down pair.0 pair.1) (path_result request pair.0 pair.1)
 
 -- the result of `confscript_plan` for the codes of a strategy and an output, a list of ids that are down, and two texts
 abbrev pub plan_result : ℕ → ℕ → List ℕ → List ℕ → List ℕ → OutResult

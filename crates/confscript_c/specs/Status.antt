@@ -1,7 +1,7 @@
 -- The codes of the statuses and their texts, which include/confscript.h gives to callers.
 use Rattle.std.specs.Prelude.{ℕ, List, codes, ◌==◌, if◌then◌else◌}
 use Rattle.confscript_c.specs.declared.status.Status.{Status}
-use Rattle.confscript_c.specs.declared.status.Status.TheVariants.{Done, TooSmall, NoMemory, BadConfState, RepeatedId, NotAConfiguration, NoVoter, BadLine, AlreadyJoint, ZeroVoterJoint, NotJoint, SimpleInJoint, RemovedAllVoters, MoreThanOneVoter, ZeroId, NextNotOutgoing, NextAndIncoming, LearnerAndVoter, NotJointButAutoLeave, DifferentLengths, BadVote, NoQuorum, BadStrategy, JointTarget, BadStep, BadChange, BadOutput, UnknownForm, BadPrinted, BadJson, BadChangeList}
+use Rattle.confscript_c.specs.declared.status.Status.TheVariants.{Done, TooSmall, NoMemory, BadConfState, RepeatedId, NotAConfiguration, NoVoter, BadLine, NotAMember, AlreadyJoint, ZeroVoterJoint, NotJoint, SimpleInJoint, RemovedAllVoters, MoreThanOneVoter, ZeroId, NextNotOutgoing, NextAndIncoming, LearnerAndVoter, AddedAgain, NotJointButAutoLeave, DifferentLengths, BadVote, NoQuorum, BadStrategy, JointTarget, BadStep, BadChange, BadOutput, UnknownForm, BadPrinted, BadJson, BadChangeList, DownNotAMember}
 
 -- the code of a status; codes never change
 abbrev pub code_of : Status → ℕ
@@ -13,6 +13,7 @@ code_of RepeatedId = 4
 code_of NotAConfiguration = 5
 code_of NoVoter = 6
 code_of BadLine = 7
+code_of NotAMember = 8
 code_of AlreadyJoint = 9
 code_of ZeroVoterJoint = 10
 code_of NotJoint = 11
@@ -23,6 +24,7 @@ code_of ZeroId = 15
 code_of NextNotOutgoing = 16
 code_of NextAndIncoming = 17
 code_of LearnerAndVoter = 18
+code_of AddedAgain = 19
 code_of NotJointButAutoLeave = 20
 code_of DifferentLengths = 21
 code_of BadVote = 22
@@ -36,6 +38,7 @@ code_of UnknownForm = 29
 code_of BadPrinted = 30
 code_of BadJson = 31
 code_of BadChangeList = 32
+code_of DownNotAMember = 33
 
 -- what a status means; the text of a refused step is what the program prints
 abbrev pub status_text : Status → List ℕ
@@ -47,6 +50,7 @@ status_text RepeatedId = codes "an id is named twice"
 status_text NotAConfiguration = codes "not a configuration"
 status_text NoVoter = codes "no incoming voter"
 status_text BadLine = codes "not a step"
+status_text NotAMember = codes "not a member"
 status_text AlreadyJoint = codes "config is already joint"
 status_text ZeroVoterJoint = codes "can't make a zero-voter config joint"
 status_text NotJoint = codes "can't leave a non-joint config"
@@ -57,6 +61,7 @@ status_text ZeroId = codes "the id 0"
 status_text NextNotOutgoing = codes "a next learner is not an outgoing voter"
 status_text NextAndIncoming = codes "a next learner is an incoming voter"
 status_text LearnerAndVoter = codes "a learner is a voter"
+status_text AddedAgain = codes "removed and added again"
 status_text NotJointButAutoLeave = codes "auto-leave without outgoing voters"
 status_text DifferentLengths = codes "the counts do not match the length"
 status_text BadVote = codes "a vote is neither 0, 1 nor 2"
@@ -70,8 +75,9 @@ status_text UnknownForm = codes "no form of a configuration"
 status_text BadPrinted = codes "not a printed configuration"
 status_text BadJson = codes "not the JSON of a configuration"
 status_text BadChangeList = codes "not a list of changes"
+status_text DownNotAMember = codes "down and not a member"
 
--- what the status of a code means; 8, 19 and the numbers above 32 are codes of none
+-- what the status of a code means; the numbers above 33 are codes of none
 abbrev pub text_of_code : ℕ → List ℕ
 text_of_code code =
     if code == 0 then status_text Done
@@ -82,6 +88,7 @@ text_of_code code =
     else (if code == 5 then status_text NotAConfiguration
     else (if code == 6 then status_text NoVoter
     else (if code == 7 then status_text BadLine
+    else (if code == 8 then status_text NotAMember
     else (if code == 9 then status_text AlreadyJoint
     else (if code == 10 then status_text ZeroVoterJoint
     else (if code == 11 then status_text NotJoint
@@ -92,6 +99,7 @@ text_of_code code =
     else (if code == 16 then status_text NextNotOutgoing
     else (if code == 17 then status_text NextAndIncoming
     else (if code == 18 then status_text LearnerAndVoter
+    else (if code == 19 then status_text AddedAgain
     else (if code == 20 then status_text NotJointButAutoLeave
     else (if code == 21 then status_text DifferentLengths
     else (if code == 22 then status_text BadVote
@@ -105,4 +113,5 @@ text_of_code code =
     else (if code == 30 then status_text BadPrinted
     else (if code == 31 then status_text BadJson
     else (if code == 32 then status_text BadChangeList
-    else codes "unknown status"))))))))))))))))))))))))))))))
+    else (if code == 33 then status_text DownNotAMember
+    else codes "unknown status")))))))))))))))))))))))))))))))))

@@ -1,5 +1,5 @@
 //! Reads the two texts of `confscript_plan`, in the forms that the program reads. A caller in C sees no error type, so
-//! an error becomes a status with the number of the text: 1 or 2.
+//! an error becomes a status with the number of the text, 1 or 2, or with the id of a change that is refused.
 ghost use Rattle.std.specs.Prelude.{◌≡◌, ◌⊎◌, true, Ok, Err, IfOk, IfErr};
 ghost use Rattle.conf_change.specs.Configuration.{is_valid};
 ghost use Rattle.confscript_c.specs.Answer.{no_memory};
@@ -65,11 +65,17 @@ fn text_answer(number: u64, fault: TextFault) -> Answer
 {
     match fault {
         TextFault::UnknownForm => Answer::new(Status::UnknownForm, number),
-        TextFault::BadConfState => Answer::new(Status::BadConfState, number),
-        TextFault::BadPrinted => Answer::new(Status::BadPrinted, number),
-        TextFault::BadJson => Answer::new(Status::BadJson, number),
+        TextFault::BadConfState(_) => Answer::new(Status::BadConfState, number),
+        TextFault::BadPrinted(_) | TextFault::CommasBetween(_) => {
+            Answer::new(Status::BadPrinted, number)
+        }
+        TextFault::BadJson(_) | TextFault::TextIds(_) => Answer::new(Status::BadJson, number),
         TextFault::NotAConfiguration(_) => Answer::new(Status::NotAConfiguration, number),
-        TextFault::BadChange(_) => Answer::new(Status::BadChangeList, number),
+        TextFault::BadChange(_, _) | TextFault::BareId(_) | TextFault::Empty => {
+            Answer::new(Status::BadChangeList, number)
+        }
+        TextFault::NotAMember(id) => Answer::new(Status::NotAMember, id),
+        TextFault::AddedAgain(id) => Answer::new(Status::AddedAgain, id),
         TextFault::NoMemory => Answer::no_memory(),
     }
 }

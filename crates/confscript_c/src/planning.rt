@@ -8,13 +8,13 @@
 //!                                      leave-joint
 //! ```
 ghost use Rattle.std.specs.Prelude.{◌≡◌, ◌≢◌, ◌⊎◌, ◌↔◌, ◌++◌, ℕ, List, true, false, option_copied, option_map, Ok, Err, IfOk, IfErr, OnOk};
-ghost use Rattle.conf_change.specs.Configuration.{has_voter, is_restorable, is_valid};
+ghost use Rattle.conf_change.specs.Configuration.{has_voter, is_valid};
 ghost use Rattle.conf_plan.specs.PathBy.{has_path, path_by, KeepsPromises};
 ghost use Rattle.conf_plan.specs.PlanCode.{path_in};
 ghost use Rattle.conf_plan.specs.PlanText.{plan_text};
 ghost use Rattle.plan_output.specs.Steps.{ids_down, steps_text};
 ghost use Rattle.confscript_c.specs.Answer.{no_memory};
-ghost use Rattle.confscript_c.specs.Planning.{no_path_answer, path_result, plan_result, text_as, IsPathText, LeadsToTarget};
+ghost use Rattle.confscript_c.specs.Planning.{no_path_answer, path_result, plan_result, stranger_in, text_as, IsPathText, LeadsToTarget};
 ghost use Rattle.confscript_c.specs.Written.{Writes};
 
 use crate::answer::Answer;
@@ -24,6 +24,7 @@ use crate::request::{Output, Request, request_in};
 use crate::status::Status;
 use conf_change::{Config, laws};
 use conf_plan::{NoPath, Path, plan_by};
+use plan_input::stranger_of;
 use plan_output::{add_json_lines, add_steps, add_table, stall_note};
 use quorum_sets::{InlineIds, MemberSet, NoMemory};
 use std::alloc::Global;
@@ -31,9 +32,9 @@ use std::alloc::Global;
 /// Writes the plan from the configuration of one text to the target of another, in the forms that the program reads, by
 /// a strategy: 0 for the shortest, 1 for learners first, 2 for one at a time. The output is 0 for steps, 1 for a table,
 /// and 2 for JSON lines. The plan is made for the ids that are down, if there are any. The number is the length of the
-/// text in bytes. The call is refused if the strategy or the output is unknown, if an id that is down is 0, if a text
-/// does not denote a valid configuration with an incoming voter, or if the strategy has no plan (sections 4.2.1 and 4.3
-/// of Ongaro's dissertation; the strategies and the outputs are own).
+/// text in bytes. The call is refused if the strategy or the output is unknown, if an id that is down is 0 or a member of
+/// neither configuration, if a text does not denote a valid configuration with an incoming voter, or if the strategy has
+/// no plan (sections 4.2.1 and 4.3 of Ongaro's dissertation; the strategies and the outputs are own).
 #[unsafe(no_mangle)]
 pub extern "C" fn confscript_plan(
     alloc: Global,
@@ -56,7 +57,8 @@ pub extern "C" fn confscript_plan(
     }
 }
 
-// The text of the plan. The strategy is looked at first, then the output, the ids that are down, and the texts.
+// The text of the plan. The strategy is looked at first, then the output, the ids that are down, the texts, and whether
+// the ids that are down are members.
 fn plan_between(
     alloc: Global,
     now: &[u8],
@@ -71,7 +73,24 @@ fn plan_between(
 {
     let request = request_in(alloc, strategy, output, down)?;
     let (now, target) = pair_in(alloc, now, target)?;
-    text_between(alloc, &request, &now, &target)
+    match stranger_in(&request, &now, &target) {
+        Some(id) => Err(Answer::new(Status::DownNotAMember, id)),
+        None => text_between(alloc, &request, &now, &target),
+    }
+}
+
+// The least id that is down and a member of neither configuration.
+fn stranger_in(
+    request: &Request,
+    now: &Config<InlineIds>,
+    target: &Config<InlineIds>,
+) -> Option<u64>
+    ensures { result ≡ stranger_in request.now.down now.now target.now }
+{
+    match &request.down {
+        Some(down) => stranger_of(down, now, target),
+        None => None,
+    }
 }
 
 // The text of the plan between two configurations, or the answer with the reason why there is none.
@@ -144,7 +163,6 @@ fn path_text(
     now: &Config<InlineIds>,
     path: &Path,
 ) -> Result<Vec<u8>, NoMemory>
-    requires { is_restorable now.now ≡ true }
     ensures text { IfOk result (λ text. text.items ≡ text_as request.now.output request.now.down now.now path.now) }
     ensures reads_back { IfOk result (λ _. request.now.output ≡ Output.Steps → path_in (plan_text path.now) ≡ Ok path.now) }
 {

@@ -27,6 +27,8 @@ pub enum Status {
     NoVoter = 6,
     /// A line of a plan is not a step. The number is that of the line, from 1.
     BadLine = 7,
+    /// A change of a target removes an id that is not a member. The number is the id.
+    NotAMember = 8,
     // From here to 14 a step is refused. By `confscript_apply`, the number is that of the step, from 1.
     AlreadyJoint = 9,
     ZeroVoterJoint = 10,
@@ -34,11 +36,13 @@ pub enum Status {
     SimpleInJoint = 12,
     RemovedAllVoters = 13,
     MoreThanOneVoter = 14,
-    // From here to 20 an invariant is broken. For 16 to 18, the number is the least id that breaks it.
+    // From here to 18, and in 20, an invariant is broken. For 16 to 18, the number is the least id that breaks it.
     ZeroId = 15,
     NextNotOutgoing = 16,
     NextAndIncoming = 17,
     LearnerAndVoter = 18,
+    /// The changes of a target remove a member and add it again. The number is the id.
+    AddedAgain = 19,
     NotJointButAutoLeave = 20,
     /// An array does not have the form of a configuration in numbers.
     DifferentLengths = 21,
@@ -64,10 +68,12 @@ pub enum Status {
     BadJson = 31,
     /// A text is not a list of changes. The number is that of the text: 2.
     BadChangeList = 32,
+    /// An id that is down is a member of neither configuration. The number is the least such id.
+    DownNotAMember = 33,
 }
 
 impl Status {
-    /// The code of the status, from 0 to 32. 8 and 19 are the codes of none.
+    /// The code of the status, from 0 to 33.
     pub fn code(self) -> u32
         ensures { result ≡ code_of self }
     {
@@ -87,6 +93,7 @@ impl Status {
             Status::NotAConfiguration => "not a configuration",
             Status::NoVoter => "no incoming voter",
             Status::BadLine => "not a step",
+            Status::NotAMember => "not a member",
             Status::AlreadyJoint => "config is already joint",
             Status::ZeroVoterJoint => "can't make a zero-voter config joint",
             Status::NotJoint => "can't leave a non-joint config",
@@ -97,6 +104,7 @@ impl Status {
             Status::NextNotOutgoing => "a next learner is not an outgoing voter",
             Status::NextAndIncoming => "a next learner is an incoming voter",
             Status::LearnerAndVoter => "a learner is a voter",
+            Status::AddedAgain => "removed and added again",
             Status::NotJointButAutoLeave => "auto-leave without outgoing voters",
             Status::DifferentLengths => "the counts do not match the length",
             Status::BadVote => "a vote is neither 0, 1 nor 2",
@@ -110,6 +118,7 @@ impl Status {
             Status::BadPrinted => "not a printed configuration",
             Status::BadJson => "not the JSON of a configuration",
             Status::BadChangeList => "not a list of changes",
+            Status::DownNotAMember => "down and not a member",
         }
     }
 }
@@ -137,6 +146,7 @@ fn text_of_code(code: u32) -> &'static str
         5 => Status::NotAConfiguration.text(),
         6 => Status::NoVoter.text(),
         7 => Status::BadLine.text(),
+        8 => Status::NotAMember.text(),
         9 => Status::AlreadyJoint.text(),
         10 => Status::ZeroVoterJoint.text(),
         11 => Status::NotJoint.text(),
@@ -147,6 +157,7 @@ fn text_of_code(code: u32) -> &'static str
         16 => Status::NextNotOutgoing.text(),
         17 => Status::NextAndIncoming.text(),
         18 => Status::LearnerAndVoter.text(),
+        19 => Status::AddedAgain.text(),
         20 => Status::NotJointButAutoLeave.text(),
         21 => Status::DifferentLengths.text(),
         22 => Status::BadVote.text(),
@@ -160,6 +171,7 @@ fn text_of_code(code: u32) -> &'static str
         30 => Status::BadPrinted.text(),
         31 => Status::BadJson.text(),
         32 => Status::BadChangeList.text(),
+        33 => Status::DownNotAMember.text(),
         _ => "unknown status",
     }
 }

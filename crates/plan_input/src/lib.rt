@@ -20,7 +20,7 @@
 //! ```
 //!
 //! The removal of an id that is not a member is refused, and so is a member that is removed and added again: etcd's raft
-//! would take both, and a user hardly means them.
+//! lets both through, and a user hardly means them.
 //!
 //! [`read_current`] reads the one and [`read_target`] the other. How a text begins decides in which form it is read, so
 //! that an error can say what is wrong in that form. All of this is own.
