@@ -41,7 +41,7 @@ func TestStrategies(t *testing.T) {
 }
 
 func TestOutputs(t *testing.T) {
-	const table = `step         1 2  majority  may be down  catch up  until then  besides 7
+	const table = `step         1 2  majority  may be down  catch up  until then  besides 2
 now          V .  1 of 1    0                                  0
 1 simple v2  V V  2 of 2    0            2         stalls      stalls
 `
@@ -50,7 +50,7 @@ now          V .  1 of 1    0                                  0
 		options Options
 		to      string
 	}{
-		table:                        {Table, Options{Down: []uint64{7}}, "v2"},
+		table:                        {Table, Options{Down: []uint64{2}}, "v2"},
 		"{\"plan\":1,\"steps\":0}\n": {JSON, Options{}, "v1"},
 		"# no quorum with 1 down: no step can be made\nsimple v2\n": {Steps, Options{Down: []uint64{1}}, "v2"},
 	} {
@@ -78,6 +78,9 @@ func TestRefusals(t *testing.T) {
 	_, printed := Plan(now, "voters=(1")
 	_, json := Plan("{}}", target)
 	_, list := Plan(now, "v1 x")
+	_, member := Plan(now, "r7")
+	_, again := Plan(now, "r3 v3")
+	_, down := PlanBy(Options{Down: []uint64{3, 9}}, now, "v4")
 	_, step := Apply(now, "leave-joint")
 	_, strategy := PlanBy(Options{Strategy: 3}, now, target)
 	_, output := PlanAs(3, Options{}, now, target)
@@ -90,6 +93,9 @@ func TestRefusals(t *testing.T) {
 		"not a printed configuration (the target)":            printed,
 		"not the JSON of a configuration (the configuration)": json,
 		"not a list of changes (the target)":                  list,
+		"not a member (id 7)":                                 member,
+		"removed and added again (id 3)":                      again,
+		"down and not a member (id 9)":                        down,
 		"unknown strategy":                                    strategy,
 		"unknown output":                                      output,
 		"the target is joint":                                 joint,
@@ -106,10 +112,10 @@ func TestRefusals(t *testing.T) {
 
 // statuses are all that the package names.
 var statuses = []Status{
-	ErrNoMemory, ErrBadConfState, ErrRepeatedID, ErrNotAConfiguration, ErrNoVoter, ErrBadLine, ErrAlreadyJoint, ErrZeroVoterJoint, ErrNotJoint,
-	ErrSimpleInJoint, ErrRemovedAllVoters, ErrMoreThanOneVoter, ErrZeroID, ErrNextNotOutgoing, ErrNextAndIncoming, ErrLearnerAndVoter,
+	ErrNoMemory, ErrBadConfState, ErrRepeatedID, ErrNotAConfiguration, ErrNoVoter, ErrBadLine, ErrNotAMember, ErrAlreadyJoint, ErrZeroVoterJoint, ErrNotJoint,
+	ErrSimpleInJoint, ErrRemovedAllVoters, ErrMoreThanOneVoter, ErrZeroID, ErrNextNotOutgoing, ErrNextAndIncoming, ErrLearnerAndVoter, ErrAddedAgain,
 	ErrNotJointButAutoLeave, ErrDifferentLengths, ErrBadVote, ErrNoQuorum, ErrBadStrategy, ErrJointTarget, ErrBadStep, ErrBadChange, ErrBadOutput,
-	ErrUnknownForm, ErrBadPrinted, ErrBadJSON, ErrBadChangeList,
+	ErrUnknownForm, ErrBadPrinted, ErrBadJSON, ErrBadChangeList, ErrDownNotAMember,
 }
 
 // TestStatuses looks at each number from that of ErrNoMemory on: it has a name here if the library has a text for it.

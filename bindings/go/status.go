@@ -13,8 +13,8 @@ import "fmt"
 // errors.Is(err, confscript.ErrNotJoint) reports whether that is why.
 type Status uint32
 
-// The statuses of refusals. For ErrNextNotOutgoing, ErrNextAndIncoming, ErrLearnerAndVoter and ErrRepeatedID, the number of
-// the Refused is the id.
+// The statuses of refusals. For ErrNextNotOutgoing, ErrNextAndIncoming, ErrLearnerAndVoter, ErrRepeatedID and the three of ids that are not
+// members, the number of the Refused is the id.
 const (
 	ErrNoMemory             Status = C.CONFSCRIPT_NO_MEMORY
 	ErrBadConfState         Status = C.CONFSCRIPT_BAD_CONF_STATE
@@ -22,6 +22,7 @@ const (
 	ErrNotAConfiguration    Status = C.CONFSCRIPT_NOT_A_CONFIGURATION
 	ErrNoVoter              Status = C.CONFSCRIPT_NO_VOTER
 	ErrBadLine              Status = C.CONFSCRIPT_BAD_LINE
+	ErrNotAMember           Status = C.CONFSCRIPT_NOT_A_MEMBER
 	ErrAlreadyJoint         Status = C.CONFSCRIPT_ALREADY_JOINT
 	ErrZeroVoterJoint       Status = C.CONFSCRIPT_ZERO_VOTER_JOINT
 	ErrNotJoint             Status = C.CONFSCRIPT_NOT_JOINT
@@ -32,6 +33,7 @@ const (
 	ErrNextNotOutgoing      Status = C.CONFSCRIPT_NEXT_NOT_OUTGOING
 	ErrNextAndIncoming      Status = C.CONFSCRIPT_NEXT_AND_INCOMING
 	ErrLearnerAndVoter      Status = C.CONFSCRIPT_LEARNER_AND_VOTER
+	ErrAddedAgain           Status = C.CONFSCRIPT_ADDED_AGAIN
 	ErrNotJointButAutoLeave Status = C.CONFSCRIPT_NOT_JOINT_BUT_AUTO_LEAVE
 	ErrDifferentLengths     Status = C.CONFSCRIPT_DIFFERENT_LENGTHS
 	ErrBadVote              Status = C.CONFSCRIPT_BAD_VOTE
@@ -45,6 +47,7 @@ const (
 	ErrBadPrinted           Status = C.CONFSCRIPT_BAD_PRINTED
 	ErrBadJSON              Status = C.CONFSCRIPT_BAD_JSON
 	ErrBadChangeList        Status = C.CONFSCRIPT_BAD_CHANGE_LIST
+	ErrDownNotAMember       Status = C.CONFSCRIPT_DOWN_NOT_A_MEMBER
 )
 
 // Error returns what the status means, in words.
@@ -88,7 +91,7 @@ func (refused *Refused) of() string {
 			return "the configuration"
 		}
 		return "the target"
-	case ErrRepeatedID, ErrNextNotOutgoing, ErrNextAndIncoming, ErrLearnerAndVoter:
+	case ErrRepeatedID, ErrNextNotOutgoing, ErrNextAndIncoming, ErrLearnerAndVoter, ErrNotAMember, ErrAddedAgain, ErrDownNotAMember:
 		return fmt.Sprint("id ", refused.Number)
 	case ErrBadLine:
 		return fmt.Sprint("line ", refused.Number)

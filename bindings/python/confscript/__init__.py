@@ -46,6 +46,7 @@ class Status(IntEnum):
     NOT_A_CONFIGURATION = 5
     NO_VOTER = 6
     BAD_LINE = 7
+    NOT_A_MEMBER = 8
     ALREADY_JOINT = 9
     ZERO_VOTER_JOINT = 10
     NOT_JOINT = 11
@@ -56,6 +57,7 @@ class Status(IntEnum):
     NEXT_NOT_OUTGOING = 16
     NEXT_AND_INCOMING = 17
     LEARNER_AND_VOTER = 18
+    ADDED_AGAIN = 19
     NOT_JOINT_BUT_AUTO_LEAVE = 20
     DIFFERENT_LENGTHS = 21
     BAD_VOTE = 22
@@ -69,6 +71,7 @@ class Status(IntEnum):
     BAD_PRINTED = 30
     BAD_JSON = 31
     BAD_CHANGE_LIST = 32
+    DOWN_NOT_A_MEMBER = 33
 
 
 _TEXTS = {
@@ -76,7 +79,10 @@ _TEXTS = {
 }
 # What the number of a status is counted of.
 _COUNTED = {
-    "id ": {Status.REPEATED_ID, Status.NEXT_NOT_OUTGOING, Status.NEXT_AND_INCOMING, Status.LEARNER_AND_VOTER},
+    "id ": {
+        Status.REPEATED_ID, Status.NEXT_NOT_OUTGOING, Status.NEXT_AND_INCOMING, Status.LEARNER_AND_VOTER, Status.NOT_A_MEMBER, Status.ADDED_AGAIN,
+        Status.DOWN_NOT_A_MEMBER,
+    },
     "line ": {Status.BAD_LINE},
     "step ": {
         Status.ALREADY_JOINT, Status.ZERO_VOTER_JOINT, Status.NOT_JOINT, Status.SIMPLE_IN_JOINT, Status.REMOVED_ALL_VOTERS, Status.MORE_THAN_ONE_VOTER,

@@ -28,13 +28,13 @@ class Calls(unittest.TestCase):
 
     def test_outputs(self):
         table = (
-            "step         1 2  majority  may be down  catch up  until then  besides 7\n"
+            "step         1 2  majority  may be down  catch up  until then  besides 2\n"
             "now          V .  1 of 1    0                                  0\n"
             "1 simple v2  V V  2 of 2    0            2         stalls      stalls\n"
         )
         for output, down, to, text in [
             (confscript.Output.STEPS, [1], "v2", "# no quorum with 1 down: no step can be made\nsimple v2\n"),
-            (confscript.Output.TABLE, {7}, "v2", table),
+            (confscript.Output.TABLE, {2}, "v2", table),
             (confscript.Output.JSON, (), "v1", '{"plan":1,"steps":0}\n'),
         ]:
             self.assertEqual(confscript.plan("voters=(1)", to, output=output, down=down), text)
@@ -55,6 +55,9 @@ class Calls(unittest.TestCase):
             (lambda: confscript.plan(NOW, "voters=(1"), 30, 2, "not a printed configuration (the target)"),
             (lambda: confscript.plan("{}}", TARGET), 31, 1, "not the JSON of a configuration (the configuration)"),
             (lambda: confscript.plan(NOW, "v1 x"), 32, 2, "not a list of changes (the target)"),
+            (lambda: confscript.plan(NOW, "r7"), 8, 7, "not a member (id 7)"),
+            (lambda: confscript.plan(NOW, "r3 v3"), 19, 3, "removed and added again (id 3)"),
+            (lambda: confscript.plan(NOW, "v4", down=[3, 9]), 33, 9, "down and not a member (id 9)"),
             (lambda: confscript.plan(NOW, "v4", down=[0]), 15, 0, "the id 0"),
             (lambda: confscript.plan(NOW, "v4", output=3), 28, 0, "unknown output"),
             (lambda: confscript.apply(NOW, "leave-joint"), 11, 1, "can't leave a non-joint config (step 1)"),

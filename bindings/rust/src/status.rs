@@ -21,6 +21,8 @@ pub enum Status {
     NoVoter = 6,
     /// A line of a plan is not a step.
     BadLine = 7,
+    /// A change of the target removes an id that is not a member.
+    NotAMember = 8,
     /// A joint configuration is entered from a joint one.
     AlreadyJoint = 9,
     /// A joint configuration is entered without voters.
@@ -41,6 +43,8 @@ pub enum Status {
     NextAndIncoming = 17,
     /// A learner is a voter.
     LearnerAndVoter = 18,
+    /// The changes of the target remove a member, and then make it a voter or a learner again.
+    AddedAgain = 19,
     /// Auto-leave without outgoing voters.
     NotJointButAutoLeave = 20,
     /// An array does not have the form of a configuration; no call of this crate passes one.
@@ -67,15 +71,17 @@ pub enum Status {
     BadJson = 31,
     /// The target is in no form of a configuration, and not a list of changes.
     BadChangeList = 32,
+    /// An id that is down is a member of neither configuration.
+    DownNotAMember = 33,
 }
 
 impl Status {
-    const ALL: [Status; 29] = [
-        Status::NoMemory, Status::BadConfState, Status::RepeatedId, Status::NotAConfiguration, Status::NoVoter, Status::BadLine, Status::AlreadyJoint,
+    const ALL: [Status; 32] = [
+        Status::NoMemory, Status::BadConfState, Status::RepeatedId, Status::NotAConfiguration, Status::NoVoter, Status::BadLine, Status::NotAMember, Status::AlreadyJoint,
         Status::ZeroVoterJoint, Status::NotJoint, Status::SimpleInJoint, Status::RemovedAllVoters, Status::MoreThanOneVoter, Status::ZeroId,
-        Status::NextNotOutgoing, Status::NextAndIncoming, Status::LearnerAndVoter, Status::NotJointButAutoLeave, Status::DifferentLengths, Status::BadVote,
+        Status::NextNotOutgoing, Status::NextAndIncoming, Status::LearnerAndVoter, Status::AddedAgain, Status::NotJointButAutoLeave, Status::DifferentLengths, Status::BadVote,
         Status::NoQuorum, Status::BadStrategy, Status::JointTarget, Status::BadStep, Status::BadChange, Status::BadOutput, Status::UnknownForm,
-        Status::BadPrinted, Status::BadJson, Status::BadChangeList,
+        Status::BadPrinted, Status::BadJson, Status::BadChangeList, Status::DownNotAMember,
     ];
 
     /// The status with this number in `confscript.h`.
@@ -119,7 +125,7 @@ impl Error {
             (_, 0) => Ok(()),
             (BadConfState | NotAConfiguration | NoVoter | UnknownForm | BadPrinted | BadJson | BadChangeList, 1) => out.write_str(" (the configuration)"),
             (BadConfState | NotAConfiguration | NoVoter | UnknownForm | BadPrinted | BadJson | BadChangeList, _) => out.write_str(" (the target)"),
-            (RepeatedId | NextNotOutgoing | NextAndIncoming | LearnerAndVoter, id) => write!(out, " (id {id})"),
+            (RepeatedId | NextNotOutgoing | NextAndIncoming | LearnerAndVoter | NotAMember | AddedAgain | DownNotAMember, id) => write!(out, " (id {id})"),
             (BadLine, line) => write!(out, " (line {line})"),
             (AlreadyJoint | ZeroVoterJoint | NotJoint | SimpleInJoint | RemovedAllVoters | MoreThanOneVoter, step) => write!(out, " (step {step})"),
             (BadChange, change) => write!(out, " (change {change})"),

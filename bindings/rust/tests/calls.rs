@@ -42,17 +42,19 @@ fn plans_by_each_strategy() {
 
 #[test]
 fn writes_each_output() {
-    let table = "step         1 2  majority  may be down  catch up  until then  besides 7\n\
+    let table = "step         1 2  majority  may be down  catch up  until then  besides 2\n\
                  now          V .  1 of 1    0                                  0\n\
                  1 simple v2  V V  2 of 2    0            2         stalls      stalls\n";
     for (output, down, to, text) in [
         (Output::Steps, vec![1], "v2", "# no quorum with 1 down: no step can be made\nsimple v2\n"),
-        (Output::Table, vec![7], "v2", table),
+        (Output::Table, vec![2], "v2", table),
         (Output::Json, vec![], "v1", "{\"plan\":1,\"steps\":0}\n"),
     ] {
         assert_eq!(plan_by(Options { output, down: &down, ..Options::default() }, "voters=(1)", to).as_deref(), Ok(text));
     }
     assert_eq!(refused(plan_by(Options { down: &[0], ..Options::default() }, "voters=(1)", "v2")), why(Status::ZeroId, 0, "the id 0"));
+    let down = plan_by(Options { down: &[1, 9], ..Options::default() }, "voters=(1)", "v2");
+    assert_eq!(refused(down), why(Status::DownNotAMember, 9, "down and not a member (id 9)"));
 }
 
 #[test]
@@ -71,6 +73,8 @@ fn refuses() {
         (NOW, "voters=(1", why(Status::BadPrinted, 2, "not a printed configuration (the target)")),
         ("{}}", TARGET, why(Status::BadJson, 1, "not the JSON of a configuration (the configuration)")),
         (NOW, "v1 x", why(Status::BadChangeList, 2, "not a list of changes (the target)")),
+        (NOW, "r7", why(Status::NotAMember, 7, "not a member (id 7)")),
+        (NOW, "r3 v3", why(Status::AddedAgain, 3, "removed and added again (id 3)")),
         (NOW, "voters=()", why(Status::NoVoter, 2, "no incoming voter (the target)")),
         ("voters=(1) learners=(1)", TARGET, why(Status::NotAConfiguration, 1, "not a configuration (the configuration)")),
     ] {
