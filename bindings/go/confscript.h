@@ -1,6 +1,6 @@
 /*
- * confscript: plans and checks who votes in a replicated log. This is the library for programs in other languages, with
- * the proved code of the program.
+ * confscript plans the membership changes of an etcd or Raft cluster and shows how many servers may fail at each step,
+ * with code that is proved correct. This is its library for programs in other languages.
  *
  * A configuration is passed as a ConfState line, with or without a newline:
  *     Voters:[1 2 3] VotersOutgoing:[] Learners:[4] LearnersNext:[] AutoLeave:false
@@ -93,7 +93,7 @@ enum confscript_status {
     CONFSCRIPT_DIFFERENT_LENGTHS = 21,
     /* confscript_vote: a byte is not one of enum confscript_ballot. */
     CONFSCRIPT_BAD_VOTE = 22,
-    /* confscript_may_be_down: the voters are no quorum even with none down. */
+    /* confscript_may_be_down: the voters that count are not a quorum even when all are up. */
     CONFSCRIPT_NO_QUORUM = 23,
 
     /* confscript_plan: the strategy is not one of enum confscript_strategy. */
@@ -324,8 +324,8 @@ struct confscript_answer confscript_step(const uint64_t *configuration, size_t c
 /*
  * Returns how many ids may be down, whichever they are, while the other voters in `incoming`, and in `outgoing` if
  * there are any, are a quorum. The ids in `uncounted`, such as members whose logs are still empty, do not count for a
- * quorum, whether they are down or not. The number is the greatest such count. If there are no voters, they are no quorum.
- * An id that is listed twice counts once.
+ * quorum, whether they are down or not. The number is the greatest such count. If there are no voters,
+ * there is no quorum. An id that is listed twice counts once.
  */
 struct confscript_answer confscript_may_be_down(const uint64_t *incoming, size_t incoming_len, const uint64_t *outgoing,
                                                 size_t outgoing_len, const uint64_t *uncounted, size_t uncounted_len);

@@ -151,8 +151,8 @@ func BallotOf(votes map[uint64]bool, id uint64) Ballot {
 }
 
 // MayBeDown returns how many ids may be down, whichever they are, while the other voters are a quorum, for which the
-// uncounted ids do not count. A voter that a list names twice counts once. If the voters are no quorum even with none
-// down, as if there are none, the error wraps ErrNoQuorum.
+// uncounted ids do not count. A voter that a list names twice counts once. If the voters that count are not a quorum even
+// when all are up, as if there are none, the error wraps ErrNoQuorum.
 func MayBeDown(incoming, outgoing, uncounted []uint64) (uint64, error) {
 	return number(C.confscript_may_be_down(first(incoming), C.size_t(len(incoming)), first(outgoing), C.size_t(len(outgoing)),
 		first(uncounted), C.size_t(len(uncounted))))

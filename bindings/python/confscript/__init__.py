@@ -450,7 +450,7 @@ def may_be_down(incoming: Iterable[int], outgoing: Iterable[int], uncounted: Ite
     """Returns how many ids may be down, whichever they are, while the other voters are a quorum.
 
     The uncounted ids do not count for the quorum. A voter that is named twice counts once. Returns None if the voters
-    are no quorum even with none down, as if there are none.
+    that count are not a quorum even when all are up, as if there are none.
     """
     answer = _library.confscript_may_be_down(*_numbers(incoming), *_numbers(outgoing), *_numbers(uncounted))
     return None if answer.status == Status.NO_QUORUM else _number(answer)

@@ -312,8 +312,8 @@ pub fn step(configuration: &Configuration, kind: StepKind, changes: &[Change]) -
 }
 
 /// How many ids may be down, whichever they are, while the other voters are a quorum, for which the uncounted ids do
-/// not count. A voter that is listed twice counts once. The status is `NoQuorum` if the voters are no quorum even with none
-/// down, as if there are none.
+/// not count. A voter that is listed twice counts once. The status is `NoQuorum` if the voters that count are not
+/// a quorum even when all are up, as if there are none.
 pub fn may_be_down(incoming: &[u64], outgoing: &[u64], uncounted: &[u64]) -> Result<u64, Error> {
     check_library();
     // SAFETY: as in `plan_by`.

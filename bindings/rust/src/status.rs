@@ -51,7 +51,7 @@ pub enum Status {
     DifferentLengths = 21,
     /// A vote is neither 0, 1 nor 2; no call of this crate passes one.
     BadVote = 22,
-    /// The voters are no quorum even with none down.
+    /// The voters that count are not a quorum even when all are up.
     NoQuorum = 23,
     /// There is no such strategy; no call of this crate passes one.
     BadStrategy = 24,
