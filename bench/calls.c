@@ -53,8 +53,8 @@ static void vote(int row) {
 static void plain_vote(int row) {
     size_t yes = 0, possible = 0;
     for (size_t i = 0; i < voters; i++) {
-        yes += votes[row][i] == CONFSCRIPT_VOTED_YES;
-        possible += votes[row][i] != CONFSCRIPT_VOTED_NO;
+        yes += votes[row][i] == CONFSCRIPT_BALLOT_YES;
+        possible += votes[row][i] != CONFSCRIPT_BALLOT_NO;
     }
     sum += yes > voters / 2 ? 2 : possible > voters / 2 ? 0 : 1;
 }
@@ -62,15 +62,15 @@ static void plain_vote(int row) {
 static const uint64_t five[] = {0, 5, 0, 0, 0, 0, 1, 2, 3, 4, 5};
 
 static void simple_step(int row) {
-    struct confscript_change change = {CONFSCRIPT_LEARNER, 6 + (uint64_t)row};
+    struct confscript_change change = {CONFSCRIPT_CHANGE_LEARNER, 6 + (uint64_t)row};
     uint64_t out[32];
-    sum += confscript_step(five, 11, CONFSCRIPT_SIMPLE, &change, 1, out, 32).number;
+    sum += confscript_step(five, 11, CONFSCRIPT_STEP_SIMPLE, &change, 1, out, 32).number;
 }
 
 static void entering_step(int row) {
-    struct confscript_change changes[] = {{CONFSCRIPT_VOTER, 6 + (uint64_t)row}, {CONFSCRIPT_REMOVE, 1}};
+    struct confscript_change changes[] = {{CONFSCRIPT_CHANGE_VOTER, 6 + (uint64_t)row}, {CONFSCRIPT_CHANGE_REMOVE, 1}};
     uint64_t out[32];
-    sum += confscript_step(five, 11, CONFSCRIPT_AUTO, changes, 2, out, 32).number;
+    sum += confscript_step(five, 11, CONFSCRIPT_STEP_AUTO, changes, 2, out, 32).number;
 }
 
 static void restore(int row) {

@@ -15,8 +15,8 @@ int main(void) {
 
     struct confscript_answer planned =
         confscript_plan(bytes(now), strlen(now), bytes(target), strlen(target),
-                        CONFSCRIPT_SHORTEST, CONFSCRIPT_STEPS, NULL, 0, plan, sizeof plan);
-    if (planned.status != CONFSCRIPT_DONE) {
+                        CONFSCRIPT_STRATEGY_SHORTEST, CONFSCRIPT_OUTPUT_STEPS, NULL, 0, plan, sizeof plan);
+    if (planned.status != CONFSCRIPT_STATUS_DONE) {
         fprintf(stderr, "no plan: status %u, number %llu\n", (unsigned)planned.status, (unsigned long long)planned.number);
         return 1;
     }
@@ -24,7 +24,7 @@ int main(void) {
 
     struct confscript_answer applied =
         confscript_apply(bytes(now), strlen(now), plan, planned.number, after, sizeof after);
-    if (applied.status != CONFSCRIPT_DONE) {
+    if (applied.status != CONFSCRIPT_STATUS_DONE) {
         fprintf(stderr, "refused: status %u, number %llu\n", (unsigned)applied.status, (unsigned long long)applied.number);
         return 1;
     }

@@ -13,10 +13,10 @@ std::string written(Call call) {
     std::string text(256, '\0');
     for (;;) {
         confscript_answer answer = call(reinterpret_cast<uint8_t *>(&text[0]), text.size());
-        if (answer.status != CONFSCRIPT_DONE && answer.status != CONFSCRIPT_TOO_SMALL)
+        if (answer.status != CONFSCRIPT_STATUS_DONE && answer.status != CONFSCRIPT_STATUS_TOO_SMALL)
             throw std::runtime_error("status " + std::to_string(answer.status) + ", number " + std::to_string(answer.number));
         text.resize(answer.number);
-        if (answer.status == CONFSCRIPT_DONE) return text;
+        if (answer.status == CONFSCRIPT_STATUS_DONE) return text;
     }
 }
 
@@ -31,7 +31,7 @@ std::string plan(const std::string &now, const std::string &target, confscript_s
 
 int main() {
     try {
-        std::cout << plan("voters=(1 2 3)", "r1 v5", CONFSCRIPT_ONE_AT_A_TIME, CONFSCRIPT_TABLE, {1});
+        std::cout << plan("voters=(1 2 3)", "r1 v5", CONFSCRIPT_STRATEGY_ONE_AT_A_TIME, CONFSCRIPT_OUTPUT_TABLE, {1});
     } catch (const std::exception &why) {
         std::cerr << "no plan: " << why.what() << '\n';
         return 1;

@@ -44,101 +44,103 @@ extern "C" {
 /* The status that a call returns. The number is 0 unless stated otherwise here. */
 enum confscript_status {
     /* The call did its work. Each call below says what the number is. */
-    CONFSCRIPT_DONE = 0,
+    CONFSCRIPT_STATUS_DONE = 0,
     /* The result does not fit into `out`. Nothing is written. The number is the length of the result, as if it did. */
-    CONFSCRIPT_TOO_SMALL = 1,
+    CONFSCRIPT_STATUS_TOO_SMALL = 1,
     /* Memory ran out. Nothing is written. */
-    CONFSCRIPT_NO_MEMORY = 2,
+    CONFSCRIPT_STATUS_NO_MEMORY = 2,
 
     /* A text is not a ConfState line; for confscript_plan, it begins as one, with `Voters:`. The number is 1 for the
-       first text of the call, and 2 for the second. */
-    CONFSCRIPT_BAD_CONF_STATE = 3,
+       configuration, and 2 for the target. */
+    CONFSCRIPT_STATUS_BAD_CONF_STATE = 3,
     /* confscript_check, _restore and _step: a list names an id twice. The number is the id, the first such one of the
        first such list. */
-    CONFSCRIPT_REPEATED_ID = 4,
+    CONFSCRIPT_STATUS_REPEATED_ID = 4,
     /* A text names no configuration that the call accepts. confscript_check says why of a ConfState line, with one
        exception: it accepts a valid configuration with members but no incoming voter, and confscript_apply does not. The
-       number is as for CONFSCRIPT_BAD_CONF_STATE. */
-    CONFSCRIPT_NOT_A_CONFIGURATION = 5,
-    /* confscript_plan: there is no plan, since a configuration has no incoming voter. The number is 1 for the first, and
-       2 for the second. confscript_restore and _step: the configuration has members but no incoming voter. */
-    CONFSCRIPT_NO_VOTER = 6,
+       number is as for CONFSCRIPT_STATUS_BAD_CONF_STATE. */
+    CONFSCRIPT_STATUS_NOT_A_CONFIGURATION = 5,
+    /* confscript_plan: there is no plan, since a configuration has no incoming voter. The number is 1 for the
+       configuration, and 2 for the target. confscript_restore and _step: the configuration has members but no incoming
+       voter. */
+    CONFSCRIPT_STATUS_NO_VOTER = 6,
     /* A line of the plan is not a step. The number is that of the line, counted from 1. */
-    CONFSCRIPT_BAD_LINE = 7,
+    CONFSCRIPT_STATUS_BAD_LINE = 7,
     /* confscript_plan: a change of the target removes an id that is not a member. The number is the id. */
-    CONFSCRIPT_NOT_A_MEMBER = 8,
+    CONFSCRIPT_STATUS_NOT_A_MEMBER = 8,
 
-    /* confscript_apply and _step: a step is refused. confscript_apply: the number is that of the step, counted from 1. */
-    CONFSCRIPT_ALREADY_JOINT = 9,
-    CONFSCRIPT_ZERO_VOTER_JOINT = 10,
-    CONFSCRIPT_NOT_JOINT = 11,
-    CONFSCRIPT_SIMPLE_IN_JOINT = 12,
-    CONFSCRIPT_REMOVED_ALL_VOTERS = 13,
-    CONFSCRIPT_MORE_THAN_ONE_VOTER = 14,
+    /* confscript_apply and _step: a step is refused. confscript_apply: the number is that of the step, counted from
+       1. */
+    CONFSCRIPT_STATUS_ALREADY_JOINT = 9,
+    CONFSCRIPT_STATUS_ZERO_VOTER_JOINT = 10,
+    CONFSCRIPT_STATUS_NOT_JOINT = 11,
+    CONFSCRIPT_STATUS_SIMPLE_IN_JOINT = 12,
+    CONFSCRIPT_STATUS_REMOVED_ALL_VOTERS = 13,
+    CONFSCRIPT_STATUS_MORE_THAN_ONE_VOTER = 14,
 
     /* confscript_check, _restore and _step: the first of these that is broken, in this order. For 16 to 18 the number is
        the least id that breaks it. */
-    CONFSCRIPT_ZERO_ID = 15,                    /* a set has the id 0, or `down` of confscript_plan */
-    CONFSCRIPT_NEXT_NOT_OUTGOING = 16,          /* a next learner is not an outgoing voter */
-    CONFSCRIPT_NEXT_AND_INCOMING = 17,          /* a next learner is an incoming voter */
-    CONFSCRIPT_LEARNER_AND_VOTER = 18,          /* a learner is a voter */
-    CONFSCRIPT_NOT_JOINT_BUT_AUTO_LEAVE = 20,   /* auto-leave without outgoing voters */
+    CONFSCRIPT_STATUS_ZERO_ID = 15,                    /* a set has the id 0, or `down` of confscript_plan */
+    CONFSCRIPT_STATUS_NEXT_NOT_OUTGOING = 16,          /* a next learner is not an outgoing voter */
+    CONFSCRIPT_STATUS_NEXT_AND_INCOMING = 17,          /* a next learner is an incoming voter */
+    CONFSCRIPT_STATUS_LEARNER_AND_VOTER = 18,          /* a learner is a voter */
+    CONFSCRIPT_STATUS_NOT_JOINT_BUT_AUTO_LEAVE = 20,   /* auto-leave without outgoing voters */
 
     /* confscript_plan: the changes of the target remove a member, and then make it a voter or a learner again. A server
        that lost its log needs a new id. The number is the id. */
-    CONFSCRIPT_ADDED_AGAIN = 19,
+    CONFSCRIPT_STATUS_ADDED_AGAIN = 19,
 
     /* confscript_restore and _step: the array does not have the form of enum confscript_part. It has fewer than six
        numbers, its first number is neither 0 nor 1, or its length is not what the counts make it. */
-    CONFSCRIPT_DIFFERENT_LENGTHS = 21,
+    CONFSCRIPT_STATUS_DIFFERENT_LENGTHS = 21,
     /* confscript_vote: a byte is not one of enum confscript_ballot. */
-    CONFSCRIPT_BAD_VOTE = 22,
+    CONFSCRIPT_STATUS_BAD_VOTE = 22,
     /* confscript_may_be_down: the voters that count are not a quorum even when all are up. */
-    CONFSCRIPT_NO_QUORUM = 23,
+    CONFSCRIPT_STATUS_NO_QUORUM = 23,
 
     /* confscript_plan: the strategy is not one of enum confscript_strategy. */
-    CONFSCRIPT_BAD_STRATEGY = 24,
+    CONFSCRIPT_STATUS_BAD_STRATEGY = 24,
     /* confscript_plan: no plan that changes one member a step leads into a joint configuration, unless it equals the
-       first. */
-    CONFSCRIPT_JOINT_TARGET = 25,
+       configuration. */
+    CONFSCRIPT_STATUS_JOINT_TARGET = 25,
 
     /* confscript_step: the step is not one of enum confscript_step_kind. */
-    CONFSCRIPT_BAD_STEP = 26,
+    CONFSCRIPT_STATUS_BAD_STEP = 26,
     /* confscript_step: the kind of a change is not one of enum confscript_change_kind. The number is that of the change,
        counted from 1. */
-    CONFSCRIPT_BAD_CHANGE = 27,
+    CONFSCRIPT_STATUS_BAD_CHANGE = 27,
 
     /* confscript_plan: the output is not one of enum confscript_output. */
-    CONFSCRIPT_BAD_OUTPUT = 28,
+    CONFSCRIPT_STATUS_BAD_OUTPUT = 28,
     /* confscript_plan: a text cannot be read. How it begins decides in which form it is read. The number is as for
-       CONFSCRIPT_BAD_CONF_STATE. */
-    CONFSCRIPT_UNKNOWN_FORM = 29,    /* the first text begins as no form of a configuration does */
-    CONFSCRIPT_BAD_PRINTED = 30,     /* it begins with `voters`, and is not a printed configuration */
-    CONFSCRIPT_BAD_JSON = 31,        /* it begins with `{`, and is not the JSON of a configuration */
-    CONFSCRIPT_BAD_CHANGE_LIST = 32, /* the second text is in no other form, and is blank or not a list of changes */
+       CONFSCRIPT_STATUS_BAD_CONF_STATE. */
+    CONFSCRIPT_STATUS_UNKNOWN_FORM = 29,    /* the configuration begins as no form of one does */
+    CONFSCRIPT_STATUS_BAD_PRINTED = 30,     /* it begins with `voters`, and is not a printed configuration */
+    CONFSCRIPT_STATUS_BAD_JSON = 31,        /* it begins with `{`, and is not the JSON of a configuration */
+    CONFSCRIPT_STATUS_BAD_CHANGE_LIST = 32, /* the target is in no other form, and is blank or not a list of changes */
     /* confscript_plan: an id that is down is a member of neither configuration. The number is the least such id. */
-    CONFSCRIPT_DOWN_NOT_A_MEMBER = 33
+    CONFSCRIPT_STATUS_DOWN_NOT_A_MEMBER = 33
 };
 
 /* How confscript_plan goes from one configuration to another. */
 enum confscript_strategy {
-    CONFSCRIPT_SHORTEST = 0,       /* as few steps as possible, at most four (the JSON may have more lines) */
-    CONFSCRIPT_LEARNERS_FIRST = 1, /* new voters are learners first, so that they catch up before they vote */
-    CONFSCRIPT_ONE_AT_A_TIME = 2   /* one member a step, once a joint one is left; no plan leads into one */
+    CONFSCRIPT_STRATEGY_SHORTEST = 0,       /* as few steps as possible, at most four (the JSON may have more lines) */
+    CONFSCRIPT_STRATEGY_LEARNERS_FIRST = 1, /* new voters are learners first, so that they catch up before they vote */
+    CONFSCRIPT_STRATEGY_ONE_AT_A_TIME = 2   /* one member a step, once a joint one is left; no plan leads into one */
 };
 
 /* What confscript_plan writes. docs/SPECIFICATION.md has the table and the JSON. */
 enum confscript_output {
-    CONFSCRIPT_STEPS = 0, /* a line for each step, as confscript_apply takes them */
-    CONFSCRIPT_TABLE = 1, /* who votes on the way, and how many failures are tolerated there, for a reader */
-    CONFSCRIPT_JSON = 2   /* an object on a line for each proposal to etcd's raft, for a program */
+    CONFSCRIPT_OUTPUT_STEPS = 0, /* a line for each step, as confscript_apply takes them */
+    CONFSCRIPT_OUTPUT_TABLE = 1, /* who votes on the way, and how many failures are tolerated there, for a reader */
+    CONFSCRIPT_OUTPUT_JSON = 2   /* an object on a line for each proposal to etcd's raft, for a program */
 };
 
 /* The vote of a voter. */
 enum confscript_ballot {
-    CONFSCRIPT_VOTED_NO = 0,
-    CONFSCRIPT_VOTED_YES = 1,
-    CONFSCRIPT_NOT_VOTED = 2
+    CONFSCRIPT_BALLOT_NO = 0,
+    CONFSCRIPT_BALLOT_YES = 1,
+    CONFSCRIPT_BALLOT_NOT_CAST = 2
 };
 
 /* The number of confscript_vote, if it is done. */
@@ -157,21 +159,21 @@ enum confscript_vote_result {
  * the step that led to the configuration: a call that is passed it ignores them.
  */
 enum confscript_part {
-    CONFSCRIPT_AUTO_LEAVE = 0,    /* 1 if the joint configuration is left automatically, else 0 */
-    CONFSCRIPT_INCOMING = 1,      /* how many voters there are, or in a joint configuration incoming voters */
-    CONFSCRIPT_OUTGOING = 2,      /* how many outgoing voters */
-    CONFSCRIPT_LEARNERS = 3,      /* how many learners */
-    CONFSCRIPT_LEARNERS_NEXT = 4, /* how many outgoing voters that become learners when it is left */
-    CONFSCRIPT_FRESH = 5,         /* how many members that begin afresh: with match 0, and next at the last index */
-    CONFSCRIPT_IDS = 6            /* the first id, if there is one */
+    CONFSCRIPT_PART_AUTO_LEAVE = 0,    /* 1 if the joint configuration is left automatically, else 0 */
+    CONFSCRIPT_PART_INCOMING = 1,      /* how many voters there are, or in a joint configuration incoming voters */
+    CONFSCRIPT_PART_OUTGOING = 2,      /* how many outgoing voters */
+    CONFSCRIPT_PART_LEARNERS = 3,      /* how many learners */
+    CONFSCRIPT_PART_LEARNERS_NEXT = 4, /* how many outgoing voters that become learners when it is left */
+    CONFSCRIPT_PART_FRESH = 5,         /* how many members that begin afresh: with match 0, and next at the last index */
+    CONFSCRIPT_PART_IDS = 6            /* the first id, if there is one */
 };
 
 /* What a change does to its id. The numbers are those of raftpb.ConfChangeType. A change of the id 0 has no effect. */
 enum confscript_change_kind {
-    CONFSCRIPT_VOTER = 0,  /* makes it a voter */
-    CONFSCRIPT_REMOVE = 1, /* removes it */
-    CONFSCRIPT_UPDATE = 2, /* has no effect */
-    CONFSCRIPT_LEARNER = 3 /* makes it a learner */
+    CONFSCRIPT_CHANGE_VOTER = 0,  /* makes it a voter */
+    CONFSCRIPT_CHANGE_REMOVE = 1, /* removes it */
+    CONFSCRIPT_CHANGE_UPDATE = 2, /* has no effect */
+    CONFSCRIPT_CHANGE_LEARNER = 3 /* makes it a learner */
 };
 
 struct confscript_change {
@@ -183,11 +185,11 @@ struct confscript_change {
 enum confscript_step_kind {
     /* As etcd does: no change leaves a joint configuration, one is a simple step, and more enter a joint configuration,
        which is left automatically. */
-    CONFSCRIPT_AUTO = 0,
-    CONFSCRIPT_IMPLICIT = 1,   /* they enter a joint configuration, which is left automatically */
-    CONFSCRIPT_EXPLICIT = 2,   /* they enter a joint configuration, which a later step has to leave */
-    CONFSCRIPT_SIMPLE = 3,     /* they change at most one voter, and any number of learners */
-    CONFSCRIPT_LEAVE_JOINT = 4 /* leaves a joint configuration; of the changes only the kinds are checked */
+    CONFSCRIPT_STEP_AUTO = 0,
+    CONFSCRIPT_STEP_IMPLICIT = 1,   /* they enter a joint configuration, which is left automatically */
+    CONFSCRIPT_STEP_EXPLICIT = 2,   /* they enter a joint configuration, which a later step has to leave */
+    CONFSCRIPT_STEP_SIMPLE = 3,     /* they change at most one voter, and any number of learners */
+    CONFSCRIPT_STEP_LEAVE_JOINT = 4 /* leaves a joint configuration; of the changes only the kinds are checked */
 };
 
 struct confscript_answer {
@@ -202,21 +204,22 @@ struct confscript_answer {
  */
 #define CONFSCRIPT_RESTORE_ROOM(configuration_len) CONFSCRIPT_STEP_ROOM(configuration_len, 0)
 #define CONFSCRIPT_STEP_ROOM(configuration_len, changes_len) \
-    (CONFSCRIPT_IDS + 2 * (CONFSCRIPT_IDS_LEN(configuration_len) + (size_t)(changes_len)))
+    (CONFSCRIPT_PART_IDS + 2 * (CONFSCRIPT_IDS_LEN(configuration_len) + (size_t)(changes_len)))
 /* How many ids an array of this length has. */
 #define CONFSCRIPT_IDS_LEN(configuration_len) \
-    ((size_t)(configuration_len) < CONFSCRIPT_IDS ? 0 : (size_t)(configuration_len) - CONFSCRIPT_IDS)
+    ((size_t)(configuration_len) < CONFSCRIPT_PART_IDS ? 0 : (size_t)(configuration_len) - CONFSCRIPT_PART_IDS)
 
 /*
  * What else a program asks of a configuration, and the call that answers it:
- * - Is the quorum lost? confscript_may_be_down returns CONFSCRIPT_NO_QUORUM, with the ids that are down as `uncounted`.
+ * - Is the quorum lost? confscript_may_be_down returns CONFSCRIPT_STATUS_NO_QUORUM, with the ids that are down as
+ *   `uncounted`.
  * - Must a voter still acknowledge an index, or can that commit without it? It must if confscript_vote is
- *   CONFSCRIPT_VOTE_LOST, with CONFSCRIPT_VOTED_YES for each other voter that has acknowledged it or can still do so, and
- *   CONFSCRIPT_VOTED_NO for the rest.
- * - Does raft leave a joint configuration by itself? Then the number CONFSCRIPT_AUTO_LEAVE of its array is 1.
- * - May an id be removed now? If confscript_step with CONFSCRIPT_REMOVE is done, and confscript_may_be_down too, for the
- *   configuration and for the one that the step wrote, with the ids that are down as `uncounted`. Its second number is how
- *   many more may be down afterwards. If one of the two has no quorum, nothing commits there.
+ *   CONFSCRIPT_VOTE_LOST, with CONFSCRIPT_BALLOT_YES for each other voter that has acknowledged it or can still do so,
+ *   and CONFSCRIPT_BALLOT_NO for the rest.
+ * - Does raft leave a joint configuration by itself? Then the number CONFSCRIPT_PART_AUTO_LEAVE of its array is 1.
+ * - May an id be removed now? If confscript_step with CONFSCRIPT_CHANGE_REMOVE is done, and confscript_may_be_down too,
+ *   for the configuration and for the one that the step wrote, with the ids that are down as `uncounted`. Its second
+ *   number is how many more may be down afterwards. If one of the two has no quorum, nothing commits there.
  */
 
 /* The version of the library: 10,000 for each major one, 100 for each minor one, and the patch. */
@@ -236,33 +239,33 @@ struct confscript_answer confscript_status_text(uint32_t status, uint8_t *out, s
  *     Voters:[1 2 3] VotersOutgoing:[] Learners:[4] LearnersNext:[] AutoLeave:false
  *     {"voters":[1,2,3],"learners":[4]}                                     a raftpb.ConfState in JSON
  *     {"members":[{"ID":1},{"ID":2},{"ID":4,"isLearner":true}]}             etcdctl member list -w json
- * The target may also be a list of changes, such as `r1 v4 l5`, which are made at once in the first configuration; if
- * that is joint, it is left first. The list must not be empty, remove an id that is not a member of the first
+ * The target may also be a list of changes, such as `r1 v4 l5`, which are made at once in the configuration; if
+ * that is joint, it is left first. The list must not be empty, remove an id that is not a member of the
  * configuration, or remove a member and make it a voter or a learner again.
  *
  * `down` has the ids that are down, in any order; for none, `down_len` is 0. Each must be a member of one of the two
- * configurations. With CONFSCRIPT_ONE_AT_A_TIME, voters that are down are removed first, as etcd's server demands, if
- * both configurations commit without them. If ids are down, the table and the JSON report how many others may be down
- * on the way. If nothing commits in some configuration of the plan, the plan stalls: then the steps begin with the line
- * `# stalls with 4 5 down`, or, if the first configuration is such a one itself, `# no quorum with 4 5 down: no step can
- * be made`. confscript_apply does not take such a line.
+ * configurations. With CONFSCRIPT_STRATEGY_ONE_AT_A_TIME, voters that are down are removed first, as etcd's server
+ * demands, if both configurations commit without them. If ids are down, the table and the JSON report how many others
+ * may be down on the way. If nothing commits in some configuration of the plan, the plan stalls: then the steps begin
+ * with the line `# stalls with 4 5 down`, or, if the configuration is such a one itself, `# no quorum with 4 5 down: no
+ * step can be made`. confscript_apply does not take such a line.
  *
  * Both configurations must be valid and have an incoming voter. The voters before and after each step overlap, and no
  * configuration on the way tolerates fewer failures than the weaker end, once its members have caught up; with
- * CONFSCRIPT_ONE_AT_A_TIME, fewer besides the ids that are down. If there is nothing to do, the steps are the line
- * `nothing to do`. The text does not end with a zero byte. The number is its length in bytes.
+ * CONFSCRIPT_STRATEGY_ONE_AT_A_TIME, fewer besides the ids that are down. If there is nothing to do, the steps are the
+ * line `nothing to do`. The text does not end with a zero byte. The number is its length in bytes.
  *
  * In JSON each change of a simple step is a step of its own, so there may be more lines than the plan has steps.
  *
- * - CONFSCRIPT_SHORTEST: at most four steps. No plan has fewer steps, or names a member in fewer changes; a member that
- *   can keep its progress keeps it. A plan does not see logs: a new voter begins with an empty one, so from [1 2 3] to
- *   [3 4 5] nothing commits until 4 or 5 has caught up. (These are steps. The JSON has an object for each change of a
- *   step `simple`, so it may have more lines.)
- * - CONFSCRIPT_LEARNERS_FIRST: at most one step more than the shortest plan. Each new voter is a learner first, so the
- *   caller can let it catch up before proposing the next step.
- * - CONFSCRIPT_ONE_AT_A_TIME: each step changes one member, after a joint configuration is left, and each new voter is
- *   a learner first. No plan of this kind has fewer steps. The second configuration must not be joint, unless it equals
- *   the first.
+ * - CONFSCRIPT_STRATEGY_SHORTEST: at most four steps. No plan has fewer steps, or names a member in fewer changes; a
+ *   member that can keep its progress keeps it. A plan does not see logs: a new voter begins with an empty one, so from
+ *   [1 2 3] to [3 4 5] nothing commits until 4 or 5 has caught up. (These are steps. The JSON has an object for each
+ *   change of a step `simple`, so it may have more lines.)
+ * - CONFSCRIPT_STRATEGY_LEARNERS_FIRST: at most one step more than the shortest plan. Each new voter is a learner first,
+ *   so the caller can let it catch up before proposing the next step.
+ * - CONFSCRIPT_STRATEGY_ONE_AT_A_TIME: each step changes one member, after a joint configuration is left, and each new
+ *   voter is a learner first. No plan of this kind has fewer steps. The target must not be joint, unless it equals the
+ *   configuration.
  *
  * An id never comes back without its log and its vote: a member that was removed, and begins again with an empty disk,
  * needs a new id. Under the old one it could vote twice in a term, and two leaders could commit different entries.
@@ -271,21 +274,21 @@ struct confscript_answer confscript_status_text(uint32_t status, uint8_t *out, s
  * propose each change as a ConfChangeV2 of its own, as the JSON has them. If they are proposed as a single ConfChangeV2,
  * etcd's raft takes them through a joint configuration, which it leaves by itself.
  */
-struct confscript_answer confscript_plan(const uint8_t *now, size_t now_len, const uint8_t *target, size_t target_len,
-                                         uint32_t strategy, uint32_t output, const uint64_t *down, size_t down_len,
-                                         uint8_t *out, size_t out_len);
+struct confscript_answer confscript_plan(const uint8_t *configuration, size_t configuration_len, const uint8_t *target,
+                                         size_t target_len, uint32_t strategy, uint32_t output, const uint64_t *down,
+                                         size_t down_len, uint8_t *out, size_t out_len);
 
 /*
  * Applies the steps of a plan to the configuration of a ConfState line. A single step is a plan of one line, and a plan
  * may be applied in parts, each to the line that the call before wrote. The ConfState line of the result is written to
  * `out`, its lists in ascending order, without a newline or a zero byte at its end. The number is its length in bytes.
- * The first configuration must be valid, and have an incoming voter or no members.
+ * The configuration must be valid, and have an incoming voter or no members.
  */
-struct confscript_answer confscript_apply(const uint8_t *state, size_t state_len, const uint8_t *plan, size_t plan_len,
-                                          uint8_t *out, size_t out_len);
+struct confscript_answer confscript_apply(const uint8_t *configuration, size_t configuration_len, const uint8_t *plan,
+                                          size_t plan_len, uint8_t *out, size_t out_len);
 
 /* Reports what is wrong with the configuration of a ConfState line. If nothing is, the call is done, with number 0. */
-struct confscript_answer confscript_check(const uint8_t *state, size_t state_len);
+struct confscript_answer confscript_check(const uint8_t *configuration, size_t configuration_len);
 
 /*
  * Returns the committed index of a voter set, or of a joint pair, from the index that each voter has acknowledged, 0 if
@@ -297,8 +300,9 @@ uint64_t confscript_committed(uint64_t *incoming, size_t incoming_len, uint64_t 
 
 /*
  * Returns the result of a vote by a voter set, or by a joint pair, from the vote of each voter, an
- * enum confscript_ballot. Each set that is not empty must win it. If there are no voters, the vote is won. Each vote counts
- * as that of another voter, so a voter that is listed twice counts twice. The number is an enum confscript_vote_result.
+ * enum confscript_ballot. Each set that is not empty must win it. If there are no voters, the vote is won. Each vote
+ * counts as that of another voter, so a voter that is listed twice counts twice. The number is an
+ * enum confscript_vote_result.
  */
 struct confscript_answer confscript_vote(const uint8_t *incoming, size_t incoming_len, const uint8_t *outgoing,
                                          size_t outgoing_len);

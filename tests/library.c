@@ -65,7 +65,7 @@ typedef struct confscript_answer (*call)(void);
 
 static const char *first, *second;
 static size_t room;
-static uint32_t strategy = CONFSCRIPT_SHORTEST, output = CONFSCRIPT_STEPS;
+static uint32_t strategy = CONFSCRIPT_STRATEGY_SHORTEST, output = CONFSCRIPT_OUTPUT_STEPS;
 static uint64_t down[8];
 static size_t down_len;
 
@@ -83,7 +83,7 @@ static size_t incoming_len, outgoing_len, ids_len, incoming_votes_len, outgoing_
 
 /* The committed index, as the number of an answer. */
 static struct confscript_answer committed(void) {
-    return (struct confscript_answer){CONFSCRIPT_DONE, confscript_committed(incoming, incoming_len, outgoing, outgoing_len)};
+    return (struct confscript_answer){CONFSCRIPT_STATUS_DONE, confscript_committed(incoming, incoming_len, outgoing, outgoing_len)};
 }
 static struct confscript_answer vote(void) {
     return confscript_vote(incoming_votes, incoming_votes_len, outgoing_votes, outgoing_votes_len);
@@ -126,7 +126,7 @@ static void expect(const char *name, call which, uint32_t status, uint64_t numbe
     for (long granted = 0;; granted++) {
         got = called(which, granted);
         if (live != 0) { report(name, 0, got); printf("FAILED: %s: %ld blocks are kept\n", name, live); live = 0; return; }
-        if (got.status != CONFSCRIPT_NO_MEMORY) break;
+        if (got.status != CONFSCRIPT_STATUS_NO_MEMORY) break;
         if (got.number != 0 || !holds_text("") || granted > 10000) { report(name, 0, got); return; }
     }
     report(name, got.status == status && got.number == number && holds_text(text), got);
@@ -149,7 +149,7 @@ static void expect_numbers(const char *name, call which, int allocates, uint32_t
     for (;; granted++) {
         got = called(which, granted);
         if (live != 0) { report(name, 0, got); printf("FAILED: %s: %ld blocks are kept\n", name, live); live = 0; return; }
-        if (got.status != CONFSCRIPT_NO_MEMORY) break;
+        if (got.status != CONFSCRIPT_STATUS_NO_MEMORY) break;
         if (got.number != 0 || !holds_numbers(NULL, 0) || granted > 1000) { report(name, 0, got); return; }
     }
     report(name, (granted > 0) == allocates && got.status == status && got.number == number && holds_numbers(expected, len), got);
@@ -171,11 +171,11 @@ static void texts(void) {
         "down and not a member", "unknown status"};
     room = ROOM;
     for (code = 0; code < sizeof words / sizeof *words; code++)
-        expect(words[code], status_text, CONFSCRIPT_DONE, strlen(words[code]), words[code]);
+        expect(words[code], status_text, CONFSCRIPT_STATUS_DONE, strlen(words[code]), words[code]);
     code = UINT32_MAX;
-    expect("the greatest number is no status", status_text, CONFSCRIPT_DONE, 14, "unknown status");
+    expect("the greatest number is no status", status_text, CONFSCRIPT_STATUS_DONE, 14, "unknown status");
     room = 13;
-    expect("text of a status: one byte too small", status_text, CONFSCRIPT_TOO_SMALL, 14, "");
+    expect("text of a status: one byte too small", status_text, CONFSCRIPT_STATUS_TOO_SMALL, 14, "");
     struct confscript_answer version = {0, confscript_version()};
     report("the version of the library is that of its header", version.number == CONFSCRIPT_VERSION, version);
 }
@@ -190,27 +190,27 @@ static void plans(void) {
     const char *one = LINE("1", "", "", "", "false"), *two = LINE("2", "", "", "", "false");
     const char *steps = "enter-joint autoleave=false r1 v2\nleave-joint\n";
     on_texts(one, two);
-    expect("plan: steps", plan, CONFSCRIPT_DONE, strlen(steps), steps);
+    expect("plan: steps", plan, CONFSCRIPT_STATUS_DONE, strlen(steps), steps);
     room = strlen(steps);
-    expect("plan: it just fits", plan, CONFSCRIPT_DONE, strlen(steps), steps);
+    expect("plan: it just fits", plan, CONFSCRIPT_STATUS_DONE, strlen(steps), steps);
     room = strlen(steps) - 1;
-    expect("plan: one byte too small", plan, CONFSCRIPT_TOO_SMALL, strlen(steps), "");
+    expect("plan: one byte too small", plan, CONFSCRIPT_STATUS_TOO_SMALL, strlen(steps), "");
     room = 0;
-    expect("plan: no room", plan, CONFSCRIPT_TOO_SMALL, strlen(steps), "");
+    expect("plan: no room", plan, CONFSCRIPT_STATUS_TOO_SMALL, strlen(steps), "");
     on_texts(one, LINE("01", "", "", "", "false") "\n");
-    expect("plan: nothing to do", plan, CONFSCRIPT_DONE, 14, "nothing to do\n");
+    expect("plan: nothing to do", plan, CONFSCRIPT_STATUS_DONE, 14, "nothing to do\n");
     on_texts("Voters:[1]", two);
-    expect("plan: the first is no line", plan, CONFSCRIPT_BAD_CONF_STATE, 1, "");
+    expect("plan: the first is no line", plan, CONFSCRIPT_STATUS_BAD_CONF_STATE, 1, "");
     on_texts(one, "Voters:[2]");
-    expect("plan: the second is no line", plan, CONFSCRIPT_BAD_CONF_STATE, 2, "");
+    expect("plan: the second is no line", plan, CONFSCRIPT_STATUS_BAD_CONF_STATE, 2, "");
     on_texts(LINE("1 1", "", "", "", "false"), "");
-    expect("plan: the first is no configuration", plan, CONFSCRIPT_NOT_A_CONFIGURATION, 1, "");
+    expect("plan: the first is no configuration", plan, CONFSCRIPT_STATUS_NOT_A_CONFIGURATION, 1, "");
     on_texts(one, LINE("2", "", "2", "", "false"));
-    expect("plan: the second is no configuration", plan, CONFSCRIPT_NOT_A_CONFIGURATION, 2, "");
+    expect("plan: the second is no configuration", plan, CONFSCRIPT_STATUS_NOT_A_CONFIGURATION, 2, "");
     on_texts(LINE("", "", "1", "", "false"), LINE("", "", "", "", "false"));
-    expect("plan: the first has no voter", plan, CONFSCRIPT_NO_VOTER, 1, "");
+    expect("plan: the first has no voter", plan, CONFSCRIPT_STATUS_NO_VOTER, 1, "");
     on_texts(one, LINE("", "", "", "", "false"));
-    expect("plan: the second has no voter", plan, CONFSCRIPT_NO_VOTER, 2, "");
+    expect("plan: the second has no voter", plan, CONFSCRIPT_STATUS_NO_VOTER, 2, "");
 }
 
 /* The configurations (1 2 3) and (2 3 5) in each form, from each form of the one to each of the other. */
@@ -224,42 +224,42 @@ static void forms(void) {
         char name[64];
         snprintf(name, sizeof name, "form: %zu to %zu", i, k);
         on_texts(from[i], to[k]);
-        expect(name, plan, CONFSCRIPT_DONE, strlen(steps), steps);
+        expect(name, plan, CONFSCRIPT_STATUS_DONE, strlen(steps), steps);
     }
     on_texts("voters=(1 2)&&(1 2 3) learners=(4) learners_next=(3) autoleave", LINE("1 2", "1 2 3", "4", "3", "true"));
-    expect("form: a joint configuration, printed", plan, CONFSCRIPT_DONE, 14, "nothing to do\n");
+    expect("form: a joint configuration, printed", plan, CONFSCRIPT_STATUS_DONE, 14, "nothing to do\n");
     on_texts("{\"members\":[{\"ID\":18446744073709551615},{\"ID\":4,\"isLearner\":true}]}", "voters=(18446744073709551615) learners=(4)");
-    expect("form: a list of members with a learner", plan, CONFSCRIPT_DONE, 14, "nothing to do\n");
+    expect("form: a list of members with a learner", plan, CONFSCRIPT_STATUS_DONE, 14, "nothing to do\n");
     on_texts("voters=(2 3 4)&&(1 2 3)", "r2");
-    expect("form: changes, where the first is joint", plan, CONFSCRIPT_DONE, 22, "leave-joint\nsimple r2\n");
+    expect("form: changes, where the first is joint", plan, CONFSCRIPT_STATUS_DONE, 22, "leave-joint\nsimple r2\n");
     on_texts("voters=(1)&&(1 2)", " \n");
-    expect("form: no changes", plan, CONFSCRIPT_BAD_CHANGE_LIST, 2, "");
+    expect("form: no changes", plan, CONFSCRIPT_STATUS_BAD_CHANGE_LIST, 2, "");
     on_texts("voters=(1)", "v1 u7");
-    expect("form: changes without effect", plan, CONFSCRIPT_DONE, 14, "nothing to do\n");
+    expect("form: changes without effect", plan, CONFSCRIPT_STATUS_DONE, 14, "nothing to do\n");
     on_texts("voters=(1 2)&&(1 3)", "r3 v7 r7");
-    expect("form: a removal of an id that is not a member", plan, CONFSCRIPT_NOT_A_MEMBER, 7, "");
+    expect("form: a removal of an id that is not a member", plan, CONFSCRIPT_STATUS_NOT_A_MEMBER, 7, "");
     on_texts("voters=(1 2) learners=(18446744073709551615)", "r18446744073709551615 l18446744073709551615 r7");
-    expect("form: a member is removed and added again", plan, CONFSCRIPT_ADDED_AGAIN, UINT64_MAX, "");
+    expect("form: a member is removed and added again", plan, CONFSCRIPT_STATUS_ADDED_AGAIN, UINT64_MAX, "");
     on_texts("voters=(1)", "r1");
-    expect("form: changes that leave no voter", plan, CONFSCRIPT_NO_VOTER, 2, "");
+    expect("form: changes that leave no voter", plan, CONFSCRIPT_STATUS_NO_VOTER, 2, "");
     on_texts("", "v1");
-    expect("form: the first is empty", plan, CONFSCRIPT_UNKNOWN_FORM, 1, "");
+    expect("form: the first is empty", plan, CONFSCRIPT_STATUS_UNKNOWN_FORM, 1, "");
     on_texts("v1", "v1");
-    expect("form: the first is a list of changes", plan, CONFSCRIPT_UNKNOWN_FORM, 1, "");
+    expect("form: the first is a list of changes", plan, CONFSCRIPT_STATUS_UNKNOWN_FORM, 1, "");
     on_texts("voters(1)", "x");
-    expect("form: the first is badly printed", plan, CONFSCRIPT_BAD_PRINTED, 1, "");
+    expect("form: the first is badly printed", plan, CONFSCRIPT_STATUS_BAD_PRINTED, 1, "");
     on_texts("voters=(1)", "voters=(1");
-    expect("form: the second is badly printed", plan, CONFSCRIPT_BAD_PRINTED, 2, "");
+    expect("form: the second is badly printed", plan, CONFSCRIPT_STATUS_BAD_PRINTED, 2, "");
     on_texts("{}}", "x");
-    expect("form: the first is bad JSON", plan, CONFSCRIPT_BAD_JSON, 1, "");
+    expect("form: the first is bad JSON", plan, CONFSCRIPT_STATUS_BAD_JSON, 1, "");
     on_texts("voters=(1)", "{\"voters\":[-1]}");
-    expect("form: the second is bad JSON", plan, CONFSCRIPT_BAD_JSON, 2, "");
+    expect("form: the second is bad JSON", plan, CONFSCRIPT_STATUS_BAD_JSON, 2, "");
     on_texts("voters=(1)", "v2 x3");
-    expect("form: the second is in no form", plan, CONFSCRIPT_BAD_CHANGE_LIST, 2, "");
+    expect("form: the second is in no form", plan, CONFSCRIPT_STATUS_BAD_CHANGE_LIST, 2, "");
     on_texts("voters=(1) learners=(1)", "x");
-    expect("form: the first is printed, and not valid", plan, CONFSCRIPT_NOT_A_CONFIGURATION, 1, "");
+    expect("form: the first is printed, and not valid", plan, CONFSCRIPT_STATUS_NOT_A_CONFIGURATION, 1, "");
     on_texts("voters=(1)", "{\"voters\":[2],\"learners\":[2]}");
-    expect("form: the second is JSON, and not valid", plan, CONFSCRIPT_NOT_A_CONFIGURATION, 2, "");
+    expect("form: the second is JSON, and not valid", plan, CONFSCRIPT_STATUS_NOT_A_CONFIGURATION, 2, "");
 }
 
 #define STATE(learners, voters, outgoing) \
@@ -288,44 +288,44 @@ static void outputs(void) {
         "now          V .  1 of 1    0\n"
         "1 simple v2  V V  2 of 2    0            2         stalls\n";
     const char *retired = "simple r4\nsimple r5\nsimple l6\nsimple v6\nsimple l7\nsimple v7\n";
-    strategy = CONFSCRIPT_LEARNERS_FIRST;
-    output = CONFSCRIPT_JSON;
+    strategy = CONFSCRIPT_STRATEGY_LEARNERS_FIRST;
+    output = CONFSCRIPT_OUTPUT_JSON;
     on_texts("voters=(1 2 3 4 5)", "r1 r2 v6 v7");
-    expect("output: JSON", plan, CONFSCRIPT_DONE, strlen(lines), lines);
+    expect("output: JSON", plan, CONFSCRIPT_STATUS_DONE, strlen(lines), lines);
     room = strlen(lines) - 1;
-    expect("output: JSON, one byte too small", plan, CONFSCRIPT_TOO_SMALL, strlen(lines), "");
-    output = CONFSCRIPT_TABLE;
+    expect("output: JSON, one byte too small", plan, CONFSCRIPT_STATUS_TOO_SMALL, strlen(lines), "");
+    output = CONFSCRIPT_OUTPUT_TABLE;
     on_texts("voters=(1 2 3 4 5)", "r4 r5 v6 v7");
     SET(down, 5, 4, 5);
-    expect("output: a table with ids down", plan, CONFSCRIPT_DONE, strlen(besides), besides);
-    strategy = CONFSCRIPT_ONE_AT_A_TIME;
-    output = CONFSCRIPT_STEPS;
-    expect("output: steps with ids down, which are removed first", plan, CONFSCRIPT_DONE, strlen(retired), retired);
-    strategy = CONFSCRIPT_SHORTEST;
+    expect("output: a table with ids down", plan, CONFSCRIPT_STATUS_DONE, strlen(besides), besides);
+    strategy = CONFSCRIPT_STRATEGY_ONE_AT_A_TIME;
+    output = CONFSCRIPT_OUTPUT_STEPS;
+    expect("output: steps with ids down, which are removed first", plan, CONFSCRIPT_STATUS_DONE, strlen(retired), retired);
+    strategy = CONFSCRIPT_STRATEGY_SHORTEST;
     on_texts("voters=(1 2 3)", "v1");
     SET(down, 1, 2);
-    expect("output: steps that stall", plan, CONFSCRIPT_DONE, 61, "# no quorum with 1 2 down: no step can be made\nnothing to do\n");
-    output = CONFSCRIPT_JSON;
-    expect("output: JSON of a plan that stalls", plan, CONFSCRIPT_DONE, 48, "{\"down\":[1,2],\"plan\":1,\"stalls\":true,\"steps\":0}\n");
+    expect("output: steps that stall", plan, CONFSCRIPT_STATUS_DONE, 61, "# no quorum with 1 2 down: no step can be made\nnothing to do\n");
+    output = CONFSCRIPT_OUTPUT_JSON;
+    expect("output: JSON of a plan that stalls", plan, CONFSCRIPT_STATUS_DONE, 48, "{\"down\":[1,2],\"plan\":1,\"stalls\":true,\"steps\":0}\n");
     down_len = 0;
-    expect("output: JSON of nothing to do", plan, CONFSCRIPT_DONE, 21, "{\"plan\":1,\"steps\":0}\n");
-    output = CONFSCRIPT_TABLE;
+    expect("output: JSON of nothing to do", plan, CONFSCRIPT_STATUS_DONE, 21, "{\"plan\":1,\"steps\":0}\n");
+    output = CONFSCRIPT_OUTPUT_TABLE;
     on_texts("voters=(1)", "v2");
-    expect("output: a table", plan, CONFSCRIPT_DONE, strlen(table), table);
+    expect("output: a table", plan, CONFSCRIPT_STATUS_DONE, strlen(table), table);
     on_texts("voters=(1 2)", "r2 v4");
     SET(down, 9, 4, 7, 2);
-    expect("output: ids are down that are not members", plan, CONFSCRIPT_DOWN_NOT_A_MEMBER, 7, "");
+    expect("output: ids are down that are not members", plan, CONFSCRIPT_STATUS_DOWN_NOT_A_MEMBER, 7, "");
     on_texts("", "");
     SET(down, 1, 0);
-    expect("output: the id 0 is down", plan, CONFSCRIPT_ZERO_ID, 0, "");
+    expect("output: the id 0 is down", plan, CONFSCRIPT_STATUS_ZERO_ID, 0, "");
     output = 3;
-    expect("output: not one", plan, CONFSCRIPT_BAD_OUTPUT, 0, "");
+    expect("output: not one", plan, CONFSCRIPT_STATUS_BAD_OUTPUT, 0, "");
     output = UINT32_MAX;
-    expect("output: the greatest number", plan, CONFSCRIPT_BAD_OUTPUT, 0, "");
+    expect("output: the greatest number", plan, CONFSCRIPT_STATUS_BAD_OUTPUT, 0, "");
     strategy = 3;
-    expect("output: the strategy is looked at first", plan, CONFSCRIPT_BAD_STRATEGY, 0, "");
-    strategy = CONFSCRIPT_SHORTEST;
-    output = CONFSCRIPT_STEPS;
+    expect("output: the strategy is looked at first", plan, CONFSCRIPT_STATUS_BAD_STRATEGY, 0, "");
+    strategy = CONFSCRIPT_STRATEGY_SHORTEST;
+    output = CONFSCRIPT_OUTPUT_STEPS;
     down_len = 0;
 }
 
@@ -334,86 +334,86 @@ static void strategies(void) {
     const char *learners_first = "simple l6 l7\nenter-joint autoleave=false r1 r2 v6 v7\nleave-joint\n";
     const char *one_at_a_time = "simple l6\nsimple v6\nsimple r1\nsimple l7\nsimple v7\nsimple r2\n";
     on_texts(five, LINE("3 4 5 6 7", "", "", "", "false"));
-    strategy = CONFSCRIPT_LEARNERS_FIRST;
-    expect("strategy: learners first", plan, CONFSCRIPT_DONE, strlen(learners_first), learners_first);
-    strategy = CONFSCRIPT_ONE_AT_A_TIME;
-    expect("strategy: one at a time", plan, CONFSCRIPT_DONE, strlen(one_at_a_time), one_at_a_time);
+    strategy = CONFSCRIPT_STRATEGY_LEARNERS_FIRST;
+    expect("strategy: learners first", plan, CONFSCRIPT_STATUS_DONE, strlen(learners_first), learners_first);
+    strategy = CONFSCRIPT_STRATEGY_ONE_AT_A_TIME;
+    expect("strategy: one at a time", plan, CONFSCRIPT_STATUS_DONE, strlen(one_at_a_time), one_at_a_time);
     room = strlen(one_at_a_time) - 1;
-    expect("strategy: one byte too small", plan, CONFSCRIPT_TOO_SMALL, strlen(one_at_a_time), "");
+    expect("strategy: one byte too small", plan, CONFSCRIPT_STATUS_TOO_SMALL, strlen(one_at_a_time), "");
     on_texts(LINE("1", "", "", "", "false"), joint);
-    expect("strategy: one at a time into a joint configuration", plan, CONFSCRIPT_JOINT_TARGET, 0, "");
+    expect("strategy: one at a time into a joint configuration", plan, CONFSCRIPT_STATUS_JOINT_TARGET, 0, "");
     on_texts(joint, joint);
-    expect("strategy: one at a time from a joint configuration to itself", plan, CONFSCRIPT_DONE, 14, "nothing to do\n");
+    expect("strategy: one at a time from a joint configuration to itself", plan, CONFSCRIPT_STATUS_DONE, 14, "nothing to do\n");
     on_texts("", "");
     strategy = 3;
-    expect("strategy: not one", plan, CONFSCRIPT_BAD_STRATEGY, 0, "");
+    expect("strategy: not one", plan, CONFSCRIPT_STATUS_BAD_STRATEGY, 0, "");
     strategy = UINT32_MAX;
-    expect("strategy: the greatest number", plan, CONFSCRIPT_BAD_STRATEGY, 0, "");
-    strategy = CONFSCRIPT_SHORTEST;
+    expect("strategy: the greatest number", plan, CONFSCRIPT_STATUS_BAD_STRATEGY, 0, "");
+    strategy = CONFSCRIPT_STRATEGY_SHORTEST;
 }
 
 static void applies(void) {
     const char *one = LINE("1", "", "", "", "false"), *joint = LINE("2", "1", "", "", "false"), *none = LINE("", "", "", "", "false");
     const char *both = LINE("1 2", "", "", "", "false"), *six = LINE("2", "", "3", "", "false");
     on_texts(one, "simple v2");
-    expect("apply: one change", apply, CONFSCRIPT_DONE, strlen(both), both);
+    expect("apply: one change", apply, CONFSCRIPT_STATUS_DONE, strlen(both), both);
     room = strlen(both);
-    expect("apply: it just fits", apply, CONFSCRIPT_DONE, strlen(both), both);
+    expect("apply: it just fits", apply, CONFSCRIPT_STATUS_DONE, strlen(both), both);
     room = strlen(both) - 1;
-    expect("apply: one byte too small", apply, CONFSCRIPT_TOO_SMALL, strlen(both), "");
+    expect("apply: one byte too small", apply, CONFSCRIPT_STATUS_TOO_SMALL, strlen(both), "");
     on_texts(one, "nothing to do\n");
-    expect("apply: nothing to do", apply, CONFSCRIPT_DONE, strlen(one), one);
+    expect("apply: nothing to do", apply, CONFSCRIPT_STATUS_DONE, strlen(one), one);
     on_texts(none, "simple v1\n");
-    expect("apply: from nobody", apply, CONFSCRIPT_DONE, strlen(one), one);
+    expect("apply: from nobody", apply, CONFSCRIPT_STATUS_DONE, strlen(one), one);
     on_texts("", "simple v1\n");
-    expect("apply: no line", apply, CONFSCRIPT_BAD_CONF_STATE, 1, "");
+    expect("apply: no line", apply, CONFSCRIPT_STATUS_BAD_CONF_STATE, 1, "");
     on_texts(LINE("1", "2", "2", "", "false"), "simple v1\n");
-    expect("apply: no configuration", apply, CONFSCRIPT_NOT_A_CONFIGURATION, 1, "");
+    expect("apply: no configuration", apply, CONFSCRIPT_STATUS_NOT_A_CONFIGURATION, 1, "");
     on_texts(LINE("", "", "2", "", "false"), "simple v1\n");
-    expect("apply: a learner and no voter", apply, CONFSCRIPT_NOT_A_CONFIGURATION, 1, "");
+    expect("apply: a learner and no voter", apply, CONFSCRIPT_STATUS_NOT_A_CONFIGURATION, 1, "");
     on_texts(one, "");
-    expect("apply: the empty plan text", apply, CONFSCRIPT_BAD_LINE, 1, "");
+    expect("apply: the empty plan text", apply, CONFSCRIPT_STATUS_BAD_LINE, 1, "");
     on_texts(one, "simple v2\nsimple x\n");
-    expect("apply: a bad line", apply, CONFSCRIPT_BAD_LINE, 2, "");
+    expect("apply: a bad line", apply, CONFSCRIPT_STATUS_BAD_LINE, 2, "");
     on_texts(one, "simple l2\nsimple v2\nsimple l3\nsimple v3\nsimple r1\nsimple l3\n");
-    expect("apply: six lines", apply, CONFSCRIPT_DONE, strlen(six), six);
+    expect("apply: six lines", apply, CONFSCRIPT_STATUS_DONE, strlen(six), six);
     on_texts(one, "simple\nsimple\nsimple\nsimple\nsimple\nleave-joint\n");
-    expect("apply: the sixth step is refused", apply, CONFSCRIPT_NOT_JOINT, 6, "");
+    expect("apply: the sixth step is refused", apply, CONFSCRIPT_STATUS_NOT_JOINT, 6, "");
     on_texts(one, "simple\nsimple\nsimple\nsimple\nsimple\nsimple x\n");
-    expect("apply: the sixth line is bad", apply, CONFSCRIPT_BAD_LINE, 6, "");
+    expect("apply: the sixth line is bad", apply, CONFSCRIPT_STATUS_BAD_LINE, 6, "");
     on_texts(one, "simple v2\nenter-joint autoleave=true v3\nenter-joint autoleave=true\n");
-    expect("apply: already joint", apply, CONFSCRIPT_ALREADY_JOINT, 3, "");
+    expect("apply: already joint", apply, CONFSCRIPT_STATUS_ALREADY_JOINT, 3, "");
     on_texts(none, "enter-joint autoleave=false v1\n");
-    expect("apply: no voter to enter from", apply, CONFSCRIPT_ZERO_VOTER_JOINT, 1, "");
+    expect("apply: no voter to enter from", apply, CONFSCRIPT_STATUS_ZERO_VOTER_JOINT, 1, "");
     on_texts(one, "leave-joint\n");
-    expect("apply: not joint", apply, CONFSCRIPT_NOT_JOINT, 1, "");
+    expect("apply: not joint", apply, CONFSCRIPT_STATUS_NOT_JOINT, 1, "");
     on_texts(joint, "simple v3\n");
-    expect("apply: simple in a joint configuration", apply, CONFSCRIPT_SIMPLE_IN_JOINT, 1, "");
+    expect("apply: simple in a joint configuration", apply, CONFSCRIPT_STATUS_SIMPLE_IN_JOINT, 1, "");
     on_texts(one, "simple v2\nsimple r1\nsimple r2\n");
-    expect("apply: no voter is left", apply, CONFSCRIPT_REMOVED_ALL_VOTERS, 3, "");
+    expect("apply: no voter is left", apply, CONFSCRIPT_STATUS_REMOVED_ALL_VOTERS, 3, "");
     on_texts(one, "simple v2 v3\n");
-    expect("apply: two voters at once", apply, CONFSCRIPT_MORE_THAN_ONE_VOTER, 1, "");
+    expect("apply: two voters at once", apply, CONFSCRIPT_STATUS_MORE_THAN_ONE_VOTER, 1, "");
 }
 
 static void checks(void) {
     on_texts(LINE("3 1 2", "6 1 2 4", "5", "4", "true"), "");
-    expect("check: nothing is wrong", check, CONFSCRIPT_DONE, 0, "");
+    expect("check: nothing is wrong", check, CONFSCRIPT_STATUS_DONE, 0, "");
     on_texts(LINE("", "", "5", "", "false"), "");
-    expect("check: no voter", check, CONFSCRIPT_DONE, 0, "");
+    expect("check: no voter", check, CONFSCRIPT_STATUS_DONE, 0, "");
     on_texts(LINE("1", "", "", "", "no"), "");
-    expect("check: no line", check, CONFSCRIPT_BAD_CONF_STATE, 1, "");
+    expect("check: no line", check, CONFSCRIPT_STATUS_BAD_CONF_STATE, 1, "");
     on_texts(LINE("0", "", "2 2", "", "false"), "");
-    expect("check: an id twice", check, CONFSCRIPT_REPEATED_ID, 2, "");
+    expect("check: an id twice", check, CONFSCRIPT_STATUS_REPEATED_ID, 2, "");
     on_texts(LINE("0", "", "0", "", "false"), "");
-    expect("check: the id 0", check, CONFSCRIPT_ZERO_ID, 0, "");
+    expect("check: the id 0", check, CONFSCRIPT_STATUS_ZERO_ID, 0, "");
     on_texts(LINE("1", "2", "", "1", "false"), "");
-    expect("check: next, not outgoing", check, CONFSCRIPT_NEXT_NOT_OUTGOING, 1, "");
+    expect("check: next, not outgoing", check, CONFSCRIPT_STATUS_NEXT_NOT_OUTGOING, 1, "");
     on_texts(LINE("1", "1", "", "1", "false"), "");
-    expect("check: next and incoming", check, CONFSCRIPT_NEXT_AND_INCOMING, 1, "");
+    expect("check: next and incoming", check, CONFSCRIPT_STATUS_NEXT_AND_INCOMING, 1, "");
     on_texts(LINE("1", "", "1", "", "true"), "");
-    expect("check: learner and voter", check, CONFSCRIPT_LEARNER_AND_VOTER, 1, "");
+    expect("check: learner and voter", check, CONFSCRIPT_STATUS_LEARNER_AND_VOTER, 1, "");
     on_texts(LINE("1", "", "", "", "true"), "");
-    expect("check: auto-leave, not joint", check, CONFSCRIPT_NOT_JOINT_BUT_AUTO_LEAVE, 0, "");
+    expect("check: auto-leave, not joint", check, CONFSCRIPT_STATUS_NOT_JOINT_BUT_AUTO_LEAVE, 0, "");
 }
 
 /* Expects a committed index, takes no memory for it, and leaves the indexes of both sets, in any order. */
@@ -440,21 +440,21 @@ static uint8_t many_votes[MANY];
 /* 100,001 voters, whose indexes are first in descending order, then all the same. */
 static void many_voters(void) {
     for (size_t i = 0; i < MANY; i++) many[i] = MANY - i;
-    struct confscript_answer got = {CONFSCRIPT_DONE, confscript_committed(many, MANY, outgoing, 0)};
+    struct confscript_answer got = {CONFSCRIPT_STATUS_DONE, confscript_committed(many, MANY, outgoing, 0)};
     report("committed: many voters", got.number == MANY / 2 + 1, got);
     for (size_t i = 0; i < MANY; i++) many[i] = 7;
     got.number = confscript_committed(outgoing, 0, many, MANY);
     report("committed: many voters with the same index", got.number == 7, got);
-    memset(many_votes, CONFSCRIPT_VOTED_NO, MANY);
-    memset(many_votes, CONFSCRIPT_VOTED_YES, MANY / 2 + 1);
+    memset(many_votes, CONFSCRIPT_BALLOT_NO, MANY);
+    memset(many_votes, CONFSCRIPT_BALLOT_YES, MANY / 2 + 1);
     got = confscript_vote(many_votes, MANY, many_votes, 0);
-    report("vote: many voters win", got.status == CONFSCRIPT_DONE && got.number == CONFSCRIPT_VOTE_WON, got);
-    many_votes[0] = CONFSCRIPT_VOTED_NO;
+    report("vote: many voters win", got.status == CONFSCRIPT_STATUS_DONE && got.number == CONFSCRIPT_VOTE_WON, got);
+    many_votes[0] = CONFSCRIPT_BALLOT_NO;
     got = confscript_vote(many_votes, MANY, many_votes, 0);
-    report("vote: many voters lose", got.status == CONFSCRIPT_DONE && got.number == CONFSCRIPT_VOTE_LOST, got);
+    report("vote: many voters lose", got.status == CONFSCRIPT_STATUS_DONE && got.number == CONFSCRIPT_VOTE_LOST, got);
 }
 
-enum { NO = CONFSCRIPT_VOTED_NO, YES = CONFSCRIPT_VOTED_YES, NONE = CONFSCRIPT_NOT_VOTED };
+enum { NO = CONFSCRIPT_BALLOT_NO, YES = CONFSCRIPT_BALLOT_YES, NONE = CONFSCRIPT_BALLOT_NOT_CAST };
 #define VOTES(name, ...) (name##_votes_len = sizeof((uint8_t[]){__VA_ARGS__}), memcpy(name##_votes, (const uint8_t[]){__VA_ARGS__}, name##_votes_len))
 
 static void quorums(void) {
@@ -482,54 +482,54 @@ static void quorums(void) {
     commits("committed: the greatest index", UINT64_MAX);
 
     incoming_votes_len = outgoing_votes_len = 0;
-    votes("vote: no voters", CONFSCRIPT_DONE, CONFSCRIPT_VOTE_WON);
+    votes("vote: no voters", CONFSCRIPT_STATUS_DONE, CONFSCRIPT_VOTE_WON);
     VOTES(incoming, YES, NONE, YES);
-    votes("vote: won", CONFSCRIPT_DONE, CONFSCRIPT_VOTE_WON);
+    votes("vote: won", CONFSCRIPT_STATUS_DONE, CONFSCRIPT_VOTE_WON);
     VOTES(outgoing, YES, NONE);
-    votes("vote: it depends on an outgoing voter", CONFSCRIPT_DONE, CONFSCRIPT_VOTE_PENDING);
+    votes("vote: it depends on an outgoing voter", CONFSCRIPT_STATUS_DONE, CONFSCRIPT_VOTE_PENDING);
     VOTES(outgoing, YES, YES);
-    votes("vote: both sets win", CONFSCRIPT_DONE, CONFSCRIPT_VOTE_WON);
+    votes("vote: both sets win", CONFSCRIPT_STATUS_DONE, CONFSCRIPT_VOTE_WON);
     VOTES(outgoing, NO, NONE);
-    votes("vote: the outgoing voters lose", CONFSCRIPT_DONE, CONFSCRIPT_VOTE_LOST);
+    votes("vote: the outgoing voters lose", CONFSCRIPT_STATUS_DONE, CONFSCRIPT_VOTE_LOST);
     outgoing_votes_len = 0;
     VOTES(incoming, NONE, NONE, NO);
-    votes("vote: pending", CONFSCRIPT_DONE, CONFSCRIPT_VOTE_PENDING);
+    votes("vote: pending", CONFSCRIPT_STATUS_DONE, CONFSCRIPT_VOTE_PENDING);
     VOTES(incoming, NO, NONE, NO);
-    votes("vote: lost", CONFSCRIPT_DONE, CONFSCRIPT_VOTE_LOST);
+    votes("vote: lost", CONFSCRIPT_STATUS_DONE, CONFSCRIPT_VOTE_LOST);
     VOTES(incoming, YES, YES, NO, NO);
-    votes("vote: half is not enough", CONFSCRIPT_DONE, CONFSCRIPT_VOTE_LOST);
+    votes("vote: half is not enough", CONFSCRIPT_STATUS_DONE, CONFSCRIPT_VOTE_LOST);
     VOTES(incoming, YES, YES, 3);
-    votes("vote: no such vote", CONFSCRIPT_BAD_VOTE, 0);
+    votes("vote: no such vote", CONFSCRIPT_STATUS_BAD_VOTE, 0);
     incoming_votes_len = 0;
     VOTES(outgoing, 255);
-    votes("vote: no such vote of an outgoing voter", CONFSCRIPT_BAD_VOTE, 0);
+    votes("vote: no such vote of an outgoing voter", CONFSCRIPT_STATUS_BAD_VOTE, 0);
     many_voters();
 
     SET(incoming, 1, 2, 3);
     outgoing_len = ids_len = 0;
-    expect("may be down: one of three", may_be_down, CONFSCRIPT_DONE, 1, "");
+    expect("may be down: one of three", may_be_down, CONFSCRIPT_STATUS_DONE, 1, "");
     SET(ids, 3, 9);
-    expect("may be down: two of three count", may_be_down, CONFSCRIPT_DONE, 0, "");
+    expect("may be down: two of three count", may_be_down, CONFSCRIPT_STATUS_DONE, 0, "");
     SET(ids, 3, 1);
-    expect("may be down: one of three counts", may_be_down, CONFSCRIPT_NO_QUORUM, 0, "");
+    expect("may be down: one of three counts", may_be_down, CONFSCRIPT_STATUS_NO_QUORUM, 0, "");
     SET(incoming, 1, 2, 3, 4, 5);
     SET(outgoing, 1, 2, 3);
     ids_len = 0;
-    expect("may be down: the weaker of both", may_be_down, CONFSCRIPT_DONE, 1, "");
+    expect("may be down: the weaker of both", may_be_down, CONFSCRIPT_STATUS_DONE, 1, "");
     SET(ids, 2);
-    expect("may be down: the weaker, where one does not count", may_be_down, CONFSCRIPT_DONE, 0, "");
+    expect("may be down: the weaker, where one does not count", may_be_down, CONFSCRIPT_STATUS_DONE, 0, "");
     SET(incoming, 1, 1, 1, 2, 2, 3);
     outgoing_len = ids_len = 0;
-    expect("may be down: an id that is listed twice counts once", may_be_down, CONFSCRIPT_DONE, 1, "");
+    expect("may be down: an id that is listed twice counts once", may_be_down, CONFSCRIPT_STATUS_DONE, 1, "");
     incoming_len = 0;
-    expect("may be down: nobody votes", may_be_down, CONFSCRIPT_NO_QUORUM, 0, "");
+    expect("may be down: nobody votes", may_be_down, CONFSCRIPT_STATUS_NO_QUORUM, 0, "");
 }
 
 #define NUMBERS(...) (const uint64_t[]){__VA_ARGS__}, sizeof((uint64_t[]){__VA_ARGS__}) / sizeof(uint64_t)
 #define GIVEN(...) (configuration_len = set(configuration, sizeof((uint64_t[]){__VA_ARGS__}) / sizeof(uint64_t), (const uint64_t[]){__VA_ARGS__}))
 
 /* Expects that a call with numbers writes these, without taking memory. */
-#define WRITES(name, which, ...) expect_numbers(name, which, 0, CONFSCRIPT_DONE, sizeof((uint64_t[]){__VA_ARGS__}) / sizeof(uint64_t), NUMBERS(__VA_ARGS__))
+#define WRITES(name, which, ...) expect_numbers(name, which, 0, CONFSCRIPT_STATUS_DONE, sizeof((uint64_t[]){__VA_ARGS__}) / sizeof(uint64_t), NUMBERS(__VA_ARGS__))
 /* Expects that it is refused. */
 #define REFUSED(name, which, status, number) expect_numbers(name, which, 0, status, number, NULL, 0)
 
@@ -539,9 +539,9 @@ static void restores(void) {
     numbers_room = 14;
     WRITES("restore: it just fits", restore, 0, 3, 0, 1, 0, 4, 1, 2, 3, 4, 1, 2, 3, 4);
     numbers_room = 13;
-    REFUSED("restore: one number too small", restore, CONFSCRIPT_TOO_SMALL, 14);
+    REFUSED("restore: one number too small", restore, CONFSCRIPT_STATUS_TOO_SMALL, 14);
     numbers_room = 0;
-    REFUSED("restore: no room", restore, CONFSCRIPT_TOO_SMALL, 14);
+    REFUSED("restore: no room", restore, CONFSCRIPT_STATUS_TOO_SMALL, 14);
     numbers_room = ROOM;
     GIVEN(1, 2, 3, 0, 1, 0, 2, 1, 3, 1, 2, 3);
     WRITES("restore: a joint configuration", restore, 1, 2, 3, 0, 1, 3, 1, 2, 1, 2, 3, 3, 1, 2, 3);
@@ -550,38 +550,38 @@ static void restores(void) {
     GIVEN(0, 1, 0, 0, 0, 2, UINT64_MAX, 9, 9);
     WRITES("restore: the greatest id, and ids that began afresh before", restore, 0, 1, 0, 0, 0, 1, UINT64_MAX, UINT64_MAX);
     configuration_len = 0;
-    REFUSED("restore: no numbers", restore, CONFSCRIPT_DIFFERENT_LENGTHS, 0);
+    REFUSED("restore: no numbers", restore, CONFSCRIPT_STATUS_DIFFERENT_LENGTHS, 0);
     GIVEN(0, 0, 0, 0, 0);
-    REFUSED("restore: a count is missing", restore, CONFSCRIPT_DIFFERENT_LENGTHS, 0);
+    REFUSED("restore: a count is missing", restore, CONFSCRIPT_STATUS_DIFFERENT_LENGTHS, 0);
     GIVEN(2, 1, 0, 0, 0, 0, 1);
-    REFUSED("restore: no flag", restore, CONFSCRIPT_DIFFERENT_LENGTHS, 0);
+    REFUSED("restore: no flag", restore, CONFSCRIPT_STATUS_DIFFERENT_LENGTHS, 0);
     GIVEN(0, 2, 0, 0, 0, 0, 1);
-    REFUSED("restore: an id is missing", restore, CONFSCRIPT_DIFFERENT_LENGTHS, 0);
+    REFUSED("restore: an id is missing", restore, CONFSCRIPT_STATUS_DIFFERENT_LENGTHS, 0);
     GIVEN(0, 1, 0, 0, 0, 0, 1, 2);
-    REFUSED("restore: an id too many", restore, CONFSCRIPT_DIFFERENT_LENGTHS, 0);
+    REFUSED("restore: an id too many", restore, CONFSCRIPT_STATUS_DIFFERENT_LENGTHS, 0);
     GIVEN(0, UINT64_MAX, 1, 1, 0, 0, 1);
-    REFUSED("restore: counts that wrap around", restore, CONFSCRIPT_DIFFERENT_LENGTHS, 0);
+    REFUSED("restore: counts that wrap around", restore, CONFSCRIPT_STATUS_DIFFERENT_LENGTHS, 0);
     GIVEN(0, 1, 1, 0, 1, 0, 1, 2, 1);
-    REFUSED("restore: next, not outgoing", restore, CONFSCRIPT_NEXT_NOT_OUTGOING, 1);
+    REFUSED("restore: next, not outgoing", restore, CONFSCRIPT_STATUS_NEXT_NOT_OUTGOING, 1);
     GIVEN(0, 1, 1, 0, 2, 0, 1, 1, 4, 3);
-    REFUSED("restore: the least of two next, not outgoing", restore, CONFSCRIPT_NEXT_NOT_OUTGOING, 3);
+    REFUSED("restore: the least of two next, not outgoing", restore, CONFSCRIPT_STATUS_NEXT_NOT_OUTGOING, 3);
     GIVEN(0, 2, 2, 0, 1, 0, 1, 2, 1, 2, 2);
-    REFUSED("restore: next and incoming", restore, CONFSCRIPT_NEXT_AND_INCOMING, 2);
+    REFUSED("restore: next and incoming", restore, CONFSCRIPT_STATUS_NEXT_AND_INCOMING, 2);
     GIVEN(0, 2, 0, 1, 0, 0, 1, 2, 2);
-    REFUSED("restore: learner and voter", restore, CONFSCRIPT_LEARNER_AND_VOTER, 2);
+    REFUSED("restore: learner and voter", restore, CONFSCRIPT_STATUS_LEARNER_AND_VOTER, 2);
     GIVEN(0, 1, 0, 1, 0, 0, 1, 0);
-    REFUSED("restore: the id 0", restore, CONFSCRIPT_ZERO_ID, 0);
+    REFUSED("restore: the id 0", restore, CONFSCRIPT_STATUS_ZERO_ID, 0);
     GIVEN(1, 1, 0, 0, 0, 0, 1);
-    REFUSED("restore: auto-leave, not joint", restore, CONFSCRIPT_NOT_JOINT_BUT_AUTO_LEAVE, 0);
+    REFUSED("restore: auto-leave, not joint", restore, CONFSCRIPT_STATUS_NOT_JOINT_BUT_AUTO_LEAVE, 0);
     GIVEN(0, 0, 0, 1, 0, 0, 5);
-    REFUSED("restore: a learner and no voter", restore, CONFSCRIPT_NO_VOTER, 0);
+    REFUSED("restore: a learner and no voter", restore, CONFSCRIPT_STATUS_NO_VOTER, 0);
     GIVEN(0, 4, 2, 0, 0, 0, 1, 3, 3, 1, 2, 2);
-    expect_numbers("restore: an id twice", restore, 1, CONFSCRIPT_REPEATED_ID, 1, NULL, 0);
+    expect_numbers("restore: an id twice", restore, 1, CONFSCRIPT_STATUS_REPEATED_ID, 1, NULL, 0);
     GIVEN(0, 9, 0, 0, 0, 0, 9, 8, 7, 6, 5, 4, 3, 2, 1);
-    expect_numbers("restore: nine voters", restore, 1, CONFSCRIPT_DONE, 24, NUMBERS(0, 9, 0, 0, 0, 9, 1, 2, 3, 4, 5, 6, 7, 8, 9, 1, 2, 3, 4, 5, 6, 7, 8, 9));
+    expect_numbers("restore: nine voters", restore, 1, CONFSCRIPT_STATUS_DONE, 24, NUMBERS(0, 9, 0, 0, 0, 9, 1, 2, 3, 4, 5, 6, 7, 8, 9, 1, 2, 3, 4, 5, 6, 7, 8, 9));
 }
 
-enum { VOTER = CONFSCRIPT_VOTER, REMOVE = CONFSCRIPT_REMOVE, UPDATE = CONFSCRIPT_UPDATE, LEARNER = CONFSCRIPT_LEARNER };
+enum { VOTER = CONFSCRIPT_CHANGE_VOTER, REMOVE = CONFSCRIPT_CHANGE_REMOVE, UPDATE = CONFSCRIPT_CHANGE_UPDATE, LEARNER = CONFSCRIPT_CHANGE_LEARNER };
 #define BY(how, ...) do { \
     const struct confscript_change by[] = {__VA_ARGS__}; \
     kind = how; \
@@ -591,88 +591,88 @@ enum { VOTER = CONFSCRIPT_VOTER, REMOVE = CONFSCRIPT_REMOVE, UPDATE = CONFSCRIPT
 #define BY_NONE(how) (kind = how, changes_len = 0)
 /* The next step is from the configuration that the last one wrote. */
 static void go_on(void) {
-    configuration_len = CONFSCRIPT_IDS;
-    for (int part = CONFSCRIPT_INCOMING; part < CONFSCRIPT_IDS; part++) configuration_len += numbers[part];
+    configuration_len = CONFSCRIPT_PART_IDS;
+    for (int part = CONFSCRIPT_PART_INCOMING; part < CONFSCRIPT_PART_IDS; part++) configuration_len += numbers[part];
     memcpy(configuration, numbers, configuration_len * sizeof *numbers);
 }
 
 static void accepted_steps(void) {
     GIVEN(0, 3, 0, 0, 0, 0, 3, 2, 1);
-    BY(CONFSCRIPT_AUTO, {LEARNER, 4});
+    BY(CONFSCRIPT_STEP_AUTO, {LEARNER, 4});
     WRITES("step: auto, one change", step, 0, 3, 0, 1, 0, 1, 1, 2, 3, 4, 4);
     go_on();
-    BY(CONFSCRIPT_SIMPLE, {VOTER, 4});
+    BY(CONFSCRIPT_STEP_SIMPLE, {VOTER, 4});
     WRITES("step: a promoted learner keeps its progress", step, 0, 4, 0, 0, 0, 0, 1, 2, 3, 4);
     GIVEN(0, 3, 0, 0, 0, 0, 1, 2, 3);
-    BY(CONFSCRIPT_AUTO, {VOTER, 4}, {REMOVE, 1});
+    BY(CONFSCRIPT_STEP_AUTO, {VOTER, 4}, {REMOVE, 1});
     WRITES("step: auto, two changes", step, 1, 3, 3, 0, 0, 1, 2, 3, 4, 1, 2, 3, 4);
     go_on();
-    BY_NONE(CONFSCRIPT_AUTO);
+    BY_NONE(CONFSCRIPT_STEP_AUTO);
     WRITES("step: auto, no change", step, 0, 3, 0, 0, 0, 0, 2, 3, 4);
     go_on();
-    BY(CONFSCRIPT_IMPLICIT, {LEARNER, 3});
+    BY(CONFSCRIPT_STEP_IMPLICIT, {LEARNER, 3});
     WRITES("step: implicit", step, 1, 2, 3, 0, 1, 0, 2, 4, 2, 3, 4, 3);
     go_on();
-    BY(CONFSCRIPT_LEAVE_JOINT, {VOTER, 9});
+    BY(CONFSCRIPT_STEP_LEAVE_JOINT, {VOTER, 9});
     WRITES("step: leaving, where the changes are ignored", step, 0, 2, 0, 1, 0, 0, 2, 4, 3);
     GIVEN(0, 1, 0, 0, 0, 0, 1);
-    BY_NONE(CONFSCRIPT_EXPLICIT);
+    BY_NONE(CONFSCRIPT_STEP_EXPLICIT);
     WRITES("step: explicit, no change", step, 0, 1, 1, 0, 0, 0, 1, 1);
     GIVEN(0, 2, 0, 0, 0, 0, 1, 2);
-    BY(CONFSCRIPT_SIMPLE, {REMOVE, 1}, {VOTER, 1});
+    BY(CONFSCRIPT_STEP_SIMPLE, {REMOVE, 1}, {VOTER, 1});
     WRITES("step: removed and added again", step, 0, 2, 0, 0, 0, 1, 1, 2, 1);
-    BY(CONFSCRIPT_EXPLICIT, {REMOVE, 1}, {VOTER, 1});
+    BY(CONFSCRIPT_STEP_EXPLICIT, {REMOVE, 1}, {VOTER, 1});
     WRITES("step: removed and added again, while it is an outgoing voter", step, 0, 2, 2, 0, 0, 0, 1, 2, 1, 2);
-    BY(CONFSCRIPT_SIMPLE, {UPDATE, 1}, {VOTER, 0}, {UPDATE, 7});
+    BY(CONFSCRIPT_STEP_SIMPLE, {UPDATE, 1}, {VOTER, 0}, {UPDATE, 7});
     WRITES("step: changes without effect", step, 0, 2, 0, 0, 0, 0, 1, 2);
-    BY(CONFSCRIPT_SIMPLE, {VOTER, 7}, {LEARNER, 7}, {REMOVE, 1}, {VOTER, 1});
+    BY(CONFSCRIPT_STEP_SIMPLE, {VOTER, 7}, {LEARNER, 7}, {REMOVE, 1}, {VOTER, 1});
     WRITES("step: the last change of an id decides", step, 0, 2, 0, 1, 0, 2, 1, 2, 7, 1, 7);
     numbers_room = 10;
-    REFUSED("step: one number too small", step, CONFSCRIPT_TOO_SMALL, 11);
+    REFUSED("step: one number too small", step, CONFSCRIPT_STATUS_TOO_SMALL, 11);
     numbers_room = ROOM;
     GIVEN(0, 0, 0, 0, 0, 0);
-    BY(CONFSCRIPT_SIMPLE, {VOTER, UINT64_MAX});
+    BY(CONFSCRIPT_STEP_SIMPLE, {VOTER, UINT64_MAX});
     WRITES("step: the first voter, of the greatest id", step, 0, 1, 0, 0, 0, 1, UINT64_MAX, UINT64_MAX);
-    kind = CONFSCRIPT_SIMPLE;
+    kind = CONFSCRIPT_STEP_SIMPLE;
     uint64_t expected[ROOM] = {0, 1, 0, 40, 0, 41, 1};
     changes_len = 0;
     changes[changes_len++] = (struct confscript_change){VOTER, 1};
     for (uint64_t id = 50; id > 10; id--) changes[changes_len++] = (struct confscript_change){LEARNER, id};
     for (uint64_t i = 0; i < 40; i++) expected[7 + i] = expected[48 + i] = 11 + i;
     expected[47] = 1;
-    expect_numbers("step: many changes", step, 1, CONFSCRIPT_DONE, 88, expected, 88);
+    expect_numbers("step: many changes", step, 1, CONFSCRIPT_STATUS_DONE, 88, expected, 88);
 }
 
 static void refused_steps(void) {
     GIVEN(0, 1, 1, 0, 0, 0, 2, 1);
-    BY_NONE(CONFSCRIPT_IMPLICIT);
-    REFUSED("step: already joint", step, CONFSCRIPT_ALREADY_JOINT, 0);
-    BY(CONFSCRIPT_AUTO, {VOTER, 3});
-    REFUSED("step: simple in a joint configuration", step, CONFSCRIPT_SIMPLE_IN_JOINT, 0);
+    BY_NONE(CONFSCRIPT_STEP_IMPLICIT);
+    REFUSED("step: already joint", step, CONFSCRIPT_STATUS_ALREADY_JOINT, 0);
+    BY(CONFSCRIPT_STEP_AUTO, {VOTER, 3});
+    REFUSED("step: simple in a joint configuration", step, CONFSCRIPT_STATUS_SIMPLE_IN_JOINT, 0);
     GIVEN(0, 0, 0, 0, 0, 0);
-    BY(CONFSCRIPT_EXPLICIT, {VOTER, 1});
-    REFUSED("step: no voter to enter from", step, CONFSCRIPT_ZERO_VOTER_JOINT, 0);
+    BY(CONFSCRIPT_STEP_EXPLICIT, {VOTER, 1});
+    REFUSED("step: no voter to enter from", step, CONFSCRIPT_STATUS_ZERO_VOTER_JOINT, 0);
     GIVEN(0, 1, 0, 0, 0, 0, 1);
-    BY_NONE(CONFSCRIPT_LEAVE_JOINT);
-    REFUSED("step: not joint", step, CONFSCRIPT_NOT_JOINT, 0);
-    BY_NONE(CONFSCRIPT_AUTO);
-    REFUSED("step: auto, no change, not joint", step, CONFSCRIPT_NOT_JOINT, 0);
-    BY(CONFSCRIPT_SIMPLE, {REMOVE, 1});
-    REFUSED("step: no voter is left", step, CONFSCRIPT_REMOVED_ALL_VOTERS, 0);
-    BY(CONFSCRIPT_EXPLICIT, {LEARNER, 1});
-    REFUSED("step: no incoming voter is left", step, CONFSCRIPT_REMOVED_ALL_VOTERS, 0);
-    BY(CONFSCRIPT_SIMPLE, {VOTER, 2}, {REMOVE, 1});
-    REFUSED("step: two voters at once", step, CONFSCRIPT_MORE_THAN_ONE_VOTER, 0);
-    BY(CONFSCRIPT_SIMPLE, {VOTER, 2}, {4, 1}, {5, 1});
-    REFUSED("step: no such kind of change", step, CONFSCRIPT_BAD_CHANGE, 2);
+    BY_NONE(CONFSCRIPT_STEP_LEAVE_JOINT);
+    REFUSED("step: not joint", step, CONFSCRIPT_STATUS_NOT_JOINT, 0);
+    BY_NONE(CONFSCRIPT_STEP_AUTO);
+    REFUSED("step: auto, no change, not joint", step, CONFSCRIPT_STATUS_NOT_JOINT, 0);
+    BY(CONFSCRIPT_STEP_SIMPLE, {REMOVE, 1});
+    REFUSED("step: no voter is left", step, CONFSCRIPT_STATUS_REMOVED_ALL_VOTERS, 0);
+    BY(CONFSCRIPT_STEP_EXPLICIT, {LEARNER, 1});
+    REFUSED("step: no incoming voter is left", step, CONFSCRIPT_STATUS_REMOVED_ALL_VOTERS, 0);
+    BY(CONFSCRIPT_STEP_SIMPLE, {VOTER, 2}, {REMOVE, 1});
+    REFUSED("step: two voters at once", step, CONFSCRIPT_STATUS_MORE_THAN_ONE_VOTER, 0);
+    BY(CONFSCRIPT_STEP_SIMPLE, {VOTER, 2}, {4, 1}, {5, 1});
+    REFUSED("step: no such kind of change", step, CONFSCRIPT_STATUS_BAD_CHANGE, 2);
     BY_NONE(5);
-    REFUSED("step: no such step", step, CONFSCRIPT_BAD_STEP, 0);
+    REFUSED("step: no such step", step, CONFSCRIPT_STATUS_BAD_STEP, 0);
     BY_NONE(UINT32_MAX);
-    REFUSED("step: the greatest number of a step", step, CONFSCRIPT_BAD_STEP, 0);
+    REFUSED("step: the greatest number of a step", step, CONFSCRIPT_STATUS_BAD_STEP, 0);
     GIVEN(0, 1, 0, 0, 0, 0);
-    REFUSED("step: no configuration", step, CONFSCRIPT_DIFFERENT_LENGTHS, 0);
+    REFUSED("step: no configuration", step, CONFSCRIPT_STATUS_DIFFERENT_LENGTHS, 0);
     GIVEN(0, 2, 0, 1, 0, 0, 1, 2, 2);
-    REFUSED("step: not a valid configuration", step, CONFSCRIPT_LEARNER_AND_VOTER, 2);
+    REFUSED("step: not a valid configuration", step, CONFSCRIPT_STATUS_LEARNER_AND_VOTER, 2);
 }
 
 /* Whether a call just fits into the room of the header's macro, and not into one number less. */
@@ -683,7 +683,7 @@ static void bound(const char *name, call which, size_t most) {
         got[less] = called(which, -1);
     }
     numbers_room = ROOM;
-    report(name, got[0].status == CONFSCRIPT_DONE && got[0].number == most && got[1].status == CONFSCRIPT_TOO_SMALL && got[1].number == most, got[0]);
+    report(name, got[0].status == CONFSCRIPT_STATUS_DONE && got[0].number == most && got[1].status == CONFSCRIPT_STATUS_TOO_SMALL && got[1].number == most, got[0]);
 }
 
 /* Every list of up to three changes of five ids, made in every way in some configurations: whether the macro's room is
@@ -692,7 +692,7 @@ static void all_rooms(void) {
     static const uint64_t states[][12] = {
         {6, 0, 0, 0, 0, 0, 0}, {7, 0, 1, 0, 0, 0, 0, 1}, {9, 0, 2, 0, 1, 0, 0, 1, 3, 2}, {10, 1, 2, 1, 1, 0, 0, 4, 5, 1, 2},
         {11, 0, 1, 2, 0, 1, 1, 2, 1, 2, 1, 2}};
-    struct confscript_answer got = {CONFSCRIPT_DONE, 0};
+    struct confscript_answer got = {CONFSCRIPT_STATUS_DONE, 0};
     int is_enough = 1, is_short = 0;
     for (size_t i = 0; i < sizeof states / sizeof *states; i++) for (kind = 0; kind < 5; kind++) for (changes_len = 0; changes_len < 4; changes_len++) {
         configuration_len = set(configuration, states[i][0], states[i] + 1);
@@ -703,8 +703,8 @@ static void all_rooms(void) {
             for (size_t k = 0; k < changes_len; k++, rest /= 20) changes[k] = (struct confscript_change){rest % 4, 1 + rest / 4 % 5};
             numbers_room = most;
             got = step();
-            is_enough = got.status != CONFSCRIPT_TOO_SMALL;
-            is_short |= got.status == CONFSCRIPT_DONE && got.number == most;
+            is_enough = got.status != CONFSCRIPT_STATUS_TOO_SMALL;
+            is_short |= got.status == CONFSCRIPT_STATUS_DONE && got.number == most;
         }
     }
     numbers_room = ROOM;
@@ -714,14 +714,14 @@ static void all_rooms(void) {
 static void rooms(void) {
     GIVEN(0, 3, 0, 0, 0, 0, 1, 2, 3);
     bound("room: restore", restore, CONFSCRIPT_RESTORE_ROOM(configuration_len));
-    BY(CONFSCRIPT_EXPLICIT, {VOTER, 4}, {LEARNER, 5}, {VOTER, 6});
+    BY(CONFSCRIPT_STEP_EXPLICIT, {VOTER, 4}, {LEARNER, 5}, {VOTER, 6});
     bound("room: step", step, CONFSCRIPT_STEP_ROOM(configuration_len, changes_len));
     GIVEN(0, 0, 0, 0, 0, 0);
     bound("room: restore without ids", restore, CONFSCRIPT_RESTORE_ROOM(configuration_len));
     all_rooms();
     uint64_t constant[CONFSCRIPT_STEP_ROOM(9, 2)];
-    struct confscript_answer got = {CONFSCRIPT_DONE, CONFSCRIPT_RESTORE_ROOM(3)};
-    report("room: a length that is no array's", got.number == CONFSCRIPT_IDS && sizeof constant == 16 * sizeof *constant, got);
+    struct confscript_answer got = {CONFSCRIPT_STATUS_DONE, CONFSCRIPT_RESTORE_ROOM(3)};
+    report("room: a length that is no array's", got.number == CONFSCRIPT_PART_IDS && sizeof constant == 16 * sizeof *constant, got);
 }
 
 /* What the header says of questions that other calls answer. */
@@ -729,24 +729,24 @@ static void questions(void) {
     SET(incoming, 1, 2, 3, 4, 5);
     outgoing_len = 0;
     SET(ids, 4, 5);
-    expect("question: the quorum is not lost", may_be_down, CONFSCRIPT_DONE, 0, "");
+    expect("question: the quorum is not lost", may_be_down, CONFSCRIPT_STATUS_DONE, 0, "");
     SET(ids, 3, 4, 5);
-    expect("question: the quorum is lost", may_be_down, CONFSCRIPT_NO_QUORUM, 0, "");
+    expect("question: the quorum is lost", may_be_down, CONFSCRIPT_STATUS_NO_QUORUM, 0, "");
     /* Of five voters, the last is down and has not acknowledged the index. */
     VOTES(incoming, NO, YES, YES, YES, NO);
     outgoing_votes_len = 0;
-    votes("question: the first voter need not acknowledge", CONFSCRIPT_DONE, CONFSCRIPT_VOTE_WON);
+    votes("question: the first voter need not acknowledge", CONFSCRIPT_STATUS_DONE, CONFSCRIPT_VOTE_WON);
     VOTES(outgoing, NO, YES);
-    votes("question: it must, as an outgoing voter", CONFSCRIPT_DONE, CONFSCRIPT_VOTE_LOST);
+    votes("question: it must, as an outgoing voter", CONFSCRIPT_STATUS_DONE, CONFSCRIPT_VOTE_LOST);
     GIVEN(0, 3, 0, 0, 0, 0, 1, 2, 3);
-    BY(CONFSCRIPT_SIMPLE, {REMOVE, 3});
+    BY(CONFSCRIPT_STEP_SIMPLE, {REMOVE, 3});
     WRITES("question: a voter is removed", step, 0, 2, 0, 0, 0, 0, 1, 2);
     SET(incoming, 1, 2);
     outgoing_len = 0;
     SET(ids, 3);
-    expect("question: the others are a quorum", may_be_down, CONFSCRIPT_DONE, 0, "");
+    expect("question: the others are a quorum", may_be_down, CONFSCRIPT_STATUS_DONE, 0, "");
     SET(ids, 2);
-    expect("question: without another that is down they are none", may_be_down, CONFSCRIPT_NO_QUORUM, 0, "");
+    expect("question: without another that is down they are none", may_be_down, CONFSCRIPT_STATUS_NO_QUORUM, 0, "");
 }
 
 /* Lists of no elements, whose pointers are NULL. */
@@ -757,10 +757,10 @@ static struct confscript_answer null_down(void) {
 static struct confscript_answer null_apply(void) { return confscript_apply(NULL, 0, NULL, 0, NULL, 0); }
 static struct confscript_answer null_check(void) { return confscript_check(NULL, 0); }
 static struct confscript_answer null_committed(void) {
-    return (struct confscript_answer){CONFSCRIPT_DONE, confscript_committed(NULL, 0, NULL, 0)};
+    return (struct confscript_answer){CONFSCRIPT_STATUS_DONE, confscript_committed(NULL, 0, NULL, 0)};
 }
 static struct confscript_answer null_outgoing(void) {
-    return (struct confscript_answer){CONFSCRIPT_DONE, confscript_committed(incoming, incoming_len, NULL, 0)};
+    return (struct confscript_answer){CONFSCRIPT_STATUS_DONE, confscript_committed(incoming, incoming_len, NULL, 0)};
 }
 static struct confscript_answer null_vote(void) { return confscript_vote(NULL, 0, NULL, 0); }
 static struct confscript_answer null_restore(void) { return confscript_restore(NULL, 0, NULL, 0); }
@@ -775,25 +775,25 @@ static struct confscript_answer null_uncounted(void) { return confscript_may_be_
 static struct confscript_answer null_status_text(void) { return confscript_status_text(code, NULL, 0); }
 
 static void null_pointers(void) {
-    expect("NULL: plan", null_plan, CONFSCRIPT_UNKNOWN_FORM, 1, "");
+    expect("NULL: plan", null_plan, CONFSCRIPT_STATUS_UNKNOWN_FORM, 1, "");
     on_texts("voters=(1)", "voters=(1)");
-    expect("NULL: plan with no ids down", null_down, CONFSCRIPT_DONE, 14, "nothing to do\n");
-    expect("NULL: apply", null_apply, CONFSCRIPT_BAD_CONF_STATE, 1, "");
-    expect("NULL: check", null_check, CONFSCRIPT_BAD_CONF_STATE, 1, "");
-    expect("NULL: committed", null_committed, CONFSCRIPT_DONE, UINT64_MAX, "");
+    expect("NULL: plan with no ids down", null_down, CONFSCRIPT_STATUS_DONE, 14, "nothing to do\n");
+    expect("NULL: apply", null_apply, CONFSCRIPT_STATUS_BAD_CONF_STATE, 1, "");
+    expect("NULL: check", null_check, CONFSCRIPT_STATUS_BAD_CONF_STATE, 1, "");
+    expect("NULL: committed", null_committed, CONFSCRIPT_STATUS_DONE, UINT64_MAX, "");
     SET(incoming, 5, 0, 7);
-    expect("NULL: committed with no outgoing voters", null_outgoing, CONFSCRIPT_DONE, 5, "");
-    expect("NULL: vote", null_vote, CONFSCRIPT_DONE, CONFSCRIPT_VOTE_WON, "");
-    REFUSED("NULL: restore", null_restore, CONFSCRIPT_DIFFERENT_LENGTHS, 0);
+    expect("NULL: committed with no outgoing voters", null_outgoing, CONFSCRIPT_STATUS_DONE, 5, "");
+    expect("NULL: vote", null_vote, CONFSCRIPT_STATUS_DONE, CONFSCRIPT_VOTE_WON, "");
+    REFUSED("NULL: restore", null_restore, CONFSCRIPT_STATUS_DIFFERENT_LENGTHS, 0);
     GIVEN(0, 1, 1, 0, 0, 0, 2, 1);
-    BY_NONE(CONFSCRIPT_AUTO);
+    BY_NONE(CONFSCRIPT_STEP_AUTO);
     WRITES("NULL: step with no changes", null_step, 0, 1, 0, 0, 0, 0, 2);
-    REFUSED("NULL: step with no room", null_room, CONFSCRIPT_TOO_SMALL, 7);
-    expect("NULL: may be down", null_may_be_down, CONFSCRIPT_NO_QUORUM, 0, "");
+    REFUSED("NULL: step with no room", null_room, CONFSCRIPT_STATUS_TOO_SMALL, 7);
+    expect("NULL: may be down", null_may_be_down, CONFSCRIPT_STATUS_NO_QUORUM, 0, "");
     SET(incoming, 1, 2, 3);
-    expect("NULL: may be down with no outgoing voters", null_uncounted, CONFSCRIPT_DONE, 1, "");
-    code = CONFSCRIPT_DONE;
-    expect("NULL: text of a status", null_status_text, CONFSCRIPT_TOO_SMALL, 4, "");
+    expect("NULL: may be down with no outgoing voters", null_uncounted, CONFSCRIPT_STATUS_DONE, 1, "");
+    code = CONFSCRIPT_STATUS_DONE;
+    expect("NULL: text of a status", null_status_text, CONFSCRIPT_STATUS_TOO_SMALL, 4, "");
 }
 
 /* Applies a plan to a line, at most `lines` lines in each call, and writes the last result to `line`. */
@@ -807,7 +807,7 @@ static struct confscript_answer applied(char *line, const char *steps, int lines
         part[end - steps] = '\0';
         on_texts(line, part);
         answer = called(apply, -1);
-        if (answer.status != CONFSCRIPT_DONE) return answer;
+        if (answer.status != CONFSCRIPT_STATUS_DONE) return answer;
         memcpy(line, out, answer.number);
         line[answer.number] = '\0';
         steps = end;
@@ -827,24 +827,24 @@ static void rounds(void) {
     };
     static const int parts[] = {ROOM, 1, 4};
     size_t n = sizeof lines / sizeof *lines;
-    for (strategy = CONFSCRIPT_SHORTEST; strategy <= CONFSCRIPT_ONE_AT_A_TIME; strategy++)
+    for (strategy = CONFSCRIPT_STRATEGY_SHORTEST; strategy <= CONFSCRIPT_STRATEGY_ONE_AT_A_TIME; strategy++)
     for (size_t i = 0; i < n; i++) for (size_t k = 0; k < n; k++) {
         char steps[ROOM + 1], line[ROOM + 1], name[64];
         on_texts(lines[i], lines[k]);
         struct confscript_answer planned = called(plan, -1);
         int is_joint = strstr(lines[k], "Outgoing:[]") == NULL;
         snprintf(name, sizeof name, "round: %zu to %zu by %u", i, k, (unsigned)strategy);
-        if (strategy == CONFSCRIPT_ONE_AT_A_TIME && is_joint && i != k) { report(name, planned.status == CONFSCRIPT_JOINT_TARGET, planned); continue; }
-        if (planned.status != CONFSCRIPT_DONE) { report(name, 0, planned); continue; }
+        if (strategy == CONFSCRIPT_STRATEGY_ONE_AT_A_TIME && is_joint && i != k) { report(name, planned.status == CONFSCRIPT_STATUS_JOINT_TARGET, planned); continue; }
+        if (planned.status != CONFSCRIPT_STATUS_DONE) { report(name, 0, planned); continue; }
         memcpy(steps, out, planned.number);
         steps[planned.number] = '\0';
         for (size_t part = 0; part < sizeof parts / sizeof *parts; part++) {
             strcpy(line, lines[i]);
             struct confscript_answer got = applied(line, steps, parts[part]);
-            report(name, got.status == CONFSCRIPT_DONE && strcmp(line, lines[k]) == 0, got);
+            report(name, got.status == CONFSCRIPT_STATUS_DONE && strcmp(line, lines[k]) == 0, got);
         }
     }
-    strategy = CONFSCRIPT_SHORTEST;
+    strategy = CONFSCRIPT_STRATEGY_SHORTEST;
 }
 
 int main(void) {

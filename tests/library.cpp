@@ -19,10 +19,10 @@ static void expect(const char *name, confscript_answer got, uint32_t status, uin
     std::printf("%s: %s\n", got.status == status && got.number == number ? "ok" : "FAILED", name);
 }
 
-static void expect(const char *name, uint64_t got, uint64_t number) { expect(name, {CONFSCRIPT_DONE, got}, CONFSCRIPT_DONE, number); }
+static void expect(const char *name, uint64_t got, uint64_t number) { expect(name, {CONFSCRIPT_STATUS_DONE, got}, CONFSCRIPT_STATUS_DONE, number); }
 
 static confscript_answer plan(const bytes &now, const bytes &target, const numbers &down, bytes &out) {
-    return confscript_plan(now.data(), now.size(), target.data(), target.size(), CONFSCRIPT_SHORTEST, CONFSCRIPT_STEPS,
+    return confscript_plan(now.data(), now.size(), target.data(), target.size(), CONFSCRIPT_STRATEGY_SHORTEST, CONFSCRIPT_OUTPUT_STEPS,
                            down.data(), down.size(), out.data(), out.size());
 }
 
@@ -35,7 +35,7 @@ static confscript_answer vote(const bytes &incoming, const bytes &outgoing) {
 }
 
 static confscript_answer step(const numbers &configuration, const changes &by, numbers &out) {
-    return confscript_step(configuration.data(), configuration.size(), CONFSCRIPT_AUTO, by.data(), by.size(), out.data(), out.size());
+    return confscript_step(configuration.data(), configuration.size(), CONFSCRIPT_STEP_AUTO, by.data(), by.size(), out.data(), out.size());
 }
 
 static confscript_answer may_be_down(const numbers &incoming, const numbers &outgoing, const numbers &uncounted) {
@@ -44,23 +44,23 @@ static confscript_answer may_be_down(const numbers &incoming, const numbers &out
 
 int main() {
     bytes no_text, line(64);
-    expect("plan: no ids down", plan(text("voters=(1)"), text("v1"), {}, line), CONFSCRIPT_DONE, 14);
-    expect("plan: no room", plan(text("voters=(1)"), text("v2"), {}, no_text), CONFSCRIPT_TOO_SMALL, 10);
-    expect("plan: no configuration", plan(no_text, no_text, {}, no_text), CONFSCRIPT_UNKNOWN_FORM, 1);
-    expect("apply: no text", confscript_apply(no_text.data(), 0, no_text.data(), 0, no_text.data(), 0), CONFSCRIPT_BAD_CONF_STATE, 1);
-    expect("check: no text", confscript_check(no_text.data(), 0), CONFSCRIPT_BAD_CONF_STATE, 1);
-    expect("status: no room", confscript_status_text(CONFSCRIPT_DONE, no_text.data(), 0), CONFSCRIPT_TOO_SMALL, 4);
+    expect("plan: no ids down", plan(text("voters=(1)"), text("v1"), {}, line), CONFSCRIPT_STATUS_DONE, 14);
+    expect("plan: no room", plan(text("voters=(1)"), text("v2"), {}, no_text), CONFSCRIPT_STATUS_TOO_SMALL, 10);
+    expect("plan: no configuration", plan(no_text, no_text, {}, no_text), CONFSCRIPT_STATUS_UNKNOWN_FORM, 1);
+    expect("apply: no text", confscript_apply(no_text.data(), 0, no_text.data(), 0, no_text.data(), 0), CONFSCRIPT_STATUS_BAD_CONF_STATE, 1);
+    expect("check: no text", confscript_check(no_text.data(), 0), CONFSCRIPT_STATUS_BAD_CONF_STATE, 1);
+    expect("status: no room", confscript_status_text(CONFSCRIPT_STATUS_DONE, no_text.data(), 0), CONFSCRIPT_STATUS_TOO_SMALL, 4);
     expect("committed: no voters", committed({}, {}), UINT64_MAX);
     expect("committed: no outgoing voters", committed({5, 0, 7}, {}), 5);
     expect("committed: no incoming voters", committed({}, {4, 4}), 4);
-    expect("vote: no voters", vote({}, {}), CONFSCRIPT_DONE, CONFSCRIPT_VOTE_WON);
-    expect("vote: no outgoing voters", vote({CONFSCRIPT_VOTED_NO}, {}), CONFSCRIPT_DONE, CONFSCRIPT_VOTE_LOST);
+    expect("vote: no voters", vote({}, {}), CONFSCRIPT_STATUS_DONE, CONFSCRIPT_VOTE_WON);
+    expect("vote: no outgoing voters", vote({CONFSCRIPT_BALLOT_NO}, {}), CONFSCRIPT_STATUS_DONE, CONFSCRIPT_VOTE_LOST);
     numbers no_numbers, joint{0, 1, 1, 0, 0, 0, 2, 1}, room(32);
-    expect("restore: no numbers", confscript_restore(no_numbers.data(), 0, no_numbers.data(), 0), CONFSCRIPT_DIFFERENT_LENGTHS, 0);
-    expect("restore: no room", confscript_restore(joint.data(), joint.size(), no_numbers.data(), 0), CONFSCRIPT_TOO_SMALL, 10);
-    expect("step: no changes", step(joint, {}, room), CONFSCRIPT_DONE, 7);
-    expect("step: no room", step(joint, {}, no_numbers), CONFSCRIPT_TOO_SMALL, 7);
-    expect("may be down: no voters", may_be_down({}, {}, {}), CONFSCRIPT_NO_QUORUM, 0);
-    expect("may be down: no outgoing voters, all count", may_be_down({1, 2, 3}, {}, {}), CONFSCRIPT_DONE, 1);
+    expect("restore: no numbers", confscript_restore(no_numbers.data(), 0, no_numbers.data(), 0), CONFSCRIPT_STATUS_DIFFERENT_LENGTHS, 0);
+    expect("restore: no room", confscript_restore(joint.data(), joint.size(), no_numbers.data(), 0), CONFSCRIPT_STATUS_TOO_SMALL, 10);
+    expect("step: no changes", step(joint, {}, room), CONFSCRIPT_STATUS_DONE, 7);
+    expect("step: no room", step(joint, {}, no_numbers), CONFSCRIPT_STATUS_TOO_SMALL, 7);
+    expect("may be down: no voters", may_be_down({}, {}, {}), CONFSCRIPT_STATUS_NO_QUORUM, 0);
+    expect("may be down: no outgoing voters, all count", may_be_down({1, 2, 3}, {}, {}), CONFSCRIPT_STATUS_DONE, 1);
     return 0;
 }

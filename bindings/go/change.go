@@ -28,10 +28,10 @@ type ConfChangeType int32
 
 // The types of changes, with the numbers of raftpb.
 const (
-	ConfChangeAddNode        ConfChangeType = C.CONFSCRIPT_VOTER
-	ConfChangeRemoveNode     ConfChangeType = C.CONFSCRIPT_REMOVE
-	ConfChangeUpdateNode     ConfChangeType = C.CONFSCRIPT_UPDATE
-	ConfChangeAddLearnerNode ConfChangeType = C.CONFSCRIPT_LEARNER
+	ConfChangeAddNode        ConfChangeType = C.CONFSCRIPT_CHANGE_VOTER
+	ConfChangeRemoveNode     ConfChangeType = C.CONFSCRIPT_CHANGE_REMOVE
+	ConfChangeUpdateNode     ConfChangeType = C.CONFSCRIPT_CHANGE_UPDATE
+	ConfChangeAddLearnerNode ConfChangeType = C.CONFSCRIPT_CHANGE_LEARNER
 )
 
 // ConfChangeSingle is a change of one id. A change of the id 0 has no effect.
@@ -47,11 +47,11 @@ type ConfChangeTransition int32
 const (
 	// No change leaves a joint configuration, one is a simple change, and more enter a joint configuration that raft
 	// leaves by itself.
-	ConfChangeTransitionAuto ConfChangeTransition = C.CONFSCRIPT_AUTO
+	ConfChangeTransitionAuto ConfChangeTransition = C.CONFSCRIPT_STEP_AUTO
 	// The changes enter a joint configuration that raft leaves by itself.
-	ConfChangeTransitionJointImplicit ConfChangeTransition = C.CONFSCRIPT_IMPLICIT
+	ConfChangeTransitionJointImplicit ConfChangeTransition = C.CONFSCRIPT_STEP_IMPLICIT
 	// The changes enter a joint configuration that another proposal has to leave.
-	ConfChangeTransitionJointExplicit ConfChangeTransition = C.CONFSCRIPT_EXPLICIT
+	ConfChangeTransitionJointExplicit ConfChangeTransition = C.CONFSCRIPT_STEP_EXPLICIT
 )
 
 // ConfChangeV2 is a proposal, with the field names of raftpb.ConfChangeV2. It is read from the JSON of a plan and from
@@ -77,20 +77,20 @@ func ApplyConfChange(state ConfState, change ConfChangeV2) (next ConfState, fres
 // Simple returns the configuration after changes of any number of learners and at most one voter. It is refused in a
 // joint configuration.
 func Simple(state ConfState, changes []ConfChangeSingle) (next ConfState, fresh []uint64, err error) {
-	return step(state, C.CONFSCRIPT_SIMPLE, changes)
+	return step(state, C.CONFSCRIPT_STEP_SIMPLE, changes)
 }
 
 // EnterJoint returns the joint configuration that changes lead to, which raft leaves by itself with autoLeave.
 func EnterJoint(state ConfState, autoLeave bool, changes []ConfChangeSingle) (next ConfState, fresh []uint64, err error) {
 	if autoLeave {
-		return step(state, C.CONFSCRIPT_IMPLICIT, changes)
+		return step(state, C.CONFSCRIPT_STEP_IMPLICIT, changes)
 	}
-	return step(state, C.CONFSCRIPT_EXPLICIT, changes)
+	return step(state, C.CONFSCRIPT_STEP_EXPLICIT, changes)
 }
 
 // LeaveJoint returns the configuration after a joint one is left.
 func LeaveJoint(state ConfState) (next ConfState, fresh []uint64, err error) {
-	return step(state, C.CONFSCRIPT_LEAVE_JOINT, nil)
+	return step(state, C.CONFSCRIPT_STEP_LEAVE_JOINT, nil)
 }
 
 // Restore checks a saved configuration, and returns it with its ids in ascending order. Each member begins afresh, as
@@ -121,12 +121,12 @@ func (state ConfState) size() int {
 // numbers returns the configuration as the array that enum confscript_part describes.
 func (state ConfState) numbers() []uint64 {
 	lists := [][]uint64{state.Voters, state.VotersOutgoing, state.Learners, state.LearnersNext}
-	numbers := make([]uint64, C.CONFSCRIPT_IDS, C.CONFSCRIPT_IDS+state.size())
+	numbers := make([]uint64, C.CONFSCRIPT_PART_IDS, C.CONFSCRIPT_PART_IDS+state.size())
 	if state.AutoLeave {
-		numbers[C.CONFSCRIPT_AUTO_LEAVE] = 1
+		numbers[C.CONFSCRIPT_PART_AUTO_LEAVE] = 1
 	}
 	for i, list := range lists {
-		numbers[C.CONFSCRIPT_INCOMING+i] = uint64(len(list))
+		numbers[C.CONFSCRIPT_PART_INCOMING+i] = uint64(len(list))
 		numbers = append(numbers, list...)
 	}
 	return numbers
@@ -134,7 +134,7 @@ func (state ConfState) numbers() []uint64 {
 
 // room returns how many numbers a call writes at most, as the macro CONFSCRIPT_STEP_ROOM of confscript.h.
 func room(state ConfState, changes int) int {
-	return C.CONFSCRIPT_IDS + 2*(state.size()+changes)
+	return C.CONFSCRIPT_PART_IDS + 2*(state.size()+changes)
 }
 
 // configuration returns the configuration that a call writes into this room, and the members that begin afresh in it.
@@ -149,7 +149,7 @@ func configuration(room int, call func(out *C.uint64_t, room C.size_t) C.struct_
 
 // read returns the configuration and the fresh members of such an array. The lists are parts of it; an empty one is nil.
 func read(numbers []uint64) (ConfState, []uint64) {
-	ids := numbers[C.CONFSCRIPT_IDS:]
+	ids := numbers[C.CONFSCRIPT_PART_IDS:]
 	next := func(part int) []uint64 {
 		count := numbers[part]
 		list := ids[:count:count]
@@ -160,11 +160,11 @@ func read(numbers []uint64) (ConfState, []uint64) {
 		return list
 	}
 	state := ConfState{
-		Voters:         next(C.CONFSCRIPT_INCOMING),
-		VotersOutgoing: next(C.CONFSCRIPT_OUTGOING),
-		Learners:       next(C.CONFSCRIPT_LEARNERS),
-		LearnersNext:   next(C.CONFSCRIPT_LEARNERS_NEXT),
-		AutoLeave:      numbers[C.CONFSCRIPT_AUTO_LEAVE] == 1,
+		Voters:         next(C.CONFSCRIPT_PART_INCOMING),
+		VotersOutgoing: next(C.CONFSCRIPT_PART_OUTGOING),
+		Learners:       next(C.CONFSCRIPT_PART_LEARNERS),
+		LearnersNext:   next(C.CONFSCRIPT_PART_LEARNERS_NEXT),
+		AutoLeave:      numbers[C.CONFSCRIPT_PART_AUTO_LEAVE] == 1,
 	}
-	return state, next(C.CONFSCRIPT_FRESH)
+	return state, next(C.CONFSCRIPT_PART_FRESH)
 }

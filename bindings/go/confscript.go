@@ -42,9 +42,9 @@ type Strategy uint32
 
 // The strategies. Plan uses Shortest.
 const (
-	Shortest      Strategy = C.CONFSCRIPT_SHORTEST
-	LearnersFirst Strategy = C.CONFSCRIPT_LEARNERS_FIRST
-	OneAtATime    Strategy = C.CONFSCRIPT_ONE_AT_A_TIME
+	Shortest      Strategy = C.CONFSCRIPT_STRATEGY_SHORTEST
+	LearnersFirst Strategy = C.CONFSCRIPT_STRATEGY_LEARNERS_FIRST
+	OneAtATime    Strategy = C.CONFSCRIPT_STRATEGY_ONE_AT_A_TIME
 )
 
 // Output is what is written of a plan.
@@ -52,9 +52,9 @@ type Output uint32
 
 // The outputs. Plan and PlanBy write Steps.
 const (
-	Steps Output = C.CONFSCRIPT_STEPS
-	Table Output = C.CONFSCRIPT_TABLE
-	JSON  Output = C.CONFSCRIPT_JSON
+	Steps Output = C.CONFSCRIPT_OUTPUT_STEPS
+	Table Output = C.CONFSCRIPT_OUTPUT_TABLE
+	JSON  Output = C.CONFSCRIPT_OUTPUT_JSON
 )
 
 // Options is how a plan is made. Its zero value is the shortest plan, with no ids down.
@@ -65,19 +65,19 @@ type Options struct {
 }
 
 // Plan returns the steps of the shortest plan from a configuration to a target.
-func Plan(now, target string) (string, error) {
-	return PlanBy(Options{}, now, target)
+func Plan(configuration, target string) (string, error) {
+	return PlanBy(Options{}, configuration, target)
 }
 
 // PlanBy returns the steps of the plan from a configuration to a target. If the plan stalls with the ids that are down,
 // they begin with a line such as "# stalls with 4 5 down" or "# no quorum with 4 5 down: no step can be made".
-func PlanBy(options Options, now, target string) (string, error) {
-	return PlanAs(Steps, options, now, target)
+func PlanBy(options Options, configuration, target string) (string, error) {
+	return PlanAs(Steps, options, configuration, target)
 }
 
 // PlanAs returns the plan from a configuration to a target, as the program prints it with this output.
-func PlanAs(output Output, options Options, now, target string) (string, error) {
-	from, to := []byte(now), []byte(target)
+func PlanAs(output Output, options Options, configuration, target string) (string, error) {
+	from, to := []byte(configuration), []byte(target)
 	return written(func(out *C.uint8_t, room C.size_t) C.struct_confscript_answer {
 		return C.confscript_plan(start(from), C.size_t(len(from)), start(to), C.size_t(len(to)), C.uint32_t(options.Strategy),
 			C.uint32_t(output), first(options.Down), C.size_t(len(options.Down)), out, room)
@@ -85,16 +85,16 @@ func PlanAs(output Output, options Options, now, target string) (string, error) 
 }
 
 // Apply returns the ConfState line of the configuration after the steps of a plan. A single step is a plan of one line.
-func Apply(state, steps string) (string, error) {
-	from, by := []byte(state), []byte(steps)
+func Apply(configuration, steps string) (string, error) {
+	from, by := []byte(configuration), []byte(steps)
 	return written(func(out *C.uint8_t, room C.size_t) C.struct_confscript_answer {
 		return C.confscript_apply(start(from), C.size_t(len(from)), start(by), C.size_t(len(by)), out, room)
 	})
 }
 
 // Check returns what is wrong with the configuration of a ConfState line, or nil.
-func Check(state string) error {
-	line := []byte(state)
+func Check(configuration string) error {
+	line := []byte(configuration)
 	_, err := number(C.confscript_check(start(line), C.size_t(len(line))))
 	return err
 }
@@ -114,7 +114,7 @@ func start(text []byte) *C.uint8_t {
 
 // number returns the number of an answer, or the error of a call that was refused.
 func number(answer C.struct_confscript_answer) (uint64, error) {
-	if answer.status != C.CONFSCRIPT_DONE {
+	if answer.status != C.CONFSCRIPT_STATUS_DONE {
 		return 0, &Refused{Status(answer.status), uint64(answer.number)}
 	}
 	return uint64(answer.number), nil
@@ -125,7 +125,7 @@ func written(call func(out *C.uint8_t, room C.size_t) C.struct_confscript_answer
 	out := make([]byte, 256)
 	for {
 		answer := call(start(out), C.size_t(len(out)))
-		if answer.status != C.CONFSCRIPT_TOO_SMALL {
+		if answer.status != C.CONFSCRIPT_STATUS_TOO_SMALL {
 			length, err := number(answer)
 			return string(out[:length]), err
 		}

@@ -41,9 +41,9 @@ type Ballot uint8
 
 // The ballots.
 const (
-	VotedNo  Ballot = C.CONFSCRIPT_VOTED_NO
-	VotedYes Ballot = C.CONFSCRIPT_VOTED_YES
-	NotVoted Ballot = C.CONFSCRIPT_NOT_VOTED
+	VotedNo  Ballot = C.CONFSCRIPT_BALLOT_NO
+	VotedYes Ballot = C.CONFSCRIPT_BALLOT_YES
+	NotVoted Ballot = C.CONFSCRIPT_BALLOT_NOT_CAST
 )
 
 // FewVoters is how many voters CommittedOfFew takes, those of both sets together.

@@ -30,8 +30,8 @@ type Stage struct {
 // simple step of several changes is as many stages of one change each, since etcd's raft would take them through a
 // joint configuration. There is none if there is nothing to do. The plan stalls if with the ids that are down nothing
 // commits in a configuration on the way, the first one among them.
-func Stages(options Options, now, target string) (stages []Stage, stalls bool, err error) {
-	text, err := PlanAs(JSON, options, now, target)
+func Stages(options Options, configuration, target string) (stages []Stage, stalls bool, err error) {
+	text, err := PlanAs(JSON, options, configuration, target)
 	if err != nil {
 		return nil, false, err
 	}

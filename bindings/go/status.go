@@ -16,38 +16,38 @@ type Status uint32
 // The statuses of refusals. For ErrNextNotOutgoing, ErrNextAndIncoming, ErrLearnerAndVoter, ErrRepeatedID and the three of ids that are not
 // members, the number of the Refused is the id.
 const (
-	ErrNoMemory             Status = C.CONFSCRIPT_NO_MEMORY
-	ErrBadConfState         Status = C.CONFSCRIPT_BAD_CONF_STATE
-	ErrRepeatedID           Status = C.CONFSCRIPT_REPEATED_ID
-	ErrNotAConfiguration    Status = C.CONFSCRIPT_NOT_A_CONFIGURATION
-	ErrNoVoter              Status = C.CONFSCRIPT_NO_VOTER
-	ErrBadLine              Status = C.CONFSCRIPT_BAD_LINE
-	ErrNotAMember           Status = C.CONFSCRIPT_NOT_A_MEMBER
-	ErrAlreadyJoint         Status = C.CONFSCRIPT_ALREADY_JOINT
-	ErrZeroVoterJoint       Status = C.CONFSCRIPT_ZERO_VOTER_JOINT
-	ErrNotJoint             Status = C.CONFSCRIPT_NOT_JOINT
-	ErrSimpleInJoint        Status = C.CONFSCRIPT_SIMPLE_IN_JOINT
-	ErrRemovedAllVoters     Status = C.CONFSCRIPT_REMOVED_ALL_VOTERS
-	ErrMoreThanOneVoter     Status = C.CONFSCRIPT_MORE_THAN_ONE_VOTER
-	ErrZeroID               Status = C.CONFSCRIPT_ZERO_ID
-	ErrNextNotOutgoing      Status = C.CONFSCRIPT_NEXT_NOT_OUTGOING
-	ErrNextAndIncoming      Status = C.CONFSCRIPT_NEXT_AND_INCOMING
-	ErrLearnerAndVoter      Status = C.CONFSCRIPT_LEARNER_AND_VOTER
-	ErrAddedAgain           Status = C.CONFSCRIPT_ADDED_AGAIN
-	ErrNotJointButAutoLeave Status = C.CONFSCRIPT_NOT_JOINT_BUT_AUTO_LEAVE
-	ErrDifferentLengths     Status = C.CONFSCRIPT_DIFFERENT_LENGTHS
-	ErrBadVote              Status = C.CONFSCRIPT_BAD_VOTE
-	ErrNoQuorum             Status = C.CONFSCRIPT_NO_QUORUM
-	ErrBadStrategy          Status = C.CONFSCRIPT_BAD_STRATEGY
-	ErrJointTarget          Status = C.CONFSCRIPT_JOINT_TARGET
-	ErrBadStep              Status = C.CONFSCRIPT_BAD_STEP
-	ErrBadChange            Status = C.CONFSCRIPT_BAD_CHANGE
-	ErrBadOutput            Status = C.CONFSCRIPT_BAD_OUTPUT
-	ErrUnknownForm          Status = C.CONFSCRIPT_UNKNOWN_FORM
-	ErrBadPrinted           Status = C.CONFSCRIPT_BAD_PRINTED
-	ErrBadJSON              Status = C.CONFSCRIPT_BAD_JSON
-	ErrBadChangeList        Status = C.CONFSCRIPT_BAD_CHANGE_LIST
-	ErrDownNotAMember       Status = C.CONFSCRIPT_DOWN_NOT_A_MEMBER
+	ErrNoMemory             Status = C.CONFSCRIPT_STATUS_NO_MEMORY
+	ErrBadConfState         Status = C.CONFSCRIPT_STATUS_BAD_CONF_STATE
+	ErrRepeatedID           Status = C.CONFSCRIPT_STATUS_REPEATED_ID
+	ErrNotAConfiguration    Status = C.CONFSCRIPT_STATUS_NOT_A_CONFIGURATION
+	ErrNoVoter              Status = C.CONFSCRIPT_STATUS_NO_VOTER
+	ErrBadLine              Status = C.CONFSCRIPT_STATUS_BAD_LINE
+	ErrNotAMember           Status = C.CONFSCRIPT_STATUS_NOT_A_MEMBER
+	ErrAlreadyJoint         Status = C.CONFSCRIPT_STATUS_ALREADY_JOINT
+	ErrZeroVoterJoint       Status = C.CONFSCRIPT_STATUS_ZERO_VOTER_JOINT
+	ErrNotJoint             Status = C.CONFSCRIPT_STATUS_NOT_JOINT
+	ErrSimpleInJoint        Status = C.CONFSCRIPT_STATUS_SIMPLE_IN_JOINT
+	ErrRemovedAllVoters     Status = C.CONFSCRIPT_STATUS_REMOVED_ALL_VOTERS
+	ErrMoreThanOneVoter     Status = C.CONFSCRIPT_STATUS_MORE_THAN_ONE_VOTER
+	ErrZeroID               Status = C.CONFSCRIPT_STATUS_ZERO_ID
+	ErrNextNotOutgoing      Status = C.CONFSCRIPT_STATUS_NEXT_NOT_OUTGOING
+	ErrNextAndIncoming      Status = C.CONFSCRIPT_STATUS_NEXT_AND_INCOMING
+	ErrLearnerAndVoter      Status = C.CONFSCRIPT_STATUS_LEARNER_AND_VOTER
+	ErrAddedAgain           Status = C.CONFSCRIPT_STATUS_ADDED_AGAIN
+	ErrNotJointButAutoLeave Status = C.CONFSCRIPT_STATUS_NOT_JOINT_BUT_AUTO_LEAVE
+	ErrDifferentLengths     Status = C.CONFSCRIPT_STATUS_DIFFERENT_LENGTHS
+	ErrBadVote              Status = C.CONFSCRIPT_STATUS_BAD_VOTE
+	ErrNoQuorum             Status = C.CONFSCRIPT_STATUS_NO_QUORUM
+	ErrBadStrategy          Status = C.CONFSCRIPT_STATUS_BAD_STRATEGY
+	ErrJointTarget          Status = C.CONFSCRIPT_STATUS_JOINT_TARGET
+	ErrBadStep              Status = C.CONFSCRIPT_STATUS_BAD_STEP
+	ErrBadChange            Status = C.CONFSCRIPT_STATUS_BAD_CHANGE
+	ErrBadOutput            Status = C.CONFSCRIPT_STATUS_BAD_OUTPUT
+	ErrUnknownForm          Status = C.CONFSCRIPT_STATUS_UNKNOWN_FORM
+	ErrBadPrinted           Status = C.CONFSCRIPT_STATUS_BAD_PRINTED
+	ErrBadJSON              Status = C.CONFSCRIPT_STATUS_BAD_JSON
+	ErrBadChangeList        Status = C.CONFSCRIPT_STATUS_BAD_CHANGE_LIST
+	ErrDownNotAMember       Status = C.CONFSCRIPT_STATUS_DOWN_NOT_A_MEMBER
 )
 
 // Error returns what the status means, in words.

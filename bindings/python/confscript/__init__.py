@@ -343,7 +343,7 @@ def _text_of(status: int) -> str:
 
 
 def plan(
-    now: Text, target: Text, strategy: Strategy = Strategy.SHORTEST, *, output: Output = Output.STEPS, down: Iterable[int] = ()
+    configuration: Text, target: Text, strategy: Strategy = Strategy.SHORTEST, *, output: Output = Output.STEPS, down: Iterable[int] = ()
 ) -> str:
     """Returns the plan by a strategy from a configuration to a target, as the program prints it with this output.
 
@@ -351,7 +351,7 @@ def plan(
     `# stalls with 4 5 down` or `# no quorum with 4 5 down: no step can be made`. Each line of JSON is an object, what to
     propose to etcd's raft among it.
     """
-    return _written(_library.confscript_plan, *_bytes(now), *_bytes(target), _uint(strategy, 32), _uint(output, 32), *_numbers(down))
+    return _written(_library.confscript_plan, *_bytes(configuration), *_bytes(target), _uint(strategy, 32), _uint(output, 32), *_numbers(down))
 
 
 def stages(configuration: Configuration, target: Configuration, strategy: Strategy = Strategy.SHORTEST, *, down: Iterable[int] = ()) -> Plan:
@@ -393,14 +393,14 @@ def apply_conf_change(configuration: Configuration, change: ConfChangeV2) -> Con
     return step(configuration, kind, [(ChangeKind(single.type), single.node_id) for single in change.changes])
 
 
-def apply(state: Text, steps: Text) -> str:
+def apply(configuration: Text, steps: Text) -> str:
     """Returns the ConfState line of the configuration after the steps of a plan."""
-    return _written(_library.confscript_apply, *_bytes(state), *_bytes(steps))
+    return _written(_library.confscript_apply, *_bytes(configuration), *_bytes(steps))
 
 
-def check(state: Text) -> None:
+def check(configuration: Text) -> None:
     """Raises Refused if something is wrong with the configuration of a ConfState line."""
-    _number(_library.confscript_check(*_bytes(state)))
+    _number(_library.confscript_check(*_bytes(configuration)))
 
 
 def committed(incoming: Iterable[int], outgoing: Iterable[int], acknowledged: Mapping[int, int]) -> int:

@@ -50,11 +50,11 @@ extern "C" {
     fn confscript_version() -> u32;
     fn confscript_status_text(status: u32, out: *mut u8, out_len: usize) -> Answer;
     fn confscript_plan(
-        now: *const u8, now_len: usize, target: *const u8, target_len: usize, strategy: u32, output: u32, down: *const u64, down_len: usize, out: *mut u8,
+        configuration: *const u8, configuration_len: usize, target: *const u8, target_len: usize, strategy: u32, output: u32, down: *const u64, down_len: usize, out: *mut u8,
         out_len: usize,
     ) -> Answer;
-    fn confscript_apply(state: *const u8, state_len: usize, plan: *const u8, plan_len: usize, out: *mut u8, out_len: usize) -> Answer;
-    fn confscript_check(state: *const u8, state_len: usize) -> Answer;
+    fn confscript_apply(configuration: *const u8, configuration_len: usize, plan: *const u8, plan_len: usize, out: *mut u8, out_len: usize) -> Answer;
+    fn confscript_check(configuration: *const u8, configuration_len: usize) -> Answer;
     fn confscript_committed(incoming: *mut u64, incoming_len: usize, outgoing: *mut u64, outgoing_len: usize) -> u64;
     fn confscript_vote(incoming: *const u8, incoming_len: usize, outgoing: *const u8, outgoing_len: usize) -> Answer;
     fn confscript_restore(configuration: *const u64, configuration_len: usize, out: *mut u64, out_len: usize) -> Answer;
@@ -246,32 +246,32 @@ fn configured(from: &Configuration, changes: usize, call: impl Fn(&[u64], &mut [
 }
 
 /// The steps of the shortest plan from a configuration to a target.
-pub fn plan(now: &str, target: &str) -> Result<String, Error> {
-    plan_by(Options::default(), now, target)
+pub fn plan(configuration: &str, target: &str) -> Result<String, Error> {
+    plan_by(Options::default(), configuration, target)
 }
 
 /// The plan by these options from a configuration to a target, as the program prints it.
-pub fn plan_by(options: Options<'_>, now: &str, target: &str) -> Result<String, Error> {
+pub fn plan_by(options: Options<'_>, configuration: &str, target: &str) -> Result<String, Error> {
     let Options { strategy, output, down } = options;
     // SAFETY: each pointer is a slice's, and so not null, and the count its length.
     written(|out| unsafe {
         confscript_plan(
-            now.as_ptr(), now.len(), target.as_ptr(), target.len(), strategy as u32, output as u32, down.as_ptr(), down.len(), out.as_mut_ptr(), out.len(),
+            configuration.as_ptr(), configuration.len(), target.as_ptr(), target.len(), strategy as u32, output as u32, down.as_ptr(), down.len(), out.as_mut_ptr(), out.len(),
         )
     })
 }
 
 /// The ConfState line of the configuration after the steps of a plan. A single step is a plan of one line.
-pub fn apply(state: &str, steps: &str) -> Result<String, Error> {
+pub fn apply(configuration: &str, steps: &str) -> Result<String, Error> {
     // SAFETY: as in `plan_by`.
-    written(|out| unsafe { confscript_apply(state.as_ptr(), state.len(), steps.as_ptr(), steps.len(), out.as_mut_ptr(), out.len()) })
+    written(|out| unsafe { confscript_apply(configuration.as_ptr(), configuration.len(), steps.as_ptr(), steps.len(), out.as_mut_ptr(), out.len()) })
 }
 
 /// What is wrong with the configuration of a ConfState line, if anything is.
-pub fn check(state: &str) -> Result<(), Error> {
+pub fn check(configuration: &str) -> Result<(), Error> {
     check_library();
     // SAFETY: as in `plan_by`.
-    number(unsafe { confscript_check(state.as_ptr(), state.len()) }).map(|_| ())
+    number(unsafe { confscript_check(configuration.as_ptr(), configuration.len()) }).map(|_| ())
 }
 
 /// The committed index of a voter set, or of a joint pair, from the index that each voter has acknowledged, 0 if it is
