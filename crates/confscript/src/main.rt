@@ -23,7 +23,7 @@ ghost use Rattle.conf_tool.specs.ExitStatus.{exit_status_of, ExitsWith, PlansWit
 ghost use Rattle.conf_tool.specs.Outputs.{output_of, planned_texts};
 ghost use Rattle.conf_tool.specs.Ranges.{IsInRange};
 ghost use Rattle.confscript.specs.Asked.{output_over};
-ghost use Rattle.confscript.specs.Ending.{CanEnd, EndsAs, EndsFor, EndsForArguments, EndsWithError, WritesOut};
+ghost use Rattle.confscript.specs.Ending.{CanEnd, EndsAs, EndsFor, EndsForArguments, EndsForFault, EndsWithError, WritesOut};
 
 mod input_files;
 
@@ -110,18 +110,27 @@ fn run_arguments<F: InputFiles, R: Source, W: Sink>(
 {
     match command_line(rt.alloc(), arguments) {
         Ok(invocation) => run_invocation(rt, invocation, files, input, output),
-        Err(ArgumentFault::Clap(error)) => explain(rt, &error),
-        Err(ArgumentFault::BadIds) => {
+        Err(fault) => refuse(rt, fault),
+    }
+}
+
+// Reports why the arguments are refused.
+fn refuse(rt: &HostRuntime, fault: ArgumentFault) -> ExitCode
+    ensures { EndsForFault fault result }
+{
+    match fault {
+        ArgumentFault::Clap(error) => explain(rt, &error),
+        ArgumentFault::BadIds => {
             let _ = eprintln!(rt;
                 "confscript: --down expects ids from 1 with commas between them, as in 4,6"
             );
             ExitCode::from(BAD_INPUT)
         }
-        Err(ArgumentFault::BadPair) => {
+        ArgumentFault::BadPair => {
             let _ = eprintln!(rt; "confscript: --from and --to come together, without FILE");
             ExitCode::from(BAD_INPUT)
         }
-        Err(ArgumentFault::NoMemory) => end(rt, Err(ToolFault::NoMemory)),
+        ArgumentFault::NoMemory => end(rt, Err(ToolFault::NoMemory)),
     }
 }
 

@@ -1,6 +1,10 @@
-use Rattle.std.proofs.Common.{inl}
+use Rattle.std.proofs.Common.{inl, inr}
+use Rattle.conf_tool.specs.AnsweredLaws.{keeps-still}
 use Rattle.confscript.proofs.run_arguments.Goals as goal
 
 pub returns-in-Ok-clause-ends : goal.returns-in-Ok-clause-ends
 returns-in-Ok-clause-ends g c =
     inl (record { invocation = c.in-Ok.invocation; taken = c.in-Ok.ensures.refused; asked = c.in-Ok.ensures.asked; ends = c.run_invocation.ensures.ends })
+
+pub returns-in-Err-clause-ends : goal.returns-in-Err-clause-ends
+returns-in-Err-clause-ends g c = inr (record { fault = c.in-Err.fault; reason = c.in-Err.ensures.refused; ends = c.refuse.ensures; unwritten = keeps-still _ })
