@@ -12,8 +12,9 @@ use Rattle.dd_file.specs.declared.stage.Stage.TheVariants.{Ready}
 use Rattle.conf_session.specs.SessionState.{SessionState}
 use Rattle.conf_tool.specs.Reports.{session_after_all, answered_entries, answered_text, differs, report, counts_line}
 use Rattle.conf_tool.specs.Outputs.{Output, clean_unless, check_status, undone_unless, worse_of, pair_then, session_after_pair, ends_within, planned_pairs}
-use Rattle.conf_change.specs.Configuration.{Configuration, is_valid}
-use Rattle.conf_tool.specs.Pairs.{NumberedLine, numbered, configuration_lines, target_at, with_target}
+use Rattle.conf_change.specs.Configuration.{is_valid}
+use Rattle.conf_tool.specs.Pairs.{NumberedLine, numbered, configuration_lines, pair_to, with_target}
+use Rattle.conf_tool.specs.declared.pair.Current.{Current}
 use Rattle.conf_tool.specs.declared.plan_options.PlanOptions.{PlanOptions}
 use Rattle.conf_tool.specs.declared.status.Status.{Status}
 use Rattle.conf_tool.specs.declared.plan_input_fault.PlanInputFault.{PlanInputFault}
@@ -80,15 +81,15 @@ pub record HasRun (session : SessionState) (rewriter : RewriterState) (count : �
   pub nothing : (buffered : Option (List ℕ)) → HasWritten rewriter.newlines buffered buffered []
   pub is : (rest : Script Item) → total (prepended parts rest) ≡ undo_left session count rest
 
--- what is left of the output of `plan` after the first line of a pair, by the configuration of that line
-abbrev pub pairs_within : PlanOptions → SessionState → ℕ → Result Configuration PlanInputFault → List NumberedLine → Option FileFault → Output
+-- what is left of the output of `plan` after the first line of a pair, by what was read there
+abbrev pub pairs_within : PlanOptions → SessionState → ℕ → Result Current PlanInputFault → List NumberedLine → Option FileFault → Output
 pairs_within options session number first [] fault = ends_within first fault
 pairs_within options session number first (second ∷ lines) fault =
-    let pair = with_target (target_at second) first in
+    let pair = with_target (pair_to options second) first in
     pair_then options session number pair (planned_pairs options (session_after_pair options session pair) (number + 1) lines fault)
 
--- what is left of the output of `plan`, by the first configuration of the current pair, if it was read
-abbrev pub pairs_left : PlanOptions → SessionState → ℕ → Option Configuration → List NumberedLine → Option FileFault → Output
+-- what is left of the output of `plan`, by the current configuration of the pair, if it was read
+abbrev pub pairs_left : PlanOptions → SessionState → ℕ → Option Current → List NumberedLine → Option FileFault → Output
 pairs_left options session number None lines fault = planned_pairs options session number lines fault
 pairs_left options session number (Some now) lines fault = pairs_within options session number (Ok now) lines fault
 
@@ -96,15 +97,15 @@ pairs_left options session number (Some now) lines fault = pairs_within options 
 abbrev pub with_status : Status → Output → Output
 with_status status output = record { text = output.text; outcome = worse_of status output.outcome }
 
--- What is left of the output of `plan` after this many lines, by the session, the number of the current pair, its first
--- configuration if that was read, and the status so far.
-abbrev pub plan_left : PlanOptions → SessionState → ℕ → ℕ → Option Configuration → Status → Script (List ℕ) → Output
+-- What is left of the output of `plan` after this many lines, by the session, the number of the pair that is read, its
+-- current configuration if that was read, and the status so far.
+abbrev pub plan_left : PlanOptions → SessionState → ℕ → ℕ → Option Current → Status → Script (List ℕ) → Output
 plan_left options session count number now status rest =
     with_status status (pairs_left options session number now (configuration_lines (numbered (count + 1) rest.items)) rest.fault)
 
 -- `plan` has written its replies to these lines, which have no more pairs than lines
-pub record HasPlanned (options : PlanOptions) (session : SessionState) (count number : ℕ) (now : Option Configuration) (status : Status) (total : Script (List ℕ) → Output) (parts : List (List ℕ)) (before after : Option (List ℕ)) : Type 0 where
+pub record HasPlanned (options : PlanOptions) (session : SessionState) (count number : ℕ) (now : Option Current) (status : Status) (total : Script (List ℕ) → Output) (parts : List (List ℕ)) (before after : Option (List ℕ)) : Type 0 where
   pub prefix : WrotePrefix total (plan_left options session count number now status) parts before after
   pub counted : count ≡ length parts
   pub few : number ≤ length parts + 1
-  pub valid : IfSome now (λ c. is_valid c ≡ true)
+  pub valid : IfSome now (λ current. is_valid current.config ≡ true)

@@ -13,7 +13,7 @@ use Rattle.dd_file.proofs.Offered.{part-append}
 use Rattle.conf_session.specs.SessionState.{SessionState}
 use Rattle.conf_tool.specs.Outputs.{Output}
 use Rattle.conf_tool.specs.Answered.{script, WrotePrefix, HasChecked, HasRewritten, HasRun, HasPlanned, rewrite_left, plan_left}
-use Rattle.conf_change.specs.Configuration.{Configuration}
+use Rattle.conf_tool.specs.declared.pair.Current.{Current}
 use Rattle.conf_tool.specs.declared.plan_options.PlanOptions.{PlanOptions}
 use Rattle.conf_tool.specs.declared.status.Status.{Status}
 
@@ -95,7 +95,7 @@ kept-ran session rewriter count total parts before mid new ran k = record {
 }
 
 -- what `plan` has written stays written after a flush
-pub kept-planned : (options : PlanOptions) (session : SessionState) (count number : ℕ) (now : Option Configuration) (status : Status) (total : Script (List ℕ) → Output) (parts : List (List ℕ)) (before mid new : Option (List ℕ)) →
+pub kept-planned : (options : PlanOptions) (session : SessionState) (count number : ℕ) (now : Option Current) (status : Status) (total : Script (List ℕ) → Output) (parts : List (List ℕ)) (before mid new : Option (List ℕ)) →
     HasPlanned options session count number now status total parts before mid → Keeps mid new → HasPlanned options session count number now status total parts before new
 kept-planned options session count number now status total parts before mid new planned k = record {
   prefix = kept-prefix total (plan_left options session count number now status) parts before mid new planned.prefix k;

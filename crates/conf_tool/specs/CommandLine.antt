@@ -1,5 +1,5 @@
 -- What the arguments of the command line ask for.
-use Rattle.std.specs.Prelude.{◌≡◌, ℕ, ◌≤◌, true, ⊤, Option, Some, None, option_map, List, [], codes, bytes_eq, if◌then◌else◌}
+use Rattle.std.specs.Prelude.{◌≡◌, ℕ, ◌≤◌, true, ⊤, Option, Some, None, is_some, option_map, option_and_then, List, [], codes, bytes_eq, if◌then◌else◌}
 use Rattle.std.specs.Str.Parse.{IsNumeral, digits_value, without_leading_plus}
 use Rattle.clap.specs.Words.{App, HasKind, Row, Text, fault_of, first_of, kind_of, subcommand_of, takes}
 use Rattle.clap.specs.declared.error.kind.ErrorKind.TheVariants.{OutOfMemory}
@@ -8,10 +8,12 @@ use Rattle.conf_change.specs.declared.floor.Floor.{Floor}
 use Rattle.conf_change.specs.declared.floor.Floor.TheVariants.{Zero, One}
 use Rattle.conf_plan.specs.declared.strategy.Strategy.{Strategy}
 use Rattle.conf_plan.specs.declared.strategy.Strategy.TheVariants.{Shortest, LearnersFirst, OneAtATime}
-use Rattle.conf_tool.specs.IdList.{ids_listed}
+use Rattle.conf_session.specs.Parameter.{id_in}
+use Rattle.plan_input.specs.ShortToken.{short_token}
+use Rattle.conf_tool.specs.IdList.{ids_listed, hexadecimal_listed}
 use Rattle.conf_tool.specs.Ranges.{IsInRange}
 use Rattle.conf_tool.specs.declared.argument_fault.ArgumentFault.{ArgumentFault}
-use Rattle.conf_tool.specs.declared.argument_fault.ArgumentFault.TheVariants.{Clap, BadIds, BadPair, NoMemory}
+use Rattle.conf_tool.specs.declared.argument_fault.ArgumentFault.TheVariants.{Clap, BadIds, HexadecimalId, FromAlone, ToAlone, FileBesidePair, IdBesidePair, EmptyFrom, NoMemory}
 use Rattle.conf_tool.specs.declared.invocation.Invocation.{Invocation}
 use Rattle.conf_tool.specs.declared.mode.Mode.{Mode}
 use Rattle.conf_tool.specs.declared.pair_texts.PairTexts.{PairTexts}
@@ -43,10 +45,12 @@ abbrev pub floor_named : Option Text → Floor
 floor_named None = One
 floor_named (Some name) = if bytes_eq name (codes "0") then Zero else One
 
--- the strategy of a name: the shortest plan if none is given
-abbrev pub strategy_named : Option Text → Strategy
-strategy_named None = Shortest
-strategy_named (Some name) = if bytes_eq name (codes "learners-first") then LearnersFirst else (if bytes_eq name (codes "one-at-a-time") then OneAtATime else Shortest)
+-- the strategy of a name, if one is given
+abbrev pub strategy_named : Option Text → Option Strategy
+strategy_named None = None
+strategy_named (Some name) =
+    Some (if bytes_eq name (codes "learners-first") then LearnersFirst
+    else (if bytes_eq name (codes "one-at-a-time") then OneAtATime else Shortest))
 
 -- the form of output that a name denotes: steps if none is given
 abbrev pub output_named : Option Text → PlanOutput
@@ -59,18 +63,11 @@ abbrev pub ids_down : Option Text → Option (Option Ids)
 ids_down None = Some None
 ids_down (Some text) = option_map (λ ids. Some (ids_of ids)) (ids_listed text)
 
--- the error of reading the option `--down`: its text is not a list of ids, or memory ran out
-abbrev pub IsIdsFault : Option Text → ArgumentFault → Type 0
-IsIdsFault text (Clap error) = ⊥
-IsIdsFault text BadIds = ids_down text ≡ None
-IsIdsFault text BadPair = ⊥
-IsIdsFault text NoMemory = ⊤
-
 -- the pair of --from and --to, beside FILE: Some None if neither is given, None if one is without the other or beside
--- FILE
+-- FILE, or if --from is empty
 abbrev pub pair_of : Option Text → Option Text → Option Text → Option (Option (Text × Text))
 pair_of file None None = Some None
-pair_of None (Some from) (Some to) = Some (Some (from, to))
+pair_of None (Some from) (Some to) = if bytes_eq from [] then None else Some (Some (from, to))
 pair_of (Some file) (Some from) (Some to) = None
 pair_of file (Some from) None = None
 pair_of file None (Some to) = None
@@ -83,27 +80,40 @@ texts_of pair = (pair.from.now, pair.to.now)
 abbrev pub pair_given : Option (Text × List Row) → Option (Option (Text × Text))
 pair_given matches = pair_of (option_text (codes "FILE") matches) (option_text (codes "from") matches) (option_text (codes "to") matches)
 
--- the error of reading the pair
-abbrev pub IsPairFault : Option Text → Option Text → Option Text → ArgumentFault → Type 0
-IsPairFault file from to (Clap error) = ⊥
-IsPairFault file from to BadIds = ⊥
-IsPairFault file from to BadPair = pair_of file from to ≡ None
-IsPairFault file from to NoMemory = ⊥
+-- --from and --to are both given
+abbrev pub AreGiven : Option Text → Option Text → Type 0
+AreGiven from to = (is_some from ≡ true) × (is_some to ≡ true)
+
+-- FILE is an id, and there are ids that are down: it was meant to be one of them
+abbrev pub IsOneMoreId : Text → Option Text → Type 0
+IsOneMoreId file down = (is_some down ≡ true) × (is_some (id_in file) ≡ true)
+
+-- this is wrong with the values of FILE, --down, --from and --to
+abbrev pub IsValueFaultOf : Option Text → Option Text → Option Text → Option Text → ArgumentFault → Type 0
+IsValueFaultOf file down from to (Clap error) = ⊥
+IsValueFaultOf file down from to BadIds = (ids_down down ≡ None) × (option_and_then hexadecimal_listed down ≡ None)
+IsValueFaultOf file down from to (HexadecimalId token) =
+    (ids_down down ≡ None) × (option_map short_token (option_and_then hexadecimal_listed down) ≡ Some token)
+IsValueFaultOf file down from to FromAlone = (is_some from ≡ true) × (to ≡ None)
+IsValueFaultOf file down from to ToAlone = (from ≡ None) × (is_some to ≡ true)
+IsValueFaultOf file down from to (FileBesidePair name) =
+    (file ≡ Some name.now) × AreGiven from to × (IsOneMoreId name.now down → ⊥)
+IsValueFaultOf file down from to (IdBesidePair name ids) =
+    (file ≡ Some name.now) × (down ≡ Some ids.now) × AreGiven from to × IsOneMoreId name.now down
+IsValueFaultOf file down from to EmptyFrom = (file ≡ None) × (from ≡ Some []) × (is_some to ≡ true)
+IsValueFaultOf file down from to NoMemory = ⊤
 
 -- the error of reading the values of a parsed subcommand
 abbrev pub IsValueFault : Option (Text × List Row) → ArgumentFault → Type 0
-IsValueFault matches (Clap error) = ⊥
-IsValueFault matches BadIds = ids_down (option_text (codes "down") matches) ≡ None
-IsValueFault matches BadPair = pair_given matches ≡ None
-IsValueFault matches NoMemory = ⊤
+IsValueFault matches fault =
+    IsValueFaultOf (option_text (codes "FILE") matches) (option_text (codes "down") matches)
+    (option_text (codes "from") matches) (option_text (codes "to") matches) fault
 
--- The arguments are refused for this reason: that of `clap`, that the text of `--down` is not a list of ids, that
--- `--from` and `--to` are not a pair, or that memory ran out.
+-- The arguments are refused for this reason: that of `clap`, what is wrong with a value, or that memory ran out.
 abbrev pub IsRefusal : App → List Text → ArgumentFault → Type 0
 IsRefusal app arguments (Clap error) = HasKind (fault_of app arguments) error × (takes app arguments ≡ true → kind_of error ≡ OutOfMemory)
-IsRefusal app arguments BadIds = (fault_of app arguments ≡ []) × (ids_down (option_text (codes "down") (subcommand_of app arguments)) ≡ None)
-IsRefusal app arguments BadPair = (fault_of app arguments ≡ []) × (pair_given (subcommand_of app arguments) ≡ None)
 IsRefusal app arguments NoMemory = ⊤
+IsRefusal app arguments fault = (fault_of app arguments ≡ []) × IsValueFault (subcommand_of app arguments) fault
 
 -- The number of an option: the default if it is left out, otherwise the one that its text denotes. If that is not from
 -- the least to the most, the arguments are refused.

@@ -1,5 +1,5 @@
 -- Laws of the modes' outputs: what a user can rely on, when one mode reads what another printed.
-use Rattle.std.specs.Prelude.{◌≡◌, ◌≤◌, ◌+◌, ◌-◌, ℕ, ⊤, true, false, List, ◌++◌, [], ◌∷◌, length, slice_get, codes, Result, Ok, Err, Some, None}
+use Rattle.std.specs.Prelude.{◌≡◌, ◌≤◌, ◌+◌, ◌-◌, ◌||◌, ℕ, ⊤, true, false, List, ◌++◌, [], ◌∷◌, length, slice_get, codes, Result, Ok, Err, Some, None}
 use Rattle.ascii_text.specs.Lines.{newline, lines_of}
 use Rattle.dd_file.specs.Laws.{ends_in_long_blank, directives_of, IsComplete}
 use Rattle.dd_file.specs.DirectiveText.{DirectiveText}
@@ -9,7 +9,8 @@ use Rattle.dd_file.specs.declared.item.Item.{Item}
 use Rattle.conf_change.specs.U64Lists.{HasU64Lists}
 use Rattle.conf_change.specs.declared.floor.Floor.{Floor}
 use Rattle.conf_change.specs.declared.floor.Floor.TheVariants.{One}
-use Rattle.conf_change.specs.Configuration.{Configuration, has_voter}
+use Rattle.quorum_sets.specs.Ids.{has}
+use Rattle.conf_change.specs.Configuration.{Configuration, has_voter, is_member}
 use Rattle.conf_change.specs.declared.step.Step.{Step}
 use Rattle.conf_plan.specs.Best.{IsBest}
 use Rattle.conf_plan.specs.OneChangeEach.{one_change_each, LeadsChangeByChange}
@@ -21,7 +22,8 @@ use Rattle.conf_session.specs.Undo.{undo_plan_of}
 use Rattle.plan_output.specs.CarriedOut.{LinesLead}
 use Rattle.plan_output.specs.Json.{path_json}
 use Rattle.plan_output.specs.Stages.{AreOnTheWay, stages}
-use Rattle.conf_tool.specs.Pairs.{NumberedLine, numbered, configuration_lines, current_at, target_at, pair_at, pair_of_texts}
+use Rattle.conf_tool.specs.Pairs.{NumberedLine, numbered, configuration_lines, strategy_from, pair_at, pair_of_texts}
+use Rattle.conf_tool.specs.declared.pair.Pair.{Pair}
 use Rattle.conf_tool.specs.declared.plan_input_fault.PlanInputFault.{PlanInputFault}
 use Rattle.conf_tool.specs.PlanScript.{default_session}
 use Rattle.plan_output.specs.Steps.{ids_down}
@@ -68,29 +70,43 @@ UndoScriptLeadsBack = (script : List ℕ) (history : ℕ) (floor : Floor) (count
     LeadsBackBy session count steps (script_of printed)
 
 -- pairs with one more before them, if it was read; else no pairs
-abbrev pub pair_before : Result (Configuration × Configuration) PlanInputFault → List (Configuration × Configuration) → List (Configuration × Configuration)
+abbrev pub pair_before : Result Pair PlanInputFault → List Pair → List Pair
 pair_before (Err bad) pairs = []
 pair_before (Ok pair) pairs = pair ∷ pairs
 
--- the pairs of configurations that lines denote, up to the first line that is not a configuration
-abbrev pub named_pairs : List NumberedLine → List (Configuration × Configuration)
-named_pairs [] = []
-named_pairs (line ∷ []) = []
-named_pairs (first ∷ second ∷ lines) = pair_before (pair_at first second) (named_pairs lines)
+-- the pairs that lines denote, up to the first line with an error
+abbrev pub named_pairs : PlanOptions → List NumberedLine → List Pair
+named_pairs options [] = []
+named_pairs options (line ∷ []) = []
+named_pairs options (first ∷ second ∷ lines) = pair_before (pair_at options first second) (named_pairs options lines)
 
--- the pairs of configurations that an input denotes, up to the first line that is not one
-abbrev pub pairs_in : List ℕ → List (Configuration × Configuration)
-pairs_in input = named_pairs (configuration_lines (numbered 1 (listing_of input).items))
+-- the pairs that an input denotes, up to the first line with an error
+abbrev pub pairs_in : PlanOptions → List ℕ → List Pair
+pairs_in options input = named_pairs options (configuration_lines (numbered 1 (listing_of input).items))
 
 -- the pair that the values of --from and --to denote, if they denote one
-abbrev pub pairs_in_texts : List ℕ → List ℕ → List (Configuration × Configuration)
-pairs_in_texts from to = pair_before (pair_of_texts from to) []
+abbrev pub pairs_in_texts : PlanOptions → List ℕ → List ℕ → List Pair
+pairs_in_texts options from to = pair_before (pair_of_texts options from to) []
+
+-- What a pair that is read is: its strategy is the one for the text of its current configuration, and each id that is
+-- down is a member of one of its configurations.
+pub record IsAsked (options : PlanOptions) (from : List ℕ) (pair : Pair) : Type 0 where
+  pub strategy : pair.strategy ≡ strategy_from options.strategy from
+  pub members : (id : ℕ) → has (ids_down options.down) id ≡ true →
+      (is_member pair.current id || is_member pair.target id) ≡ true
+
+-- This is so of the pair of two lines, and of that of the values of --from and --to.
+pub record PairsAreAsked : Type 0 where
+  pub lines : (options : PlanOptions) (first second : NumberedLine) (pair : Pair) →
+      pair_at options first second ≡ Ok pair → IsAsked options first.text pair
+  pub texts : (options : PlanOptions) (from to : List ℕ) (pair : Pair) →
+      pair_of_texts options from to ≡ Ok pair → IsAsked options from pair
 
 -- the replies of `plan` to pairs in turn, the first of which has this number and is answered in this session
-abbrev pub texts_from : PlanOptions → SessionState → ℕ → List (Configuration × Configuration) → List (List ℕ)
+abbrev pub texts_from : PlanOptions → SessionState → ℕ → List Pair → List (List ℕ)
 texts_from options session number [] = []
 texts_from options session number (pair ∷ pairs) =
-    plan_text_between options session number pair.0 pair.1 ∷ texts_from options (session_between options session pair.0 pair.1) (number + 1) pairs
+    plan_text_between options session number pair ∷ texts_from options (session_between options session pair) (number + 1) pairs
 
 -- texts with a separator between each two
 abbrev pub separated_by : List ℕ → List (List ℕ) → List ℕ
@@ -100,56 +116,63 @@ separated_by part (text ∷ next ∷ texts) = text ++ (part ++ separated_by part
 
 -- Texts for pairs in turn, the first of which has this number and is answered in this session. Holds is true of each
 -- pair and its text.
-abbrev pub EachInTurn : PlanOptions → (SessionState → ℕ → Configuration × Configuration → List ℕ → Type 0) → SessionState → ℕ → List (Configuration × Configuration) → List (List ℕ) → Type 0
+abbrev pub EachInTurn : PlanOptions → (SessionState → ℕ → Pair → List ℕ → Type 0) → SessionState → ℕ → List Pair → List (List ℕ) → Type 0
 EachInTurn options Holds session number [] [] = ⊤
 EachInTurn options Holds session number [] (text ∷ texts) = ⊥
 EachInTurn options Holds session number (pair ∷ pairs) [] = ⊥
 EachInTurn options Holds session number (pair ∷ pairs) (text ∷ texts) =
-    Holds session number pair text × EachInTurn options Holds (session_between options session pair.0 pair.1) (number + 1) pairs texts
+    Holds session number pair text × EachInTurn options Holds (session_between options session pair) (number + 1) pairs texts
 
 -- `plan` prints texts for the pairs of the input with a separator between each two, and Holds is true of each.
-abbrev pub PrintsEach : PlanOptions → List ℕ → (SessionState → ℕ → Configuration × Configuration → List ℕ → Type 0) → Type 0
+abbrev pub PrintsEach : PlanOptions → List ℕ → (SessionState → ℕ → Pair → List ℕ → Type 0) → Type 0
 PrintsEach options input Holds =
-    (texts : List (List ℕ)) × ((planned_output options input).text ≡ separated_by (separator options.output) texts) × EachInTurn options Holds default_session 1 (pairs_in input) texts
+    (texts : List (List ℕ)) × ((planned_output options input).text ≡ separated_by (separator options.output) texts) × EachInTurn options Holds default_session 1 (pairs_in options input) texts
 
 -- If the values of --from and --to denote a pair, Holds is true of it and of the text that `plan` prints for them.
-abbrev pub PrintsPair : PlanOptions → List ℕ → List ℕ → (SessionState → ℕ → Configuration × Configuration → List ℕ → Type 0) → Type 0
-PrintsPair options from to Holds = (pair : Configuration × Configuration) → pair_of_texts from to ≡ Ok pair → Holds default_session 1 pair (planned_texts options from to).text
+abbrev pub PrintsPair : PlanOptions → List ℕ → List ℕ → (SessionState → ℕ → Pair → List ℕ → Type 0) → Type 0
+PrintsPair options from to Holds = (pair : Pair) → pair_of_texts options from to ≡ Ok pair → Holds default_session 1 pair (planned_texts options from to).text
 
--- the text is that of the best plan from the first configuration of a pair to the second, if both have a voter
-abbrev pub IsBestPlan : PlanOptions → SessionState → ℕ → Configuration × Configuration → List ℕ → Type 0
+-- if the strategy of a pair is shortest and both configurations have a voter, the text is that of the best plan from
+-- the one to the other
+abbrev pub IsBestPlan : PlanOptions → SessionState → ℕ → Pair → List ℕ → Type 0
 IsBestPlan options session number pair text =
-    has_voter pair.0 ≡ true → has_voter pair.1 ≡ true → (steps : List Step) × (text ≡ path_text options session number pair.0 steps) × IsBest pair.0 steps pair.1
+    pair.strategy ≡ Shortest → has_voter pair.current ≡ true → has_voter pair.target ≡ true → (steps : List Step) × (text ≡ path_text options session number pair.current steps) × IsBest pair.current steps pair.target
 
--- In each form of the output, `plan` prints the best plan of each pair, those of an input and that of --from and --to.
--- For an input of one pair nothing else is printed, and the run ends clean if no ids are down.
+-- In each form of the output, `plan` prints the best plan of each pair whose strategy is shortest, those of an input
+-- and that of --from and --to. For an input of one pair nothing else is printed, and the run ends clean if no ids are
+-- down.
 pub record PrintedPlanIsBest : Type 0 where
-  pub each : (options : PlanOptions) (input : List ℕ) → options.strategy ≡ Shortest → PrintsEach options input (IsBestPlan options)
-  pub texts : (options : PlanOptions) (from to : List ℕ) → options.strategy ≡ Shortest → PrintsPair options from to (IsBestPlan options)
-  pub alone : (options : PlanOptions) (input : List ℕ) (first second : NumberedLine) (now target : Configuration) → options.strategy ≡ Shortest → options.down ≡ None →
-      (listing_of input).fault ≡ None → configuration_lines (numbered 1 (listing_of input).items) ≡ first ∷ second ∷ [] → current_at first ≡ Ok now → target_at second now ≡ Ok target →
-      has_voter now ≡ true → has_voter target ≡ true → (steps : List Step) × (planned_output options input ≡ record { text = path_text options default_session 1 now steps; outcome = Ok Clean }) × IsBest now steps target
+  pub each : (options : PlanOptions) (input : List ℕ) → PrintsEach options input (IsBestPlan options)
+  pub texts : (options : PlanOptions) (from to : List ℕ) → PrintsPair options from to (IsBestPlan options)
+  pub alone : (options : PlanOptions) (input : List ℕ) (first second : NumberedLine) (pair : Pair) →
+      options.down ≡ None → (listing_of input).fault ≡ None →
+      configuration_lines (numbered 1 (listing_of input).items) ≡ first ∷ second ∷ [] →
+      pair_at options first second ≡ Ok pair →
+      pair.strategy ≡ Shortest → has_voter pair.current ≡ true → has_voter pair.target ≡ true → (steps : List Step) ×
+      (planned_output options input ≡
+      record { text = path_text options default_session 1 pair.current steps; outcome = Ok Clean }) ×
+      IsBest pair.current steps pair.target
 
 -- Steps that keep what the strategy promises. The stages, of which a table shows each, are the configurations on the
 -- way, so no step is refused, and the last one is the target. So are those of the steps of one change each, which JSON
 -- shows: they have voters of configurations on the way, so what the path keeps of quorums and tolerance, they keep. The
 -- lines of JSON lead etcd's raft to the target.
-pub record LeadsAsPromised (options : PlanOptions) (number : ℕ) (now : Configuration) (steps : List Step) (target : Configuration) : Type 0 where
-  pub promised : KeepsPromises options.strategy (ids_down options.down) now steps target
-  pub on_the_way : AreOnTheWay (stages now steps) steps target
-  pub change_by_change : LeadsChangeByChange now steps target
-  pub single_changes : AreOnTheWay (stages now (one_change_each steps)) (one_change_each steps) target
-  pub lines : LinesLead now now (path_json number now steps options.down) target
+pub record LeadsAsPromised (options : PlanOptions) (number : ℕ) (pair : Pair) (steps : List Step) : Type 0 where
+  pub promised : KeepsPromises pair.strategy (ids_down options.down) pair.current steps pair.target
+  pub on_the_way : AreOnTheWay (stages pair.current steps) steps pair.target
+  pub change_by_change : LeadsChangeByChange pair.current steps pair.target
+  pub single_changes : AreOnTheWay (stages pair.current (one_change_each steps)) (one_change_each steps) pair.target
+  pub lines : LinesLead pair.current pair.current (path_json number pair.current steps options.down) pair.target
 
--- The text is that of the path between the configurations of a pair, which leads as promised, if both have a voter and
--- the strategy has a path.
-abbrev pub IsPromisedPath : PlanOptions → SessionState → ℕ → Configuration × Configuration → List ℕ → Type 0
+-- The text is that of the path between the configurations of a pair, which leads as its strategy promises, if both have
+-- a voter and the strategy has a path.
+abbrev pub IsPromisedPath : PlanOptions → SessionState → ℕ → Pair → List ℕ → Type 0
 IsPromisedPath options session number pair text =
-    has_voter pair.0 ≡ true → has_voter pair.1 ≡ true → has_path options.strategy pair.0 pair.1 ≡ true →
-    (steps : List Step) × (path_between options pair.0 pair.1 ≡ Ok steps) × (text ≡ path_text options session number pair.0 steps) × LeadsAsPromised options number pair.0 steps pair.1
+    has_voter pair.current ≡ true → has_voter pair.target ≡ true → has_path pair.strategy pair.current pair.target ≡ true →
+    (steps : List Step) × (path_between options pair ≡ Ok steps) × (text ≡ path_text options session number pair.current steps) × LeadsAsPromised options number pair steps
 
--- By each strategy and in each form of the output, `plan` prints for each pair, those of an input and that of --from and
--- --to, a path that keeps what the strategy promises.
+-- In each form of the output, `plan` prints for each pair, those of an input and that of --from and --to, a path that
+-- keeps what the strategy of the pair promises.
 pub record PrintedPathKeepsPromises : Type 0 where
   pub each : (options : PlanOptions) (input : List ℕ) → PrintsEach options input (IsPromisedPath options)
   pub texts : (options : PlanOptions) (from to : List ℕ) → PrintsPair options from to (IsPromisedPath options)
@@ -164,23 +187,23 @@ pub record RestoresAndTakes (session : SessionState) (first : DirectiveText) (ot
 
 -- Directives that lead a session through pairs: for each pair that has a path, some restore its first configuration and
 -- take the steps of the path to the second one. A pair without a path has no directive.
-pub data LeadsThrough (options : PlanOptions) : SessionState → List DirectiveText → List (Configuration × Configuration) → Type 0 where
+pub data LeadsThrough (options : PlanOptions) : SessionState → List DirectiveText → List Pair → Type 0 where
   NoPair : (session : SessionState) → LeadsThrough options session [] []
-  WithPath : (session : SessionState) (first : DirectiveText) (others more : List DirectiveText) (pair : Configuration × Configuration) (pairs : List (Configuration × Configuration)) (steps : List Step) →
-      path_between options pair.0 pair.1 ≡ Ok steps → RestoresAndTakes session first others pair.0 steps pair.1 →
+  WithPath : (session : SessionState) (first : DirectiveText) (others more : List DirectiveText) (pair : Pair) (pairs : List Pair) (steps : List Step) →
+      path_between options pair ≡ Ok steps → RestoresAndTakes session first others pair.current steps pair.target →
       LeadsThrough options (after_answers session (first ∷ others)) more pairs → LeadsThrough options session (first ∷ others ++ more) (pair ∷ pairs)
-  WithoutPath : (session : SessionState) (directives : List DirectiveText) (pair : Configuration × Configuration) (pairs : List (Configuration × Configuration)) (why : List ℕ) →
-      path_between options pair.0 pair.1 ≡ Err why → LeadsThrough options session directives pairs → LeadsThrough options session directives (pair ∷ pairs)
+  WithoutPath : (session : SessionState) (directives : List DirectiveText) (pair : Pair) (pairs : List Pair) (why : List ℕ) →
+      path_between options pair ≡ Err why → LeadsThrough options session directives pairs → LeadsThrough options session directives (pair ∷ pairs)
 
 -- the ids of the first configuration of a pair are numbers of 64 bits, and so are those of its path
-pub record HasU64Pair (options : PlanOptions) (pair : Configuration × Configuration) : Type 0 where
-  pub now : HasU64Lists pair.0
-  pub steps : (steps : List Step) → path_between options pair.0 pair.1 ≡ Ok steps → All HasU64Ids steps
+pub record HasU64Pair (options : PlanOptions) (pair : Pair) : Type 0 where
+  pub now : HasU64Lists pair.current
+  pub steps : (steps : List Step) → path_between options pair ≡ Ok steps → All HasU64Ids steps
 
 -- The text is a script that checks clean without options, and a session that runs it takes the steps of the path of each
 -- pair, from its first configuration to the second. (`HasU64Pair` holds of each pair that is read and of each path that
 -- is made.)
-pub record IsScriptOf (options : PlanOptions) (pairs : List (Configuration × Configuration)) (text : List ℕ) : Type 0 where
+pub record IsScriptOf (options : PlanOptions) (pairs : List Pair) (text : List ℕ) : Type 0 where
   pub clean : (checked text 100 One).outcome ≡ Ok Clean
   pub leads : All (HasU64Pair options) pairs → LeadsThrough options default_session (directives_of (script_of text).items) pairs
 
@@ -188,6 +211,6 @@ pub record IsScriptOf (options : PlanOptions) (pairs : List (Configuration × Co
 -- prints for the values of --from and --to.
 pub record PlanScriptLeads : Type 0 where
   pub each : (options : PlanOptions) (input : List ℕ) → options.output ≡ ScriptOutput → length (planned_output options input).text ≤ longest_input →
-      IsScriptOf options (pairs_in input) (planned_output options input).text
+      IsScriptOf options (pairs_in options input) (planned_output options input).text
   pub texts : (options : PlanOptions) (from to : List ℕ) → options.output ≡ ScriptOutput → length (planned_texts options from to).text ≤ longest_input →
-      IsScriptOf options (pairs_in_texts from to) (planned_texts options from to).text
+      IsScriptOf options (pairs_in_texts options from to) (planned_texts options from to).text

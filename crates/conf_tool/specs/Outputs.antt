@@ -26,8 +26,10 @@ use Rattle.conf_session.specs.declared.undo_fault.UndoFault.{UndoFault}
 use Rattle.conf_tool.specs.Pairs.{NumberedLine, numbered, configuration_lines, current_at, pair_at, pair_of_texts}
 use Rattle.conf_tool.specs.PlanAnswer.{plan_text_between, plan_status, session_between}
 use Rattle.conf_tool.specs.PlanScript.{default_session}
+use Rattle.conf_tool.specs.declared.pair.Current.{Current}
+use Rattle.conf_tool.specs.declared.pair.Pair.{Pair}
 use Rattle.conf_tool.specs.declared.plan_input_fault.PlanInputFault.{PlanInputFault}
-use Rattle.conf_tool.specs.declared.plan_input_fault.PlanInputFault.TheVariants.{NotTwoLines}
+use Rattle.conf_tool.specs.declared.plan_input_fault.PlanInputFault.TheVariants.{NotTwoLines, NoTarget}
 use Rattle.conf_tool.specs.declared.tool_fault.ToolFault.{ToolFault}
 use Rattle.conf_tool.specs.declared.tool_fault.ToolFault.TheVariants.{Script as ScriptFault, Configurations}
 
@@ -112,9 +114,9 @@ separator Table = newline
 separator Json = []
 
 -- the reply to the pair with this number, counted from 1, in this session, with the separator before it
-abbrev pub pair_text : PlanOptions → SessionState → ℕ → Configuration → Configuration → List ℕ
-pair_text options session number now target =
-    (if nat_lt 1 number then separator options.output else []) ++ plan_text_between options session number now target
+abbrev pub pair_text : PlanOptions → SessionState → ℕ → Pair → List ℕ
+pair_text options session number pair =
+    (if nat_lt 1 number then separator options.output else []) ++ plan_text_between options session number pair
 
 -- the outcome of a run that has this status so far: an error decides, otherwise the worse status
 abbrev pub worse_of : Status → Result Status ToolFault → Result Status ToolFault
@@ -123,17 +125,17 @@ worse_of Clean (Ok later) = Ok later
 worse_of Different (Ok later) = Ok Different
 
 -- the output of `plan` for a pair and the pairs after it; a line with an error ends it
-abbrev pub pair_then : PlanOptions → SessionState → ℕ → Result (Configuration × Configuration) PlanInputFault → Output → Output
+abbrev pub pair_then : PlanOptions → SessionState → ℕ → Result Pair PlanInputFault → Output → Output
 pair_then options session number (Err bad) rest = ends (Err (Configurations bad))
 pair_then options session number (Ok pair) rest = record {
-  text = pair_text options session number pair.0 pair.1 ++ rest.text;
-  outcome = worse_of (plan_status options pair.0 pair.1) rest.outcome;
+  text = pair_text options session number pair ++ rest.text;
+  outcome = worse_of (plan_status options pair) rest.outcome;
 }
 
 -- the session after a pair
-abbrev pub session_after_pair : PlanOptions → SessionState → Result (Configuration × Configuration) PlanInputFault → SessionState
+abbrev pub session_after_pair : PlanOptions → SessionState → Result Pair PlanInputFault → SessionState
 session_after_pair options session (Err bad) = session
-session_after_pair options session (Ok pair) = session_between options session pair.0 pair.1
+session_after_pair options session (Ok pair) = session_between options session pair
 
 -- the output of `plan` at the end of its input, where the pair with this number would begin; no pair at all is an error
 abbrev pub ends_before : ℕ → Option FileFault → Output
@@ -141,17 +143,17 @@ ends_before number (Some fault) = ends (Err (ScriptFault fault))
 ends_before number None = ends (if nat_lt 1 number then Ok Clean else Err (Configurations NotTwoLines))
 
 -- the output of `plan` at the end of its input, after the first line of a pair: an error
-abbrev pub ends_within : Result Configuration PlanInputFault → Option FileFault → Output
+abbrev pub ends_within : Result Current PlanInputFault → Option FileFault → Output
 ends_within (Err bad) fault = ends (Err (Configurations bad))
-ends_within (Ok now) (Some fault) = ends (Err (ScriptFault fault))
-ends_within (Ok now) None = ends (Err (Configurations NotTwoLines))
+ends_within (Ok current) (Some fault) = ends (Err (ScriptFault fault))
+ends_within (Ok current) None = ends (Err (Configurations (NoTarget current.origin)))
 
 -- the output of `plan` for these lines, the first pair of which has this number and is answered in this session
 abbrev pub planned_pairs : PlanOptions → SessionState → ℕ → List NumberedLine → Option FileFault → Output
 planned_pairs options session number [] fault = ends_before number fault
-planned_pairs options session number (line ∷ []) fault = ends_within (current_at line) fault
+planned_pairs options session number (line ∷ []) fault = ends_within (current_at options line) fault
 planned_pairs options session number (first ∷ second ∷ lines) fault =
-    let pair = pair_at first second in
+    let pair = pair_at options first second in
     pair_then options session number pair (planned_pairs options (session_after_pair options session pair) (number + 1) lines fault)
 
 -- the output of `plan` for the lines of an input: one session answers all pairs
@@ -164,7 +166,7 @@ planned_output options input = planned_script options (listing_of input)
 
 -- the output of `plan` for the values of --from and --to, which are one pair
 unfoldable pub planned_texts : PlanOptions → List ℕ → List ℕ → Output
-planned_texts options from to = pair_then options default_session 1 (pair_of_texts from to) (ends (Ok Clean))
+planned_texts options from to = pair_then options default_session 1 (pair_of_texts options from to) (ends (Ok Clean))
 
 -- the output of a mode, by its options
 abbrev pub output_of : Mode → Options → List ℕ → Output

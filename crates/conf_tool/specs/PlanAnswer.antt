@@ -12,6 +12,7 @@ use Rattle.plan_output.specs.Table.{table_text}
 use Rattle.conf_session.specs.SessionState.{SessionState}
 use Rattle.conf_tool.specs.PlanScript.{script_items, script_text}
 use Rattle.conf_tool.specs.Reports.{session_after_all}
+use Rattle.conf_tool.specs.declared.pair.Pair.{Pair}
 use Rattle.conf_tool.specs.declared.plan_options.PlanOptions.{PlanOptions}
 use Rattle.conf_tool.specs.declared.plan_options.PlanOutput.{PlanOutput}
 use Rattle.conf_tool.specs.declared.plan_options.PlanOutput.TheVariants.{Steps, Script, Table, Json}
@@ -56,10 +57,10 @@ no_plan_text Table number why = no_plan_comment why
 no_plan_text Json number why = value_line (no_plan_json number why)
 
 -- ---- a pair
--- the path between two configurations by the strategy, made while the ids of the options are down, or why there is none
-abbrev pub path_between : PlanOptions → Configuration → Configuration → Result (List Step) (List ℕ)
-path_between options now target =
-    if has_voter now then (if has_voter target then (if has_path options.strategy now target then Ok (path_by options.strategy (ids_down options.down) now target)
+-- the path of a pair by its strategy, made while the ids of the options are down, or why there is none
+abbrev pub path_between : PlanOptions → Pair → Result (List Step) (List ℕ)
+path_between options pair =
+    if has_voter pair.current then (if has_voter pair.target then (if has_path pair.strategy pair.current pair.target then Ok (path_by pair.strategy (ids_down options.down) pair.current pair.target)
     else Err (codes "the target is joint")) else Err (codes "the target has no voter"))
     else Err (codes "the current configuration has no voter")
 
@@ -68,9 +69,9 @@ abbrev pub reply_text : PlanOptions → SessionState → ℕ → Configuration �
 reply_text options session number now (Ok steps) = path_text options session number now steps
 reply_text options session number now (Err why) = no_plan_text options.output number why
 
--- the reply to the pair with this number, in this session: the text of the path by the strategy, or why there is none
-abbrev pub plan_text_between : PlanOptions → SessionState → ℕ → Configuration → Configuration → List ℕ
-plan_text_between options session number now target = reply_text options session number now (path_between options now target)
+-- the reply to the pair with this number, in this session: the text of its path, or why there is none
+abbrev pub plan_text_between : PlanOptions → SessionState → ℕ → Pair → List ℕ
+plan_text_between options session number pair = reply_text options session number pair.current (path_between options pair)
 
 -- the session after that reply; no path leaves it as it is
 abbrev pub session_with : PlanOptions → SessionState → Configuration → Result (List Step) (List ℕ) → SessionState
@@ -78,8 +79,8 @@ session_with options session now (Ok steps) = session_as options.output session 
 session_with options session now (Err why) = session
 
 -- the session after the reply to a pair
-abbrev pub session_between : PlanOptions → SessionState → Configuration → Configuration → SessionState
-session_between options session now target = session_with options session now (path_between options now target)
+abbrev pub session_between : PlanOptions → SessionState → Pair → SessionState
+session_between options session pair = session_with options session pair.current (path_between options pair)
 
 -- the status of a pair with this path: different if there is none, or if it stalls
 abbrev pub status_with : PlanOptions → Configuration → Result (List Step) (List ℕ) → Status
@@ -87,5 +88,5 @@ status_with options now (Ok steps) = path_status options.down now steps
 status_with options now (Err why) = Different
 
 -- the status of a pair
-abbrev pub plan_status : PlanOptions → Configuration → Configuration → Status
-plan_status options now target = status_with options now (path_between options now target)
+abbrev pub plan_status : PlanOptions → Pair → Status
+plan_status options pair = status_with options pair.current (path_between options pair)

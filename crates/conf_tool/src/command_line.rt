@@ -1,12 +1,12 @@
 //! What the arguments of the command line ask for.
-ghost use Rattle.std.specs.Prelude.{◌≡◌, ◌≤◌, ◌<◌, [], Some, map, codes, option_map, MatchResult, IfOk, IfErr};
-ghost use Rattle.clap.specs.Words.{fault_of, first_of, found_of, rows_of, subcommand_of, subcommand_rows_of};
+ghost use Rattle.std.specs.Prelude.{◌≡◌, ◌≤◌, ◌<◌, [], Option, Some, None, map, codes, option_map, MatchResult, IfOk, IfErr};
+ghost use Rattle.clap.specs.Words.{Text, fault_of, first_of, found_of, rows_of, subcommand_of, subcommand_rows_of};
 ghost use Rattle.conf_tool.specs.Program.{program as the_program, OfProgram};
-ghost use Rattle.conf_tool.specs.CommandLine.{mode_named, option_text, floor_named, strategy_named, output_named, ids_down, pair_of, texts_of, IsOptionValue, IsInvocation, IsIdsFault, IsPairFault, IsValueFault, IsRefusal};
+ghost use Rattle.conf_tool.specs.CommandLine.{mode_named, option_text, floor_named, strategy_named, output_named, ids_down, pair_of, texts_of, IsOptionValue, IsInvocation, AreGiven, IsValueFault, IsValueFaultOf, IsRefusal};
 ghost use Rattle.conf_tool.specs.Ranges.{IsInRange};
 
 use crate::argument_fault::ArgumentFault;
-use crate::id_list::ids_listed;
+use crate::id_list::{hexadecimal_listed, ids_listed, read_id};
 use crate::invocation::Invocation;
 use crate::mode::Mode;
 use crate::options::Options;
@@ -17,6 +17,7 @@ use clap::ArgMatches;
 use conf_change::Floor;
 use conf_plan::Strategy;
 use conf_session::SessionIds;
+use plan_input::ShortToken;
 use quorum_sets::MemberSet;
 use std::alloc::Global;
 use std::convert::AsStr;
@@ -25,9 +26,9 @@ use std::convert::AsStr;
 pub fn command_line<'a, S: AsStr>(
     alloc: Global,
     arguments: &'a [S],
-) -> Result<Invocation<'a>, ArgumentFault>
+) -> Result<Invocation<'a>, ArgumentFault<'a>>
     // The arguments are refused exactly if `clap` refuses them, if `--down` is not a list of ids, or if `--from` and
-    // `--to` are not a pair.
+    // `--to` are not a pair. The error is what is wrong.
     ensures refused { OfProgram (λ the_program. MatchResult result (λ _. fault_of the_program (map S.text arguments.entry.now) ≡ []) (IsRefusal the_program (map S.text arguments.entry.now))) }
 
     // The invocation has what `clap` reads in the arguments.
@@ -46,7 +47,7 @@ fn read_arguments<'a, S: AsStr>(
     alloc: Global,
     arguments: &'a [S],
     names: OptionNames<'a>,
-) -> Result<Invocation<'a>, ArgumentFault>
+) -> Result<Invocation<'a>, ArgumentFault<'a>>
     ensures refused { MatchResult result (λ _. fault_of (the_program names.entry) (map S.text arguments.entry.now) ≡ []) (IsRefusal (the_program names.entry) (map S.text arguments.entry.now)) }
     ensures asked { IfOk result (IsInvocation (subcommand_of (the_program names.entry) (map S.text arguments.entry.now))) }
 {
@@ -58,7 +59,7 @@ fn read_arguments<'a, S: AsStr>(
 fn invocation_of<'a>(
     alloc: Global,
     matches: &ArgMatches<'a>,
-) -> Result<Invocation<'a>, ArgumentFault>
+) -> Result<Invocation<'a>, ArgumentFault<'a>>
     ensures asked { IfOk result (IsInvocation (subcommand_rows_of matches.now)) }
     ensures fault { IfErr result (IsValueFault (subcommand_rows_of matches.now)) }
 {
@@ -68,7 +69,12 @@ fn invocation_of<'a>(
             Ok(Invocation {
                 mode: mode_named(name),
                 options: options_of(alloc, matches)?,
-                pair: pair_of(file, text_of(matches, "from"), text_of(matches, "to"))?,
+                pair: pair_of(
+                    file,
+                    text_of(matches, "down"),
+                    text_of(matches, "from"),
+                    text_of(matches, "to"),
+                )?,
                 file,
             })
         }
@@ -95,7 +101,7 @@ fn mode_named(name: &str) -> Mode
 }
 
 // The options of a mode, each with its default if it is left out.
-fn options_of(alloc: Global, matches: &ArgMatches<'_>) -> Result<Options, ArgumentFault>
+fn options_of<'a>(alloc: Global, matches: &ArgMatches<'a>) -> Result<Options, ArgumentFault<'a>>
     ensures history { IfOk result (λ options. IsOptionValue 0 1000 100 (first_of (codes "history") (rows_of (found_of matches.now))) options.history) }
     ensures steps { IfOk result (λ options. IsOptionValue 1 1000 1 (first_of (codes "steps") (rows_of (found_of matches.now))) options.steps) }
     ensures floor { IfOk result (λ options. options.floor ≡ floor_named (first_of (codes "next-floor") (rows_of (found_of matches.now)))) }
@@ -103,7 +109,8 @@ fn options_of(alloc: Global, matches: &ArgMatches<'_>) -> Result<Options, Argume
     ensures output { IfOk result (λ options. options.plan.output ≡ output_named (first_of (codes "output") (rows_of (found_of matches.now)))) }
     ensures down { IfOk result (λ options. ids_down (first_of (codes "down") (rows_of (found_of matches.now))) ≡ Some options.plan.down) }
     ensures range { IfOk result IsInRange }
-    ensures fault { IfErr result (IsIdsFault (first_of (codes "down") (rows_of (found_of matches.now)))) }
+    ensures fault { IfErr result (λ fault. (file from to : Option Text) →
+        IsValueFaultOf file (first_of (codes "down") (rows_of (found_of matches.now))) from to fault) }
 {
     Ok(Options {
         history: asked_number(text_of(matches, "history"), 0, 1000, 100),
@@ -127,16 +134,36 @@ fn text_of<'a>(matches: &ArgMatches<'a>, id: &str) -> Option<&'a str>
 // The pair of `--from` and `--to`, if they are given. They come together, and without FILE.
 fn pair_of<'a>(
     file: Option<&'a str>,
+    down: Option<&'a str>,
     from: Option<&'a str>,
     to: Option<&'a str>,
-) -> Result<Option<PairTexts<'a>>, ArgumentFault>
+) -> Result<Option<PairTexts<'a>>, ArgumentFault<'a>>
     ensures pair { IfOk result (λ pair. pair_of (option_map (λ text. text.now) file.entry) (option_map (λ text. text.now) from.entry) (option_map (λ text. text.now) to.entry) ≡ Some (option_map texts_of pair)) }
-    ensures fault { IfErr result (IsPairFault (option_map (λ text. text.now) file.entry) (option_map (λ text. text.now) from.entry) (option_map (λ text. text.now) to.entry)) }
+    ensures fault { IfErr result (IsValueFaultOf (option_map (λ text. text.now) file.entry) (option_map (λ text. text.now) down.entry)
+        (option_map (λ text. text.now) from.entry) (option_map (λ text. text.now) to.entry)) }
 {
-    match (file, from, to) {
-        (_, None, None) => Ok(None),
-        (None, Some(from), Some(to)) => Ok(Some(PairTexts { from, to })),
-        _ => Err(ArgumentFault::BadPair),
+    match (from, to) {
+        (None, None) => Ok(None),
+        (Some(_), None) => Err(ArgumentFault::FromAlone),
+        (None, Some(_)) => Err(ArgumentFault::ToAlone),
+        (Some(from), Some(to)) => match file {
+            Some(file) => Err(file_beside_pair(file, down)),
+            None => match from {
+                "" => Err(ArgumentFault::EmptyFrom),
+                _ => Ok(Some(PairTexts { from, to })),
+            },
+        },
+    }
+}
+
+// The error of FILE beside `--from` and `--to`. If it is an id, it was meant to be one of those that are down.
+fn file_beside_pair<'a>(file: &'a str, down: Option<&'a str>) -> ArgumentFault<'a>
+    ensures { (from to : Option Text) → AreGiven from to →
+        IsValueFaultOf (Some file.entry.now) (option_map (λ text. text.now) down.entry) from to result }
+{
+    match down {
+        Some(ids) if read_id(file.as_bytes()).is_some() => ArgumentFault::IdBesidePair(file, ids),
+        _ => ArgumentFault::FileBesidePair(file),
     }
 }
 
@@ -168,14 +195,14 @@ fn floor_named(name: Option<&str>) -> Floor
     }
 }
 
-// The strategy of a name: the shortest plan if none is given.
-fn strategy_named(name: Option<&str>) -> Strategy
+// The strategy of a name, if one is given.
+fn strategy_named(name: Option<&str>) -> Option<Strategy>
     ensures { result ≡ strategy_named (option_map (λ text. text.now) name.entry) }
 {
-    match name {
-        Some("learners-first") => Strategy::LearnersFirst,
-        Some("one-at-a-time") => Strategy::OneAtATime,
-        _ => Strategy::Shortest,
+    match name? {
+        "learners-first" => Some(Strategy::LearnersFirst),
+        "one-at-a-time" => Some(Strategy::OneAtATime),
+        _ => Some(Strategy::Shortest),
     }
 }
 
@@ -192,15 +219,30 @@ fn output_named(name: Option<&str>) -> PlanOutput
 }
 
 // The ids of a list, if one is given.
-fn ids_down(alloc: Global, list: Option<&str>) -> Result<Option<SessionIds>, ArgumentFault>
+fn ids_down<'a>(
+    alloc: Global,
+    list: Option<&'a str>,
+) -> Result<Option<SessionIds>, ArgumentFault<'a>>
     ensures down { IfOk result (λ down. ids_down (option_map (λ text. text.now) list.entry) ≡ Some down) }
-    ensures fault { IfErr result (IsIdsFault (option_map (λ text. text.now) list.entry)) }
+    ensures fault { IfErr result (λ fault. (file from to : Option Text) →
+        IsValueFaultOf file (option_map (λ text. text.now) list.entry) from to fault) }
 {
     let Some(text) = list else {
         return Ok(None);
     };
     match ids_listed(alloc, text.as_bytes())? {
         Some(ids) => Ok(Some(SessionIds::of_list(alloc, ids.as_slice())?)),
-        None => Err(ArgumentFault::BadIds),
+        None => Err(bad_ids(text)),
+    }
+}
+
+// The error of a text that is not a list of ids.
+fn bad_ids<'a>(text: &'a str) -> ArgumentFault<'a>
+    ensures { ids_down (Some text.entry.now) ≡ None → (file from to : Option Text) →
+        IsValueFaultOf file (Some text.entry.now) from to result }
+{
+    match hexadecimal_listed(text.as_bytes()) {
+        Some(digits) => ArgumentFault::HexadecimalId(ShortToken::new(digits)),
+        None => ArgumentFault::BadIds,
     }
 }

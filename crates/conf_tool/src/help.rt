@@ -197,6 +197,8 @@ Strategies:
   learners-first  at most one step more: new voters are learners first
   one-at-a-time   each step changes one member; a joint configuration is left
                   first, and the target must not be joint
+If none is given, it is one-at-a-time from what etcdctl prints, since etcd's
+server changes one member at a time, and shortest from any other form.
 
 Outputs:
   steps   one step a line
@@ -212,7 +214,8 @@ A plan does not see logs: a new member begins with an empty one. From [1 2 3] to
 If there is no plan, it prints the reason in a comment (or in json), and the
 status is 1. The status is also 1 if the plan stalls: some configuration of it,
 the first one among them, cannot commit with the ids of --down down. In steps
-and script a comment says so.
+and script a comment says so. Each id of --down has to be a member of one of the
+two configurations.
 
 For the lines
   voters=(1 2 3)
@@ -256,7 +259,7 @@ pub(crate) const STEPS: OptionHelp = OptionHelp {
 pub(crate) const STRATEGY: OptionHelp = OptionHelp {
     name: "strategy",
     value_name: "NAME",
-    about: "How the plan is made (shortest if left out)",
+    about: "How the plan is made (if left out: by the form of the current configuration)",
     long: None,
 };
 

@@ -1,5 +1,5 @@
 //! Laws of this crate's definitions, each the contract of a function that does nothing.
-ghost use Rattle.conf_tool.specs.Laws.{RewrittenClean, JoinedClean, UndoScriptLeadsBack, PrintedPlanIsBest, PrintedPathKeepsPromises, PlanScriptLeads};
+ghost use Rattle.conf_tool.specs.Laws.{RewrittenClean, JoinedClean, UndoScriptLeadsBack, PairsAreAsked, PrintedPlanIsBest, PrintedPathKeepsPromises, PlanScriptLeads};
 
 use conf_change::laws::{conf_state_describes, one_list_per_text, restored_is_described};
 use conf_plan::laws::{
@@ -48,18 +48,24 @@ pub fn undo_script_leads_back()
     one_list_per_text();
 }
 
-/// By default the mode `plan` prints, in each form of the output, the best plan between two configurations with voters.
-/// JSON shows each change of its simple steps as a step (own).
+/// The strategy of a pair that the mode `plan` reads is the one of the options, or if none is given the one for how its
+/// current configuration is written. Each id that is down is a member of one of its configurations (own).
+pub fn pairs_are_asked()
+    ensures { PairsAreAsked }
+{}
+
+/// For a pair whose strategy is shortest, the mode `plan` prints, in each form of the output, the best plan between two
+/// configurations with voters. JSON shows each change of its simple steps as a step (own).
 pub fn printed_plan_is_best()
     ensures { PrintedPlanIsBest }
 {
     planned_is_best();
 }
 
-/// By each strategy, and in each form of the output, the mode `plan` prints a path that keeps what the strategy
-/// promises, such as that no configuration on the way tolerates fewer failures than the weaker end. The stages that a
-/// table shows are the configurations on the way, the last of which is the target. JSON shows the steps change by change:
-/// its stages lead to the target, and each has the voters of a configuration on the way (own).
+/// By the strategy of each pair, and in each form of the output, the mode `plan` prints a path that keeps what the
+/// strategy promises, such as that no configuration on the way tolerates fewer failures than the weaker end. The stages
+/// that a table shows are the configurations on the way, the last of which is the target. JSON shows the steps change by
+/// change: its stages lead to the target, and each has the voters of a configuration on the way (own).
 pub fn printed_path_keeps_promises()
     ensures { PrintedPathKeepsPromises }
 {

@@ -24,6 +24,7 @@ mod line_reply;
 pub mod mode;
 pub mod options;
 pub mod origin;
+mod pair;
 mod pair_text;
 pub mod pair_texts;
 mod plan_answer;

@@ -6,6 +6,7 @@ ghost use Rattle.plan_output.specs.Steps.{ids_down, stall_note};
 ghost use Rattle.conf_tool.specs.PlanAnswer.{no_plan_comment, no_plan_text, path_status, path_text, plan_text_between, plan_status, session_as, session_between};
 ghost use Rattle.conf_tool.specs.declared.tool_fault.ToolFault.TheVariants.{NoMemory as OutOfMemory};
 
+use crate::pair::Pair;
 use crate::plan_options::{PlanOptions, PlanOutput};
 use crate::run::plan_script::script_text;
 use crate::status::Status;
@@ -24,18 +25,17 @@ pub(crate) fn plan_answer(
     options: &PlanOptions,
     session: &mut Session,
     number: u64,
-    now: &Config<SessionIds>,
-    target: &Config<SessionIds>,
+    pair: &Pair,
 ) -> Result<(Vec<u8>, Status), ToolFault>
-    requires valid_now { is_valid now.now ≡ true }
-    requires valid_target { is_valid target.now ≡ true }
-    ensures text { IfOk result (λ answer. answer.0.items ≡ plan_text_between options.now session.old number now.now target.now) }
-    ensures session { OnOk result (session.new ≡ session_between options.now session.old now.now target.now) }
-    ensures status { IfOk result (λ answer. answer.1 ≡ plan_status options.now now.now target.now) }
+    requires valid_now { is_valid pair.now.current ≡ true }
+    requires valid_target { is_valid pair.now.target ≡ true }
+    ensures text { IfOk result (λ answer. answer.0.items ≡ plan_text_between options.now session.old number pair.now) }
+    ensures session { OnOk result (session.new ≡ session_between options.now session.old pair.now) }
+    ensures status { IfOk result (λ answer. answer.1 ≡ plan_status options.now pair.now) }
     ensures memory { IsOkUnless result OutOfMemory }
 {
-    match path_between(alloc, options, now, target) {
-        Ok(path) => path_answer(alloc, options, session, number, now, &path),
+    match path_between(alloc, options, pair) {
+        Ok(path) => path_answer(alloc, options, session, number, &pair.current, &path),
         Err(NoPath::NoVoterNow) => no_plan(
             alloc,
             options.output,
@@ -50,27 +50,26 @@ pub(crate) fn plan_answer(
     }
 }
 
-// The path between two configurations by the strategy, made while the ids of the options are down.
-fn path_between(
-    alloc: Global,
-    options: &PlanOptions,
-    now: &Config<SessionIds>,
-    target: &Config<SessionIds>,
-) -> Result<Path, NoPath>
-    requires valid_now { is_valid now.now ≡ true }
-    requires valid_target { is_valid target.now ≡ true }
-    ensures path { IfOk result (λ path. path ≡ path_by options.now.strategy (ids_down options.now.down) now.now target.now) }
-    ensures no_voter_now { (result ≡ Err NoPath.NoVoterNow) ↔ (has_voter now.now ≡ false) }
-    ensures no_voter_target { (result ≡ Err NoPath.NoVoterTarget) ↔ ((has_voter now.now ≡ true) × (has_voter target.now ≡ false)) }
-    ensures joint_target { (result ≡ Err NoPath.JointTarget) ↔ ((has_voter now.now ≡ true) × (has_voter target.now ≡ true) × (has_path options.now.strategy now.now target.now ≡ false)) }
+// The path of a pair by its strategy, made while the ids of the options are down.
+fn path_between(alloc: Global, options: &PlanOptions, pair: &Pair) -> Result<Path, NoPath>
+    requires valid_now { is_valid pair.now.current ≡ true }
+    requires valid_target { is_valid pair.now.target ≡ true }
+    ensures path { IfOk result (λ path.
+        path ≡ path_by pair.now.strategy (ids_down options.now.down) pair.now.current pair.now.target) }
+    ensures no_voter_now { (result ≡ Err NoPath.NoVoterNow) ↔ (has_voter pair.now.current ≡ false) }
+    ensures no_voter_target { (result ≡ Err NoPath.NoVoterTarget) ↔
+        ((has_voter pair.now.current ≡ true) × (has_voter pair.now.target ≡ false)) }
+    ensures joint_target { (result ≡ Err NoPath.JointTarget) ↔
+        ((has_voter pair.now.current ≡ true) × (has_voter pair.now.target ≡ true) ×
+        (has_path pair.now.strategy pair.now.current pair.now.target ≡ false)) }
 {
     match &options.down {
-        Some(down) => plan_by(alloc, options.strategy, now, target, down),
+        Some(down) => plan_by(alloc, pair.strategy, &pair.current, &pair.target, down),
         None => plan_by(
             alloc,
-            options.strategy,
-            now,
-            target,
+            pair.strategy,
+            &pair.current,
+            &pair.target,
             &SessionIds::empty(alloc),
         ),
     }

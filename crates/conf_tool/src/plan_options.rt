@@ -1,6 +1,5 @@
 //! The options of the mode `plan`.
 ghost use Rattle.std.specs.Prelude.{◌≡◌, None};
-ghost use Rattle.conf_plan.specs.declared.strategy.Strategy.TheVariants.{Shortest};
 ghost use Rattle.conf_tool.specs.declared.plan_options.PlanOutput.TheVariants.{Steps};
 
 use conf_plan::Strategy;
@@ -19,21 +18,22 @@ pub enum PlanOutput {
     Json,
 }
 
-/// The strategy of a plan, the form in which it is printed, and the ids that are down, if any are given.
+/// The strategy of a plan, if one is given, the form in which it is printed, and the ids that are down, if any are
+/// given. Without a strategy it is decided for each pair, by how its current configuration is written.
 #[derive(Drop)]
 pub struct PlanOptions {
-    pub strategy: Strategy,
+    pub strategy: Option<Strategy>,
     pub output: PlanOutput,
     pub down: Option<SessionIds>,
 }
 
 impl Default for PlanOptions {
-    ghost is_default = { λ options. (options.strategy ≡ Shortest) × (options.output ≡ Steps) × (options.down ≡ None) };
+    ghost is_default = { λ options. (options.strategy ≡ None) × (options.output ≡ Steps) × (options.down ≡ None) };
 
-    /// The shortest plan, printed as steps; no id is down.
+    /// No strategy is given, the plan is printed as steps, and no id is down.
     fn default() -> PlanOptions {
         PlanOptions {
-            strategy: Strategy::Shortest,
+            strategy: None,
             output: PlanOutput::Steps,
             down: None,
         }

@@ -32,12 +32,14 @@ use clap::error::ErrorKind;
 use conf_tool::command_line::command_line;
 use conf_tool::exit_status::exit_status;
 use conf_tool::run::{run_and_flush, run_pair_and_flush};
-use conf_tool::{ArgumentFault, Invocation, PairTexts, PlanOptions, Status, ToolFault};
+use conf_tool::{
+    ArgumentFault, Invocation, Origin, PairTexts, PlanInputFault, PlanOptions, Status, ToolFault,
+};
 use dd_file::blocks::Blocks;
 use dd_file::device::{FromRead, Sink, Source, ToWrite};
 use std::convert::AsStr;
 use std::process::ExitCode;
-use std::{env, io};
+use std::{env, fs, io};
 
 /// The exit status if all is done.
 const DONE: u8 = 0;
@@ -115,22 +117,16 @@ fn run_arguments<F: InputFiles, R: Source, W: Sink>(
 }
 
 // Reports why the arguments are refused.
-fn refuse(rt: &HostRuntime, fault: ArgumentFault) -> ExitCode
-    ensures { EndsForFault fault result }
+fn refuse(rt: &HostRuntime, fault: ArgumentFault<'_>) -> ExitCode
+    ensures { EndsForFault fault.entry result }
 {
     match fault {
         ArgumentFault::Clap(error) => explain(rt, &error),
-        ArgumentFault::BadIds => {
-            let _ = eprintln!(rt;
-                "confscript: --down expects ids from 1 with commas between them, as in 4,6"
-            );
-            ExitCode::from(BAD_INPUT)
-        }
-        ArgumentFault::BadPair => {
-            let _ = eprintln!(rt; "confscript: --from and --to come together, without FILE");
-            ExitCode::from(BAD_INPUT)
-        }
         ArgumentFault::NoMemory => end(rt, Err(ToolFault::NoMemory)),
+        fault => {
+            let _ = eprintln!(rt; "confscript: {fault}");
+            ExitCode::from(BAD_INPUT)
+        }
     }
 }
 
@@ -190,7 +186,35 @@ fn plan_to<W: Sink>(
     ensures written { WritesOut W.has_failed writer.old writer.new result }
 {
     let outcome = run_pair_and_flush(rt.alloc(), options, texts, writer);
+    end_pair(rt, texts, outcome)
+}
+
+// Reports an error as `end` does, and if a text is the name of a file, how that file's text is given.
+fn end_pair(rt: &HostRuntime, texts: PairTexts<'_>, outcome: Result<Status, ToolFault>) -> ExitCode
+    ensures { status_of result ≡ exit_status_of outcome }
+{
+    if let Err(fault) = &outcome {
+        if let Some(name) = file_named(rt, texts, fault) {
+            let _ = eprintln!(rt;
+                "confscript: {fault}; a file's text is given as \"$(cat {name})\""
+            );
+            return ExitCode::from(exit_status(outcome));
+        }
+    }
     end(rt, outcome)
+}
+
+// The text of the pair that this error is in, if it is the name of a file.
+fn file_named<'a>(rt: &HostRuntime, texts: PairTexts<'a>, fault: &ToolFault) -> Option<&'a str> {
+    let name = match fault {
+        ToolFault::Configurations(PlanInputFault::BadText(Origin::From, _)) => texts.from,
+        ToolFault::Configurations(PlanInputFault::BadText(Origin::To, _)) => texts.to,
+        _ => return None,
+    };
+    match fs::metadata(rt, name) {
+        Ok(file) if file.is_file() => Some(name),
+        _ => None,
+    }
 }
 
 // Runs the mode over the file that the arguments name, or over standard input if they name none, or `-`.

@@ -13,7 +13,7 @@ use conf_tool::{
 };
 use dd_file::blocks::Blocks;
 use dd_file::device::{FromRead, Sink, Source, ToWrite};
-use plan_input::TextFault;
+use plan_input::{IdHint, TextFault};
 use quorum_sets::{MemberSet, NoMemory};
 use std::alloc::{AllocError, Global};
 use test_vectors::twice;
@@ -173,6 +173,20 @@ const OBJECTS: &[u8] = b"{\"catch_up\":[],\
     {\"no_plan\":\"the target is joint\",\"plan\":3}\n\
     {\"no_plan\":\"the target has no voter\",\"plan\":4}\n";
 
+// A list of members, and another form of the same configuration, each with a target.
+const LISTED: &[u8] =
+    b"{\"members\":[{\"ID\":1},{\"ID\":2},{\"ID\":3}]}\nr3 v4\nvoters=(1 2 3)\nr3 v4\n";
+
+const LISTED_PLANS: &[u8] =
+    b"simple l4\nsimple v4\nsimple r3\n\nenter-joint autoleave=false r3 v4\nleave-joint\n";
+
+const LISTED_SHORTEST: &[u8] =
+    b"enter-joint autoleave=false r3 v4\nleave-joint\n\nenter-joint autoleave=false r3 v4\nleave-joint\n";
+
+// A pair of which 3 is a member, and one of which it is not.
+const WITHOUT_3: &[u8] =
+    b"{\"voters\":[1,2,3]}\n{\"voters\":[1,2]}\n{\"voters\":[1,2]}\n\nvoters=(1)\n";
+
 // Inputs whose last line has an error: it has no target, is not the JSON of a ConfState, or lists an id twice.
 const HALF: &[u8] = b"{\"voters\":[1,2]}\n{\"voters\":[1]}\n{\"voters\":[1]}\n";
 
@@ -181,17 +195,20 @@ const BAD_JSON: &[u8] = b"{\"voters\":[1,2]}\n{\"voters\":[1,2]}\n\n{\"voters\":
 const TWICE: &[u8] = b"{\"voters\":[1,2]}\n\
     Voters:[1 1] VotersOutgoing:[] Learners:[] LearnersNext:[] AutoLeave:false";
 
-/// What is run: a mode with its default options, or `plan` with a strategy, an output and the ids that are down.
+/// What is run: a mode with its default options, or `plan` with a strategy, if there is one, an output and the ids that
+/// are down.
 #[derive(Clone, Copy)]
 pub(crate) enum Command {
     Lines,
     Check,
     Rewrite,
     Undo,
-    Plan(Strategy, PlanOutput, &'static [u64]),
+    Plan(Option<Strategy>, PlanOutput, &'static [u64]),
 }
 
-const SHORTEST: Command = Command::Plan(Strategy::Shortest, PlanOutput::Steps, &[]);
+const DEFAULT: Command = Command::Plan(None, PlanOutput::Steps, &[]);
+
+const SHORTEST: Command = Command::Plan(Some(Strategy::Shortest), PlanOutput::Steps, &[]);
 
 /// A command, its input and its output, and how the run ends.
 pub(crate) type Case = (
@@ -229,78 +246,86 @@ pub(crate) static MODES: [Case; 14] = [
 ];
 
 /// `plan` with its options, and inputs with an error.
-pub(crate) static PLANNED: [Case; 12] = [
+pub(crate) static PLANNED: [Case; 15] = [
+    (DEFAULT, LISTED, LISTED_PLANS, CLEAN),
+    (SHORTEST, LISTED, LISTED_SHORTEST, CLEAN),
     (
-        Command::Plan(Strategy::LearnersFirst, PlanOutput::Steps, &[]),
+        Command::Plan(Some(Strategy::LearnersFirst), PlanOutput::Steps, &[]),
         REPLACED,
         LEARNERS_FIRST,
         CLEAN,
     ),
     (
-        Command::Plan(Strategy::OneAtATime, PlanOutput::Steps, &[]),
+        Command::Plan(Some(Strategy::OneAtATime), PlanOutput::Steps, &[]),
         REPLACED,
         ONE_AT_A_TIME,
         CLEAN,
     ),
     (
-        Command::Plan(Strategy::Shortest, PlanOutput::Table, &[]),
+        Command::Plan(Some(Strategy::Shortest), PlanOutput::Table, &[]),
         REPLACED,
         TABLES,
         CLEAN,
     ),
     (
-        Command::Plan(Strategy::Shortest, PlanOutput::Table, &[1]),
+        Command::Plan(Some(Strategy::Shortest), PlanOutput::Table, &[1]),
         REMOVED,
         STALLED,
         DIFFERENT,
     ),
     (
-        Command::Plan(Strategy::OneAtATime, PlanOutput::Table, &[2, 2]),
+        Command::Plan(Some(Strategy::OneAtATime), PlanOutput::Table, &[2, 2]),
         REMOVED,
         STALLED_AT_FIRST,
         DIFFERENT,
     ),
     (
-        Command::Plan(Strategy::LearnersFirst, PlanOutput::Json, &[2]),
+        Command::Plan(Some(Strategy::LearnersFirst), PlanOutput::Json, &[2]),
         REMOVED,
         OBJECT,
         DIFFERENT,
     ),
     (
-        Command::Plan(Strategy::OneAtATime, PlanOutput::Json, &[]),
+        Command::Plan(Some(Strategy::OneAtATime), PlanOutput::Json, &[]),
         FOUR_PAIRS,
         OBJECTS,
         DIFFERENT,
     ),
     (
-        Command::Plan(Strategy::Shortest, PlanOutput::Steps, &[2]),
+        Command::Plan(Some(Strategy::Shortest), PlanOutput::Steps, &[2]),
         REMOVED,
         b"# no quorum with 2 down: no step can be made\nsimple r2\n",
         DIFFERENT,
     ),
     (
-        Command::Plan(Strategy::Shortest, PlanOutput::Steps, &[9]),
+        Command::Plan(Some(Strategy::Shortest), PlanOutput::Steps, &[9, 8]),
         REMOVED,
-        b"simple r2\n",
-        CLEAN,
+        b"",
+        Err(ToolFault::Configurations(PlanInputFault::NotAMemberAt(2, 8))),
+    ),
+    (
+        Command::Plan(None, PlanOutput::Steps, &[3]),
+        WITHOUT_3,
+        b"simple r3\n",
+        Err(ToolFault::Configurations(PlanInputFault::NotAMemberAt(5, 3))),
     ),
     (
         SHORTEST,
         HALF,
         b"simple r2\n",
-        Err(ToolFault::Configurations(PlanInputFault::NotTwoLines)),
+        Err(ToolFault::Configurations(PlanInputFault::NoTarget(Origin::Line(3)))),
     ),
     (
-        Command::Plan(Strategy::Shortest, PlanOutput::Json, &[]),
+        Command::Plan(Some(Strategy::Shortest), PlanOutput::Json, &[]),
         BAD_JSON,
         b"{\"plan\":1,\"steps\":0}\n",
         Err(ToolFault::Configurations(PlanInputFault::BadText(
             Origin::Line(4),
-            TextFault::BadJson,
+            TextFault::BadJson(IdHint::NONE),
         ))),
     ),
     (
-        Command::Plan(Strategy::LearnersFirst, PlanOutput::Table, &[]),
+        Command::Plan(Some(Strategy::LearnersFirst), PlanOutput::Table, &[]),
         TWICE,
         b"",
         Err(ToolFault::Configurations(PlanInputFault::BadText(
@@ -466,26 +491,43 @@ fn runs_plan_with_each_option_over_blocks(rt: HostRuntime) {
     }
 }
 
-// The values of `--from` and `--to`, the output of `plan`, and how it ends.
+// The values of `--from` and `--to`, the ids that are down, the output of `plan`, and how it ends.
 type PairCase = (
     &'static str,
     &'static str,
+    &'static [u64],
     &'static [u8],
     Result<Status, ToolFault>,
 );
 
-static TEXTS: [PairCase; 5] = [
+static TEXTS: [PairCase; 7] = [
     (
         "voters=(1 2 3)",
         "r1 v4",
+        &[],
         b"enter-joint autoleave=false r1 v4\nleave-joint\n",
         CLEAN,
     ),
-    ("voters=(1)&&(1 2)", "", b"leave-joint\n", CLEAN),
-    ("{\"voters\":[1]}", "r1", NO_TARGET, DIFFERENT),
+    ("voters=(1)&&(1 2)", "u1", &[], b"leave-joint\n", CLEAN),
+    ("{\"voters\":[1]}", "r1", &[], NO_TARGET, DIFFERENT),
+    (
+        "{\"members\":[{\"ID\":1},{\"ID\":2},{\"ID\":3}]}",
+        "r3 v4",
+        &[3],
+        b"simple r3\nsimple l4\nsimple v4\n",
+        CLEAN,
+    ),
+    (
+        "voters=(1 2 3)",
+        "r1 v4",
+        &[4, 5, 1],
+        b"",
+        Err(ToolFault::Configurations(PlanInputFault::NotAMember(5))),
+    ),
     (
         "v1",
         "x",
+        &[],
         b"",
         Err(ToolFault::Configurations(PlanInputFault::BadText(
             Origin::From,
@@ -495,8 +537,12 @@ static TEXTS: [PairCase; 5] = [
     (
         "voters=(1)",
         "{}}",
+        &[],
         b"",
-        Err(ToolFault::Configurations(PlanInputFault::BadText(Origin::To, TextFault::BadJson))),
+        Err(ToolFault::Configurations(PlanInputFault::BadText(
+            Origin::To,
+            TextFault::BadJson(IdHint::NONE),
+        ))),
     ),
 ];
 
@@ -508,9 +554,13 @@ fn pair_outcome(
 ) -> (Result<Status, ToolFault>, Matching)
     requires { NothingBuffered blocks }
 {
-    let (from, to, _, _) = case;
+    let (from, to, ids, _, _) = case;
     let texts = PairTexts { from, to };
-    let outcome = run_pair_and_flush(alloc, PlanOptions::default(), texts, &mut blocks);
+    let command = Command::Plan(None, PlanOutput::Steps, ids);
+    let outcome = match plan_options(alloc, command) {
+        Ok(options) => run_pair_and_flush(alloc, options, texts, &mut blocks),
+        Err(_) => Err(ToolFault::NoMemory),
+    };
     (outcome, blocks.into_inner().into_inner())
 }
 
@@ -522,12 +572,12 @@ fn ends_for_pair(alloc: Global, case: PairCase, blocks: Blocks<ToWrite<Matching>
     if result == Err(ToolFault::NoMemory) {
         writer.is_prefix()
     } else {
-        (result == case.3) & writer.is_whole()
+        (result == case.4) & writer.is_whole()
     }
 }
 
 fn plans_for_texts(alloc: Global, case: PairCase) -> bool {
-    match blocks_for(alloc, case.2) {
+    match blocks_for(alloc, case.3) {
         Ok(blocks) => ends_for_pair(alloc, case, blocks),
         Err(_) => false,
     }

@@ -1,26 +1,29 @@
 -- Of the mode `plan`: what each line leaves of its output.
 use Rattle.std.proofs.Common.{◌≡◌, ℕ, Bool, ◌||◌, ◌+◌, ◌<◌, ◌≤◌, true, false, List, [], ◌∷◌, ◌++◌, length-append, refl, sym, ◌∙◌, ap, subst, arith, inl, inr, lt-ltb, le-ltb}
-use Rattle.std.specs.Prelude.{Option, Some, None, Result, Ok, Err, IfSome, IfErr, IsOkUnless, OnOk, OnErr, is_some, nat_lt}
+use Rattle.std.specs.Prelude.{Option, Some, None, Result, Ok, Err, IfSome, IfErr, IsOkUnless, OnOk, OnErr, nat_lt}
 use Rattle.std.specs.Io.KnownBytes.{Appends}
 use Rattle.std.proofs.Math.Bool.{or-false}
 use Rattle.std.proofs.lemmas.List.{append-nil}
 use Rattle.dd_file.specs.Device.{AppendsPart}
 use Rattle.dd_file.specs.Grammar.{Script}
 use Rattle.dd_file.specs.declared.fault.FileFault.{FileFault}
-use Rattle.conf_change.specs.Configuration.{Configuration, is_valid}
+use Rattle.conf_change.specs.Configuration.{is_valid}
 use Rattle.conf_session.specs.SessionState.{SessionState}
-use Rattle.plan_input.specs.Input.{current_in, target_in}
+use Rattle.plan_input.specs.Input.{target_in}
 use Rattle.conf_tool.specs.Answered.{script, prepended, with_prefix, HasPlanned, pairs_within, pairs_left, with_status, plan_left}
 use Rattle.conf_tool.specs.Outputs.{Output, ends, pair_text, worse_of, pair_then, session_after_pair, ends_within, planned_pairs, planned_script, planned_texts}
-use Rattle.conf_tool.specs.Pairs.{NumberedLine, numbered, is_skipped, configuration_lines, current_at, target_at, paired, with_target, written_at, pair_of_texts, IsFaultOf}
+use Rattle.conf_tool.specs.Pairs.{NumberedLine, numbered, is_skipped, configuration_lines, current_at, current_written, paired, pair_from, pair_to, with_target, written_at, pair_of_texts, IsFaultOf}
 use Rattle.conf_tool.specs.Run.{Means, Wrote, IsStop, is_read_failure, is_write_failure}
 use Rattle.conf_tool.specs.AnsweredLaws.{part-nothing}
 use Rattle.conf_tool.specs.declared.mode.Mode.TheVariants.{Plan as OfPlan}
+use Rattle.conf_tool.specs.declared.origin.Origin.{Origin}
 use Rattle.conf_tool.specs.declared.origin.Origin.TheVariants.{From, To}
 use Rattle.conf_tool.specs.PlanAnswer.{plan_status, session_between}
 use Rattle.conf_tool.specs.PlanScript.{default_session}
+use Rattle.conf_tool.specs.declared.pair.Current.{Current}
+use Rattle.conf_tool.specs.declared.pair.Pair.{Pair}
 use Rattle.conf_tool.specs.declared.plan_input_fault.PlanInputFault.{PlanInputFault}
-use Rattle.conf_tool.specs.declared.plan_input_fault.PlanInputFault.TheVariants.{NotTwoLines}
+use Rattle.conf_tool.specs.declared.plan_input_fault.PlanInputFault.TheVariants.{NotTwoLines, NoTarget}
 use Rattle.conf_tool.specs.declared.plan_options.PlanOptions.{PlanOptions}
 use Rattle.conf_tool.specs.declared.status.Status.{Status}
 use Rattle.conf_tool.specs.declared.status.Status.TheVariants.{Clean, Different}
@@ -66,16 +69,16 @@ configuration_lines-kept : (line : NumberedLine) (lines : List NumberedLine) →
 configuration_lines-kept line lines kept = simp kept refl
 
 -- ---- what a line leaves
-pub plan_left-passed : (options : PlanOptions) (session : SessionState) (count number : ℕ) (now : Option Configuration) (status : Status) (line : List ℕ) → is_skipped line ≡ true → (rest : Script (List ℕ)) →
+pub plan_left-passed : (options : PlanOptions) (session : SessionState) (count number : ℕ) (now : Option Current) (status : Status) (line : List ℕ) → is_skipped line ≡ true → (rest : Script (List ℕ)) →
     plan_left options session count number now status (prepended (line ∷ []) rest) ≡ with_prefix [] (plan_left options session (count + 1) number now status rest)
 plan_left-passed options session count number now status line passed rest =
     ap (λ lines. with_status status (pairs_left options session number now lines rest.fault)) (configuration_lines-passed (record { number = count + 1; text = line }) (numbered (count + 1 + 1) rest.items) passed)
 
 -- what is left with a pair that these two lines gave
-abbrev pair_with : PlanOptions → SessionState → ℕ → Result (Configuration × Configuration) PlanInputFault → List NumberedLine → Option FileFault → Output
+abbrev pair_with : PlanOptions → SessionState → ℕ → Result Pair PlanInputFault → List NumberedLine → Option FileFault → Output
 pair_with options session number pair lines fault = pair_then options session number pair (planned_pairs options (session_after_pair options session pair) (number + 1) lines fault)
 
-pairs-first : (options : PlanOptions) (session : SessionState) (number : ℕ) (line : NumberedLine) (first : Result Configuration PlanInputFault) (lines : List NumberedLine) (fault : Option FileFault) → current_at line ≡ first →
+pairs-first : (options : PlanOptions) (session : SessionState) (number : ℕ) (line : NumberedLine) (first : Result Current PlanInputFault) (lines : List NumberedLine) (fault : Option FileFault) → current_at options line ≡ first →
     planned_pairs options session number (line ∷ lines) fault ≡ pairs_within options session number first lines fault
 pairs-first options session number line first [] fault is = ap (λ actual. ends_within actual fault) is
 pairs-first options session number line first (second ∷ lines) fault is = ap (λ actual. pairs_within options session number actual (second ∷ lines) fault) is
@@ -84,8 +87,8 @@ pairs_within-bad : (options : PlanOptions) (session : SessionState) (number : �
 pairs_within-bad options session number bad lines fault = grind arith
 
 -- the first line of a pair
-pub plan_left-first : (options : PlanOptions) (session : SessionState) (count number : ℕ) (status : Status) (line : List ℕ) (first : Configuration) →
-    is_skipped line ≡ false → current_at (record { number = count + 1; text = line }) ≡ Ok first → (rest : Script (List ℕ)) →
+pub plan_left-first : (options : PlanOptions) (session : SessionState) (count number : ℕ) (status : Status) (line : List ℕ) (first : Current) →
+    is_skipped line ≡ false → current_at options (record { number = count + 1; text = line }) ≡ Ok first → (rest : Script (List ℕ)) →
     plan_left options session count number None status (prepended (line ∷ []) rest) ≡ with_prefix [] (plan_left options session (count + 1) number (Some first) status rest)
 plan_left-first options session count number status line first kept is rest =
     let at : NumberedLine = record { number = count + 1; text = line } in
@@ -94,55 +97,57 @@ plan_left-first options session count number status line first kept is rest =
     ∙ ap (with_status status) (pairs-first options session number at (Ok first) (configuration_lines lines) rest.fault is)
 
 -- .. and the second
-pub plan_left-second : (options : PlanOptions) (session : SessionState) (count number : ℕ) (now target : Configuration) (status after : Status) (line : List ℕ) →
-    is_skipped line ≡ false → target_at (record { number = count + 1; text = line }) now ≡ Ok target → ◌≡◌ {A = Result Status ToolFault} (Ok after) (worse_of status (Ok (plan_status options now target))) → (rest : Script (List ℕ)) →
-    plan_left options session count number (Some now) status (prepended (line ∷ []) rest) ≡ with_prefix (pair_text options session number now target) (plan_left options (session_between options session now target) (count + 1) (number + 1) None after rest)
-plan_left-second options session count number now target status after line kept is worse rest =
+pub plan_left-second : (options : PlanOptions) (session : SessionState) (count number : ℕ) (current : Current) (pair : Pair) (status after : Status) (line : List ℕ) →
+    is_skipped line ≡ false → pair_to options (record { number = count + 1; text = line }) current ≡ Ok pair → ◌≡◌ {A = Result Status ToolFault} (Ok after) (worse_of status (Ok (plan_status options pair))) → (rest : Script (List ℕ)) →
+    plan_left options session count number (Some current) status (prepended (line ∷ []) rest) ≡ with_prefix (pair_text options session number pair) (plan_left options (session_between options session pair) (count + 1) (number + 1) None after rest)
+plan_left-second options session count number current pair status after line kept is worse rest =
     let at : NumberedLine = record { number = count + 1; text = line } in
     let lines = numbered (count + 1 + 1) rest.items in
-    let left = planned_pairs options (session_between options session now target) (number + 1) (configuration_lines lines) rest.fault in
-    ap (λ ls. with_status status (pairs_within options session number (Ok now) ls rest.fault)) (configuration_lines-kept at lines kept)
-    ∙ ap (λ actual. with_status status (pair_with options session number (paired now actual) (configuration_lines lines) rest.fault)) is
-    ∙ ap (λ outcome. record { text = pair_text options session number now target ++ left.text; outcome = outcome }) (worse_of-twice status (plan_status options now target) after left.outcome worse)
+    let left = planned_pairs options (session_between options session pair) (number + 1) (configuration_lines lines) rest.fault in
+    ap (λ ls. with_status status (pairs_within options session number (Ok current) ls rest.fault)) (configuration_lines-kept at lines kept)
+    ∙ ap (λ actual. with_status status (pair_with options session number actual (configuration_lines lines) rest.fault)) is
+    ∙ ap (λ outcome. record { text = pair_text options session number pair ++ left.text; outcome = outcome }) (worse_of-twice status (plan_status options pair) after left.outcome worse)
 
--- what a line is read as: the current configuration, or after that the target
-abbrev pub read_at : Option Configuration → NumberedLine → Result Configuration PlanInputFault
-read_at None line = current_at line
-read_at (Some now) line = target_at line now
-
--- a line with an error ends the output
-pub plan_left-bad : (options : PlanOptions) (session : SessionState) (count number : ℕ) (now : Option Configuration) (status : Status) (line : List ℕ) (bad : PlanInputFault) →
-    is_skipped line ≡ false → read_at now (record { number = count + 1; text = line }) ≡ Err bad → (rest : Script (List ℕ)) →
-    plan_left options session count number now status (prepended (line ∷ []) rest) ≡ ends (Err (Configurations bad))
-plan_left-bad options session count number None status line bad kept is rest =
+-- a line with an error ends the output: the first of a pair
+pub plan_left-bad_current : (options : PlanOptions) (session : SessionState) (count number : ℕ) (status : Status) (line : List ℕ) (bad : PlanInputFault) →
+    is_skipped line ≡ false → current_at options (record { number = count + 1; text = line }) ≡ Err bad → (rest : Script (List ℕ)) →
+    plan_left options session count number None status (prepended (line ∷ []) rest) ≡ ends (Err (Configurations bad))
+plan_left-bad_current options session count number status line bad kept is rest =
     let at : NumberedLine = record { number = count + 1; text = line } in
     let lines = numbered (count + 1 + 1) rest.items in
     ap (λ ls. with_status status (planned_pairs options session number ls rest.fault)) (configuration_lines-kept at lines kept)
     ∙ ap (with_status status) (pairs-first options session number at (Err bad) (configuration_lines lines) rest.fault is ∙ pairs_within-bad options session number bad (configuration_lines lines) rest.fault)
-plan_left-bad options session count number (Some now) status line bad kept is rest =
+
+-- .. and the second
+pub plan_left-bad_target : (options : PlanOptions) (session : SessionState) (count number : ℕ) (current : Current) (status : Status) (line : List ℕ) (bad : PlanInputFault) →
+    is_skipped line ≡ false → pair_to options (record { number = count + 1; text = line }) current ≡ Err bad → (rest : Script (List ℕ)) →
+    plan_left options session count number (Some current) status (prepended (line ∷ []) rest) ≡ ends (Err (Configurations bad))
+plan_left-bad_target options session count number current status line bad kept is rest =
     let at : NumberedLine = record { number = count + 1; text = line } in
     let lines = numbered (count + 1 + 1) rest.items in
-    ap (λ ls. with_status status (pairs_within options session number (Ok now) ls rest.fault)) (configuration_lines-kept at lines kept)
-    ∙ ap (λ actual. with_status status (pair_with options session number (paired now actual) (configuration_lines lines) rest.fault)) is
+    ap (λ ls. with_status status (pairs_within options session number (Ok current) ls rest.fault)) (configuration_lines-kept at lines kept)
+    ∙ ap (λ actual. with_status status (pair_with options session number actual (configuration_lines lines) rest.fault)) is
 
 -- the end of the input
-pub plan_left-fault : (options : PlanOptions) (session : SessionState) (count number : ℕ) (now : Option Configuration) (status : Status) (fault : FileFault) →
+pub plan_left-fault : (options : PlanOptions) (session : SessionState) (count number : ℕ) (now : Option Current) (status : Status) (fault : FileFault) →
     plan_left options session count number now status (script [] (Some fault)) ≡ ends (Err (ScriptFault fault))
 plan_left-fault options session count number now status fault = grind arith
 
-pub plan_left-within : (options : PlanOptions) (session : SessionState) (count number : ℕ) (now : Option Configuration) (status : Status) → is_some now ≡ true →
-    plan_left options session count number now status (script [] None) ≡ ends (Err (Configurations NotTwoLines))
-plan_left-within options session count number now status there = grind arith
+pub plan_left-within : (options : PlanOptions) (session : SessionState) (count number : ℕ) (now : Option Current) (current : Current) (status : Status) → now ≡ Some current →
+    plan_left options session count number now status (script [] None) ≡ ends (Err (Configurations (NoTarget current.origin)))
+plan_left-within options session count number now current status is = ap (λ at. plan_left options session count number at status (script [] None)) is
 
-pub plan_left-no_pair : (options : PlanOptions) (session : SessionState) (count number : ℕ) (now : Option Configuration) (status : Status) → is_some now ≡ false → number ≤ 1 →
+pub plan_left-no_pair : (options : PlanOptions) (session : SessionState) (count number : ℕ) (now : Option Current) (status : Status) → now ≡ None → number ≤ 1 →
     plan_left options session count number now status (script [] None) ≡ ends (Err (Configurations NotTwoLines))
-plan_left-no_pair options session count number None status none few = let none_yet : nat_lt 1 number ≡ false = le-ltb 1 number few in simp none_yet refl
-plan_left-no_pair options session count number (Some now) status none few = cc
+plan_left-no_pair options session count number now status none few =
+    let none_yet : nat_lt 1 number ≡ false = le-ltb 1 number few in
+    ap (λ at. plan_left options session count number at status (script [] None)) none ∙ simp none_yet refl
 
-pub plan_left-ended : (options : PlanOptions) (session : SessionState) (count number : ℕ) (now : Option Configuration) (status : Status) → is_some now ≡ false → 1 < number →
+pub plan_left-ended : (options : PlanOptions) (session : SessionState) (count number : ℕ) (now : Option Current) (status : Status) → now ≡ None → 1 < number →
     plan_left options session count number now status (script [] None) ≡ ends (Ok status)
-plan_left-ended options session count number None status none some = let one : nat_lt 1 number ≡ true = lt-ltb 1 number some in simp one (ap ends (worse_of-clean status))
-plan_left-ended options session count number (Some now) status none some = cc
+plan_left-ended options session count number now status none some =
+    let one : nat_lt 1 number ≡ true = lt-ltb 1 number some in
+    ap (λ at. plan_left options session count number at status (script [] None)) none ∙ simp one (ap ends (worse_of-clean status))
 
 -- ---- what was answered after a line
 pub planned-begin : (options : PlanOptions) (session : SessionState) (buffered : Option (List ℕ)) → session ≡ default_session → HasPlanned options session 0 1 None Clean (planned_script options) [] buffered buffered
@@ -157,11 +162,11 @@ planned-begin options session buffered begins = subst (λ s. HasPlanned options 
   valid = tt;
 })
 
-planned-part : (options : PlanOptions) (session session_after : SessionState) (count count_after number number_after : ℕ) (now now_after : Option Configuration) (status status_after : Status) (line text bytes : List ℕ)
+planned-part : (options : PlanOptions) (session session_after : SessionState) (count count_after number number_after : ℕ) (now now_after : Option Current) (status status_after : Status) (line text bytes : List ℕ)
     (total : Script (List ℕ) → Output) (parts : List (List ℕ)) (before mid new : Option (List ℕ)) →
     HasPlanned options session count number now status total parts before mid →
     ((rest : Script (List ℕ)) → plan_left options session count number now status (prepended (line ∷ []) rest) ≡ with_prefix text (plan_left options session_after count_after number_after now_after status_after rest)) →
-    count_after ≡ count + 1 → number_after ≤ number + 1 → IfSome now_after (λ c. is_valid c ≡ true) → bytes ≡ text → Appends mid new bytes →
+    count_after ≡ count + 1 → number_after ≤ number + 1 → IfSome now_after (λ current. is_valid current.config ≡ true) → bytes ≡ text → Appends mid new bytes →
     HasPlanned options session_after count_after number_after now_after status_after total (parts ++ line ∷ []) before new
 planned-part options session session_after count count_after number number_after now now_after status status_after line text bytes total parts before mid new planned gives next few valid same appends = record {
   prefix = wrote-part total (plan_left options session count number now status) (plan_left options session_after count_after number_after now_after status_after) parts line text bytes before mid new planned.prefix gives same appends;
@@ -171,84 +176,110 @@ planned-part options session session_after count count_after number number_after
 }
 
 -- a line that is passed over
-pub planned-passed : (options : PlanOptions) (session : SessionState) (count number : ℕ) (now : Option Configuration) (status : Status) (line : List ℕ) (total : Script (List ℕ) → Output) (parts : List (List ℕ)) (before mid : Option (List ℕ)) →
+pub planned-passed : (options : PlanOptions) (session : SessionState) (count number : ℕ) (now : Option Current) (status : Status) (line : List ℕ) (total : Script (List ℕ) → Output) (parts : List (List ℕ)) (before mid : Option (List ℕ)) →
     is_skipped line ≡ true → HasPlanned options session count number now status total parts before mid → HasPlanned options session (count + 1) number now status total (parts ++ line ∷ []) before mid
 planned-passed options session count number now status line total parts before mid passed planned =
     planned-part options session session count (count + 1) number number now now status status line [] [] total parts before mid mid planned
     (plan_left-passed options session count number now status line passed) refl (omega arith) planned.valid refl (appends-nothing mid)
 
 -- the first line of a pair
-pub planned-first : (options : PlanOptions) (session : SessionState) (count number : ℕ) (now : Option Configuration) (status : Status) (line : List ℕ) (first : Configuration) (total : Script (List ℕ) → Output) (parts : List (List ℕ)) (before mid : Option (List ℕ)) →
-    now ≡ None → is_skipped line ≡ false → current_at (record { number = count + 1; text = line }) ≡ Ok first → is_valid first ≡ true →
+pub planned-first : (options : PlanOptions) (session : SessionState) (count number : ℕ) (now : Option Current) (status : Status) (line : List ℕ) (first : Current) (total : Script (List ℕ) → Output) (parts : List (List ℕ)) (before mid : Option (List ℕ)) →
+    now ≡ None → is_skipped line ≡ false → current_at options (record { number = count + 1; text = line }) ≡ Ok first → is_valid first.config ≡ true →
     HasPlanned options session count number now status total parts before mid → HasPlanned options session (count + 1) number (Some first) status total (parts ++ line ∷ []) before mid
 planned-first options session count number now status line first total parts before mid none kept is valid planned =
     planned-part options session session count (count + 1) number number None (Some first) status status line [] [] total parts before mid mid (subst (λ n. HasPlanned options session count number n status total parts before mid) none planned)
     (plan_left-first options session count number status line first kept is) refl (omega arith) valid refl (appends-nothing mid)
 
 -- the second line
-pub planned-second : (options options_after : PlanOptions) (session session_after : SessionState) (count count_after number number_after : ℕ) (now now_after : Option Configuration) (status status_after : Status) (line : List ℕ) (first second : Configuration)
+pub planned-second : (options options_after : PlanOptions) (session session_after : SessionState) (count count_after number number_after : ℕ) (now now_after : Option Current) (status status_after : Status) (line : List ℕ) (current : Current) (pair : Pair)
     (total : Script (List ℕ) → Output) (parts : List (List ℕ)) (before mid new : Option (List ℕ)) →
-    now ≡ Some first → is_skipped line ≡ false → target_at (record { number = count + 1; text = line }) first ≡ Ok second →
-    options_after ≡ options → session_after ≡ session_between options session first second → count_after ≡ count + 1 → number_after ≡ number + 1 → now_after ≡ None →
-    ◌≡◌ {A = Result Status ToolFault} (Ok status_after) (worse_of status (Ok (plan_status options first second))) → Appends mid new (pair_text options session number first second) →
+    now ≡ Some current → is_skipped line ≡ false → pair_to options (record { number = count + 1; text = line }) current ≡ Ok pair →
+    options_after ≡ options → session_after ≡ session_between options session pair → count_after ≡ count + 1 → number_after ≡ number + 1 → now_after ≡ None →
+    ◌≡◌ {A = Result Status ToolFault} (Ok status_after) (worse_of status (Ok (plan_status options pair))) → Appends mid new (pair_text options session number pair) →
     HasPlanned options session count number now status total parts before mid → HasPlanned options_after session_after count_after number_after now_after status_after total (parts ++ line ∷ []) before new
-planned-second options options_after session session_after count count_after number number_after now now_after status status_after line first second total parts before mid new there kept is same moved next following none worse appends planned =
-    let after = planned-part options session (session_between options session first second) count (count + 1) number (number + 1) (Some first) None status status_after line (pair_text options session number first second) (pair_text options session number first second) total parts before mid new
+planned-second options options_after session session_after count count_after number number_after now now_after status status_after line current pair total parts before mid new there kept is same moved next following none worse appends planned =
+    let after = planned-part options session (session_between options session pair) count (count + 1) number (number + 1) (Some current) None status status_after line (pair_text options session number pair) (pair_text options session number pair) total parts before mid new
     (subst (λ n. HasPlanned options session count number n status total parts before mid) there planned)
-    (plan_left-second options session count number first second status status_after line kept is worse) refl (omega arith) tt refl appends in
+    (plan_left-second options session count number current pair status status_after line kept is worse) refl (omega arith) tt refl appends in
     rw (same, moved, next, following, none) after
 
 -- .. whose output is broken off
-pub planned-broken : (options : PlanOptions) (session : SessionState) (count number : ℕ) (now : Option Configuration) (status : Status) (line : List ℕ) (first second : Configuration)
+pub planned-broken : (options : PlanOptions) (session : SessionState) (count number : ℕ) (now : Option Current) (status : Status) (line : List ℕ) (current : Current) (pair : Pair)
     (total : Script (List ℕ) → Output) (parts more : List (List ℕ)) (fault : Option FileFault) (before mid new : Option (List ℕ)) →
-    now ≡ Some first → is_skipped line ≡ false → target_at (record { number = count + 1; text = line }) first ≡ Ok second → AppendsPart mid new (pair_text options session number first second) →
+    now ≡ Some current → is_skipped line ≡ false → pair_to options (record { number = count + 1; text = line }) current ≡ Ok pair → AppendsPart mid new (pair_text options session number pair) →
     HasPlanned options session count number now status total parts before mid → AppendsPart before new (total (script (parts ++ line ∷ more) fault)).text
-planned-broken options session count number now status line first second total parts more fault before mid new there kept is cut planned =
-    wrote-broken total (plan_left options session count number (Some first) status) (plan_left options (session_between options session first second) (count + 1) (number + 1) None (worse status (plan_status options first second))) parts line
-    (pair_text options session number first second) (pair_text options session number first second) before mid new (subst (λ n. HasPlanned options session count number n status total parts before mid) there planned).prefix
-    (plan_left-second options session count number first second status (worse status (plan_status options first second)) line kept is (worse-is status (plan_status options first second))) refl cut more fault
+planned-broken options session count number now status line current pair total parts more fault before mid new there kept is cut planned =
+    wrote-broken total (plan_left options session count number (Some current) status) (plan_left options (session_between options session pair) (count + 1) (number + 1) None (worse status (plan_status options pair))) parts line
+    (pair_text options session number pair) (pair_text options session number pair) before mid new (subst (λ n. HasPlanned options session count number n status total parts before mid) there planned).prefix
+    (plan_left-second options session count number current pair status (worse status (plan_status options pair)) line kept is (worse-is status (plan_status options pair))) refl cut more fault
 
--- a line with an error stops the run, by what was read before it
-pub planned-stop : (options : PlanOptions) (session : SessionState) (count number : ℕ) (now was : Option Configuration) (status : Status) (line : List ℕ) (stop : ToolFault) (mid : Option (List ℕ)) →
-    now ≡ was → is_skipped line ≡ false → IsFaultOf (read_at was (record { number = count + 1; text = line })) stop →
+-- a line with an error stops the run
+planned-stop : {A : Type 0} (options : PlanOptions) (session : SessionState) (count number : ℕ) (now was : Option Current) (status : Status) (line : List ℕ) (read : Result A PlanInputFault) (stop : ToolFault) (mid : Option (List ℕ)) → now ≡ was →
+    ((bad : PlanInputFault) → read ≡ Err bad → (rest : Script (List ℕ)) → plan_left options session count number was status (prepended (line ∷ []) rest) ≡ ends (Err (Configurations bad))) →
+    IsFaultOf read stop →
     IsStop OfPlan stop ((total : Script (List ℕ) → Output) (parts more : List (List ℕ)) (fault : Option FileFault) (before : Option (List ℕ)) →
     HasPlanned options session count number now status total parts before mid → Wrote (total (script (parts ++ line ∷ more) fault)) (Err stop) before mid)
-planned-stop options session count number now was status line stop mid is kept = by
+planned-stop {A} options session count number now was status line read stop mid is ended = by
   where
     Whole : ToolFault → Type 0
     Whole s = (total : Script (List ℕ) → Output) (parts more : List (List ℕ)) (fault : Option FileFault) (before : Option (List ℕ)) →
         HasPlanned options session count number now status total parts before mid → Wrote (total (script (parts ++ line ∷ more) fault)) (Err s) before mid
 
-    by : IsFaultOf (read_at was (record { number = count + 1; text = line })) stop → IsStop OfPlan stop (Whole stop)
+    by : IsFaultOf read stop → IsStop OfPlan stop (Whole stop)
     by (inl memory) = subst (λ s. IsStop OfPlan s (Whole s)) (sym memory) tt
     by (inr bad) =
-        let read = subst (λ n. read_at n (record { number = count + 1; text = line }) ≡ Err bad.0) (sym is) bad.2 in
         subst (λ s. IsStop OfPlan s (Whole s)) (sym bad.1) (
           tt,
           λ total parts more fault before planned.
-              wrote-all total (plan_left options session count number now status) parts line (Err (Configurations bad.0)) before mid planned.prefix (plan_left-bad options session count number now status line bad.0 kept read) more fault,
+              wrote-all total (plan_left options session count number was status) parts line (Err (Configurations bad.0)) before mid
+              (subst (λ n. HasPlanned options session count number n status total parts before mid) is planned).prefix (ended bad.0 bad.2) more fault,
         )
+
+-- .. the first line of a pair
+pub stop-at_current : (options : PlanOptions) (session : SessionState) (count number : ℕ) (now : Option Current) (status : Status) (line : List ℕ) (stop : ToolFault) (mid : Option (List ℕ)) →
+    now ≡ None → is_skipped line ≡ false → IsFaultOf (current_at options (record { number = count + 1; text = line })) stop →
+    IsStop OfPlan stop ((total : Script (List ℕ) → Output) (parts more : List (List ℕ)) (fault : Option FileFault) (before : Option (List ℕ)) →
+    HasPlanned options session count number now status total parts before mid → Wrote (total (script (parts ++ line ∷ more) fault)) (Err stop) before mid)
+stop-at_current options session count number now status line stop mid is kept =
+    planned-stop options session count number now None status line (current_at options (record { number = count + 1; text = line })) stop mid is
+    (λ bad read rest. plan_left-bad_current options session count number status line bad kept read rest)
+
+-- .. or the second
+pub stop-at_target : (options : PlanOptions) (session : SessionState) (count number : ℕ) (now : Option Current) (current : Current) (status : Status) (line : List ℕ) (stop : ToolFault) (mid : Option (List ℕ)) →
+    now ≡ Some current → is_skipped line ≡ false → IsFaultOf (pair_to options (record { number = count + 1; text = line }) current) stop →
+    IsStop OfPlan stop ((total : Script (List ℕ) → Output) (parts more : List (List ℕ)) (fault : Option FileFault) (before : Option (List ℕ)) →
+    HasPlanned options session count number now status total parts before mid → Wrote (total (script (parts ++ line ∷ more) fault)) (Err stop) before mid)
+stop-at_target options session count number now current status line stop mid is kept =
+    planned-stop options session count number now (Some current) status line (pair_to options (record { number = count + 1; text = line }) current) stop mid is
+    (λ bad read rest. plan_left-bad_target options session count number current status line bad kept read rest)
 
 -- .. and no write has failed
 pub stop-unwritten : (X : Type 0) {A : Type 0} (read : Result A PlanInputFault) (stop : ToolFault) (mark : Bool) → IsFaultOf read stop → mark ≡ (mark || is_write_failure {X = X} (Err stop))
 stop-unwritten X read stop mark (inl memory) = subst (λ s. mark ≡ (mark || is_write_failure {X = X} (Err s))) (sym memory) (sym (or-false mark))
 stop-unwritten X read stop mark (inr bad) = subst (λ s. mark ≡ (mark || is_write_failure {X = X} (Err s))) (sym bad.1) (sym (or-false mark))
 
+-- ---- the pair of a current configuration and the target that is written there
+-- what is wrong with the target is wrong with the pair
+pub pair-bad : (options : PlanOptions) (origin : Origin) (text : List ℕ) (current : Current) (fault : ToolFault) →
+    IsFaultOf (written_at origin (target_in current.config text)) fault → IsFaultOf (pair_from options origin text current) fault
+pair-bad options origin text current fault (inl memory) = inl memory
+pair-bad options origin text current fault (inr bad) = inr (bad.0, bad.1, ap (paired options origin current) bad.2)
+
 -- ---- the pair of two texts
-pub texts-from : (from to : List ℕ) (fault : ToolFault) → IsFaultOf (written_at From (current_in from)) fault → IsFaultOf (pair_of_texts from to) fault
-texts-from from to fault (inl memory) = inl memory
-texts-from from to fault (inr bad) = inr (bad.0, bad.1, ap (with_target (λ now. written_at To (target_in now to))) bad.2)
+pub texts-from : (options : PlanOptions) (from to : List ℕ) (fault : ToolFault) → IsFaultOf (current_written options From from) fault → IsFaultOf (pair_of_texts options from to) fault
+texts-from options from to fault (inl memory) = inl memory
+texts-from options from to fault (inr bad) = inr (bad.0, bad.1, ap (with_target (pair_from options To to)) bad.2)
 
-pub texts-to : (from to : List ℕ) (now : Configuration) (fault : ToolFault) → written_at From (current_in from) ≡ Ok now → IsFaultOf (written_at To (target_in now to)) fault →
-    IsFaultOf (pair_of_texts from to) fault
-texts-to from to now fault is (inl memory) = inl memory
-texts-to from to now fault is (inr bad) = inr (bad.0, bad.1, ap (with_target (λ c. written_at To (target_in c to))) is ∙ ap (paired now) bad.2)
+pub texts-to : (options : PlanOptions) (from to : List ℕ) (current : Current) (fault : ToolFault) → current_written options From from ≡ Ok current → IsFaultOf (pair_from options To to current) fault →
+    IsFaultOf (pair_of_texts options from to) fault
+texts-to options from to current fault is (inl memory) = inl memory
+texts-to options from to current fault is (inr bad) = inr (bad.0, bad.1, ap (with_target (pair_from options To to)) is ∙ bad.2)
 
-pub texts-read : (from to : List ℕ) (now target : Configuration) → written_at From (current_in from) ≡ Ok now → written_at To (target_in now to) ≡ Ok target → pair_of_texts from to ≡ Ok (now, target)
-texts-read from to now target first second = ap (with_target (λ c. written_at To (target_in c to))) first ∙ ap (paired now) second
+pub texts-read : (options : PlanOptions) (from to : List ℕ) (current : Current) (pair : Pair) → current_written options From from ≡ Ok current → pair_from options To to current ≡ Ok pair → pair_of_texts options from to ≡ Ok pair
+texts-read options from to current pair first second = ap (with_target (pair_from options To to)) first ∙ second
 
 -- a text with an error stops the run
-pub texts-stop : (options : PlanOptions) (from to : List ℕ) (fault : ToolFault) (buffered : Option (List ℕ)) → IsFaultOf (pair_of_texts from to) fault → Means (planned_texts options from to) (Err fault) buffered buffered
+pub texts-stop : (options : PlanOptions) (from to : List ℕ) (fault : ToolFault) (buffered : Option (List ℕ)) → IsFaultOf (pair_of_texts options from to) fault → Means (planned_texts options from to) (Err fault) buffered buffered
 unfolding planned_texts
 texts-stop options from to fault buffered (inl memory) =
     subst (λ f. Means (planned_texts options from to) (Err f) buffered buffered) (sym memory) (part-nothing buffered (planned_texts options from to).text)
@@ -257,20 +288,20 @@ texts-stop options from to fault buffered (inr bad) =
     (subst (λ pair. Wrote (pair_then options default_session 1 pair (ends (Ok Clean))) (Err (Configurations bad.0)) buffered buffered) (sym bad.2) (refl, appends-nothing buffered))
 
 -- the output for two texts that are a pair
-pub texts-planned : (options : PlanOptions) (from to : List ℕ) (now target : Configuration) → ◌≡◌ {A = Result (Configuration × Configuration) PlanInputFault} (pair_of_texts from to) (Ok (now, target)) →
-    planned_texts options from to ≡ record { text = pair_text options default_session 1 now target; outcome = Ok (plan_status options now target) }
+pub texts-planned : (options : PlanOptions) (from to : List ℕ) (pair : Pair) → ◌≡◌ {A = Result Pair PlanInputFault} (pair_of_texts options from to) (Ok pair) →
+    planned_texts options from to ≡ record { text = pair_text options default_session 1 pair; outcome = Ok (plan_status options pair) }
 unfolding planned_texts
-texts-planned options from to now target is =
-    ap (λ (pair : Result (Configuration × Configuration) PlanInputFault). pair_then options default_session 1 pair (ends (Ok Clean))) is
-    ∙ ap (λ (text : List ℕ). record { text = text; outcome = worse_of (plan_status options now target) (Ok Clean) }) (append-nil (pair_text options default_session 1 now target))
-    ∙ ap (λ (outcome : Result Status ToolFault). record { text = pair_text options default_session 1 now target; outcome = outcome }) (worse_of-clean (plan_status options now target))
+texts-planned options from to pair is =
+    ap (λ (read : Result Pair PlanInputFault). pair_then options default_session 1 read (ends (Ok Clean))) is
+    ∙ ap (λ (text : List ℕ). record { text = text; outcome = worse_of (plan_status options pair) (Ok Clean) }) (append-nil (pair_text options default_session 1 pair))
+    ∙ ap (λ (outcome : Result Status ToolFault). record { text = pair_text options default_session 1 pair; outcome = outcome }) (worse_of-clean (plan_status options pair))
 
 -- .. and no read has failed
-pub texts-unread : (read : Result (Configuration × Configuration) PlanInputFault) (stop : ToolFault) → IsFaultOf read stop → is_read_failure {X = Status} (Err stop) ≡ false
+pub texts-unread : (read : Result Pair PlanInputFault) (stop : ToolFault) → IsFaultOf read stop → is_read_failure {X = Status} (Err stop) ≡ false
 texts-unread read stop (inl memory) = subst (λ s. is_read_failure {X = Status} (Err s) ≡ false) (sym memory) refl
 texts-unread read stop (inr bad) = subst (λ s. is_read_failure {X = Status} (Err s) ≡ false) (sym bad.1) refl
 
 -- a reply fails only if memory runs out
-pub texts-memory : {X : Type 0} (result : Result X ToolFault) (read : Result (Configuration × Configuration) PlanInputFault) → IsOkUnless result NoMemory → IfErr result (IsFaultOf read)
+pub texts-memory : {X : Type 0} (result : Result X ToolFault) (read : Result Pair PlanInputFault) → IsOkUnless result NoMemory → IfErr result (IsFaultOf read)
 texts-memory (Ok x) read memory = tt
 texts-memory (Err fault) read memory = inl memory

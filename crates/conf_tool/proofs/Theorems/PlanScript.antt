@@ -34,13 +34,14 @@ use Rattle.conf_tool.specs.PlanAnswer.{text_as, no_plan_comment, no_plan_text, p
 use Rattle.conf_tool.specs.PlanScript.{note_items, restore_command, restore_directive, script_items, default_session, script_text}
 use Rattle.conf_tool.specs.Reports.{session_after_all, answered_entries, answered_text}
 use Rattle.conf_tool.specs.UndoScript.{comment, step_directive, step_items}
+use Rattle.conf_tool.specs.declared.pair.Pair.{Pair}
 use Rattle.conf_tool.specs.declared.plan_input_fault.PlanInputFault.{PlanInputFault}
 use Rattle.conf_tool.specs.declared.plan_options.PlanOptions.{PlanOptions}
 use Rattle.conf_tool.specs.declared.plan_options.PlanOutput.TheVariants.{Script}
 use Rattle.conf_tool.specs.declared.status.Status.TheVariants.{Clean}
 use Rattle.conf_tool.proofs.Modes.Undo.{session-append, text-append}
 use Rattle.conf_tool.proofs.Theorems.JoinedScript.{bytes-line, comment-read, step-keys, steps-read}
-use Rattle.conf_tool.proofs.Theorems.PairByPair.{Pair, planned-text}
+use Rattle.conf_tool.proofs.Theorems.PairByPair.{planned-text}
 use Rattle.conf_tool.proofs.Theorems.RewrittenScript.{ActualIsValid, CanBeRead, read-append, written-clean}
 
 abbrev pub Answered : Type 0
@@ -53,7 +54,7 @@ items_with down now (Ok steps) = script_items (stall_note down now steps) now st
 items_with down now (Err why) = comment (codes "no plan: " ++ why) ∷ []
 
 abbrev pub pair_items : PlanOptions → Pair → List Item
-pair_items options pair = items_with options.down pair.0 (path_between options pair.0 pair.1)
+pair_items options pair = items_with options.down pair.current (path_between options pair)
 
 -- The empty line before the next pair is an item where the items end in a comment. Where they end in a directive, it
 -- is the end of that.
@@ -63,7 +64,7 @@ gap_with (Ok []) = Blank ([] ∷ []) ∷ []
 gap_with (Ok (step ∷ steps)) = []
 
 abbrev pub gap : PlanOptions → Pair → List Item
-gap options pair = gap_with (path_between options pair.0 pair.1)
+gap options pair = gap_with (path_between options pair)
 
 -- the items of all pairs
 abbrev pub all_items : PlanOptions → List Pair → List Item
@@ -72,12 +73,12 @@ all_items options (pair ∷ []) = pair_items options pair
 all_items options (pair ∷ next ∷ pairs) = (pair_items options pair ++ gap options pair) ++ all_items options (next ∷ pairs)
 
 -- a pair has a path, or one of three reasons why it has none
-pub path_between-cases : (options : PlanOptions) (now target : Configuration) (P : Answered → Type 0) → ((steps : List Step) → P (Ok steps)) →
-    P (Err (codes "the current configuration has no voter")) → P (Err (codes "the target has no voter")) → P (Err (codes "the target is joint")) → P (path_between options now target)
-path_between-cases options now target P path no_now no_target joint = by (has_voter now) (has_voter target) (has_path options.strategy now target)
+pub path_between-cases : (options : PlanOptions) (pair : Pair) (P : Answered → Type 0) → ((steps : List Step) → P (Ok steps)) →
+    P (Err (codes "the current configuration has no voter")) → P (Err (codes "the target has no voter")) → P (Err (codes "the target is joint")) → P (path_between options pair)
+path_between-cases options pair P path no_now no_target joint = by (has_voter pair.current) (has_voter pair.target) (has_path pair.strategy pair.current pair.target)
   where
     steps : List Step
-    steps = path_by options.strategy (ids_down options.down) now target
+    steps = path_by pair.strategy (ids_down options.down) pair.current pair.target
 
     by : (a b c : Bool) → P (if a then (if b then (if c then Ok steps else Err (codes "the target is joint")) else Err (codes "the target has no voter")) else Err (codes "the current configuration has no voter"))
     by false b c = no_now
@@ -126,7 +127,7 @@ script-read given down now steps =
 
 pair-read : DirectiveIsWellFormed → (options : PlanOptions) (pair : Pair) → CanBeRead (pair_items options pair)
 pair-read given options pair =
-    path_between-cases options pair.0 pair.1 (λ path. CanBeRead (items_with options.down pair.0 path)) (script-read given options.down pair.0) (comment-read _ refl) (comment-read _ refl) (comment-read _ refl)
+    path_between-cases options pair (λ path. CanBeRead (items_with options.down pair.current path)) (script-read given options.down pair.current) (comment-read _ refl) (comment-read _ refl) (comment-read _ refl)
 
 blank-read : CanBeRead (Blank ([] ∷ []) ∷ [])
 blank-read = record { given = (record { number = 1; lines = [] ∷ []; are_lines = refl; first = Blank ([] ∷ []); is_first = refl; is = refl }, tt); keys = refl; short = refl }
@@ -141,29 +142,29 @@ all-read given options [] = record { given = tt; keys = refl; short = refl }
 all-read given options (pair ∷ []) = pair-read given options pair
 all-read given options (pair ∷ next ∷ pairs) =
     read-append (pair_items options pair ++ gap options pair) (all_items options (next ∷ pairs))
-    (read-append (pair_items options pair) (gap options pair) (pair-read given options pair) (gap-read (path_between options pair.0 pair.1))) (all-read given options (next ∷ pairs))
+    (read-append (pair_items options pair) (gap options pair) (pair-read given options pair) (gap-read (path_between options pair))) (all-read given options (next ∷ pairs))
 
 -- ---- what is written of a pair
 -- the text of the items of a pair, as a script of its own
 abbrev own_text : SessionState → List Item → List ℕ
 own_text session items = rewritten_text (answered_entries session items)
 
-reply-script : (options : PlanOptions) (session : SessionState) (number : ℕ) (now target : Configuration) → options.output ≡ Script →
-    reply_text options session number now (path_between options now target) ≡ own_text session (items_with options.down now (path_between options now target))
+reply-script : (options : PlanOptions) (session : SessionState) (number : ℕ) (pair : Pair) → options.output ≡ Script →
+    reply_text options session number pair.current (path_between options pair) ≡ own_text session (items_with options.down pair.current (path_between options pair))
 unfolding script_text
-reply-script options session number now target script =
-    path_between-cases options now target (λ path. reply_text options session number now path ≡ own_text session (items_with options.down now path))
-    (λ steps. ap (λ output. text_as output session number options.down now steps) script)
+reply-script options session number pair script =
+    path_between-cases options pair (λ path. reply_text options session number pair.current path ≡ own_text session (items_with options.down pair.current path))
+    (λ steps. ap (λ output. text_as output session number options.down pair.current steps) script)
     (none (codes "the current configuration has no voter")) (none (codes "the target has no voter")) (none (codes "the target is joint"))
   where
     none : (why : List ℕ) → no_plan_text options.output number why ≡ no_plan_comment why
     none why = ap (λ output. no_plan_text output number why) script
 
-pub session-script : (options : PlanOptions) (session : SessionState) (pair : Pair) → options.output ≡ Script → session_between options session pair.0 pair.1 ≡ session_after_all session (pair_items options pair)
-session-script options session pair script = by (path_between options pair.0 pair.1)
+pub session-script : (options : PlanOptions) (session : SessionState) (pair : Pair) → options.output ≡ Script → session_between options session pair ≡ session_after_all session (pair_items options pair)
+session-script options session pair script = by (path_between options pair)
   where
-    by : (path : Answered) → session_with options session pair.0 path ≡ session_after_all session (items_with options.down pair.0 path)
-    by (Ok steps) = ap (λ output. session_as output session options.down pair.0 steps) script
+    by : (path : Answered) → session_with options session pair.current path ≡ session_after_all session (items_with options.down pair.current path)
+    by (Ok steps) = ap (λ output. session_as output session options.down pair.current steps) script
     by (Err why) = refl
 
 -- the text of an item with this output
@@ -248,20 +249,20 @@ steps-then holds session items step (next ∷ steps) =
 -- so the empty line after the script of a pair is that after its items
 pair-then : ActualIsValid → (options : PlanOptions) (session : SessionState) (pair : Pair) → own_text session (pair_items options pair) ++ newline ≡ answered_text session (pair_items options pair ++ gap options pair)
 pair-then holds options session pair =
-    path_between-cases options pair.0 pair.1 (λ path. own_text session (items_with options.down pair.0 path) ++ newline ≡ answered_text session (items_with options.down pair.0 path ++ gap_with path))
+    path_between-cases options pair (λ path. own_text session (items_with options.down pair.current path) ++ newline ≡ answered_text session (items_with options.down pair.current path ++ gap_with path))
     by_path refl refl refl
   where
     front : List Step → List Item
-    front steps = note_items (stall_note options.down pair.0 steps) ++ restore_directive pair.0 ∷ []
+    front steps = note_items (stall_note options.down pair.current steps) ++ restore_directive pair.current ∷ []
 
-    by_path : (steps : List Step) → own_text session (items_with options.down pair.0 (Ok steps)) ++ newline ≡ answered_text session (items_with options.down pair.0 (Ok steps) ++ gap_with (Ok steps))
+    by_path : (steps : List Step) → own_text session (items_with options.down pair.current (Ok steps)) ++ newline ≡ answered_text session (items_with options.down pair.current (Ok steps) ++ gap_with (Ok steps))
     by_path [] =
         subst (λ all. own_text session all ++ newline ≡ answered_text session (all ++ Blank ([] ∷ []) ∷ []))
-        (append_assoc (note_items (stall_note options.down pair.0 [])) (restore_directive pair.0 ∷ []) (step_items []))
+        (append_assoc (note_items (stall_note options.down pair.current [])) (restore_directive pair.current ∷ []) (step_items []))
         (after-comment session (front []) (codes "nothing to d") 111 refl)
     by_path (step ∷ steps) =
         subst (λ all. own_text session all ++ newline ≡ answered_text session (all ++ []))
-        (append_assoc (note_items (stall_note options.down pair.0 (step ∷ steps))) (restore_directive pair.0 ∷ []) (step_items (step ∷ steps)))
+        (append_assoc (note_items (stall_note options.down pair.current (step ∷ steps))) (restore_directive pair.current ∷ []) (step_items (step ∷ steps)))
         (steps-then holds session (front (step ∷ steps)) step steps ∙ ap (answered_text session) (sym (append-nil (front (step ∷ steps) ++ step_items (step ∷ steps)))))
 
 -- ---- the text of all pairs
@@ -283,8 +284,8 @@ script-long session (Some note) now steps more = tt
 
 pair-long : (options : PlanOptions) (session : SessionState) (pair : Pair) (more : List Item) → IsLong (answered_text session (pair_items options pair ++ more))
 pair-long options session pair more =
-    path_between-cases options pair.0 pair.1 (λ path. IsLong (answered_text session (items_with options.down pair.0 path ++ more)))
-    (λ steps. script-long session (stall_note options.down pair.0 steps) pair.0 steps more) tt tt tt
+    path_between-cases options pair (λ path. IsLong (answered_text session (items_with options.down pair.current path ++ more)))
+    (λ steps. script-long session (stall_note options.down pair.current steps) pair.current steps more) tt tt tt
 
 all-long : (options : PlanOptions) (session : SessionState) (pair : Pair) (pairs : List Pair) → IsLong (answered_text session (all_items options (pair ∷ pairs)))
 all-long options session pair [] = subst (λ items. IsLong (answered_text session items)) (append-nil (pair_items options pair)) (pair-long options session pair [])
@@ -298,16 +299,16 @@ gap-after session path = grind arith
 texts-script : ActualIsValid → (options : PlanOptions) → options.output ≡ Script → (session : SessionState) (number : ℕ) (pairs : List Pair) →
     separated_by newline (texts_from options session number pairs) ≡ own_text session (all_items options pairs)
 texts-script holds options script session number [] = refl
-texts-script holds options script session number (pair ∷ []) = reply-script options session number pair.0 pair.1 script
+texts-script holds options script session number (pair ∷ []) = reply-script options session number pair script
 texts-script holds options script session number (pair ∷ next ∷ pairs) =
     let items = pair_items options pair in
     let between = gap options pair in
     let after = session_after_all session items in
     let more = all_items options (next ∷ pairs) in
     let moved = session-script options session pair script in
-    let rest = texts-script holds options script (session_between options session pair.0 pair.1) (number + 1) (next ∷ pairs) ∙ ap (λ s. own_text s more) moved in
-    let same = session-append session items between ∙ gap-after after (path_between options pair.0 pair.1) in
-    (λ i. reply-script options session number pair.0 pair.1 script i ++ (newline ++ rest i))
+    let rest = texts-script holds options script (session_between options session pair) (number + 1) (next ∷ pairs) ∙ ap (λ s. own_text s more) moved in
+    let same = session-append session items between ∙ gap-after after (path_between options pair) in
+    (λ i. reply-script options session number pair script i ++ (newline ++ rest i))
     ∙ sym (append_assoc (own_text session items) newline (own_text after more))
     ∙ ap (λ t. t ++ own_text after more) (pair-then holds options session pair)
     ∙ sym (double_end-after (answered_text session (items ++ between)) (answered_text after more) (length-long (answered_text after more) (all-long options after next pairs)))
@@ -315,20 +316,20 @@ texts-script holds options script session number (pair ∷ next ∷ pairs) =
     ∙ ap without_double_end (sym (text-append session (items ++ between) more))
 
 pub planned-script : ActualIsValid → (options : PlanOptions) (input : List ℕ) → options.output ≡ Script →
-    (planned_output options input).text ≡ rewritten_text (answered_entries default_session (all_items options (pairs_in input)))
+    (planned_output options input).text ≡ rewritten_text (answered_entries default_session (all_items options (pairs_in options input)))
 planned-script holds options input script =
-    planned-text options input ∙ ap (λ output. separated_by (separator output) (texts_from options default_session 1 (pairs_in input))) script
-    ∙ texts-script holds options script default_session 1 (pairs_in input)
+    planned-text options input ∙ ap (λ output. separated_by (separator output) (texts_from options default_session 1 (pairs_in options input))) script
+    ∙ texts-script holds options script default_session 1 (pairs_in options input)
 
 -- the text for the values of --from and --to
 pub texts_of_pair-script : (options : PlanOptions) (from to : List ℕ) → options.output ≡ Script →
-    (planned_texts options from to).text ≡ rewritten_text (answered_entries default_session (all_items options (pairs_in_texts from to)))
+    (planned_texts options from to).text ≡ rewritten_text (answered_entries default_session (all_items options (pairs_in_texts options from to)))
 unfolding planned_texts
-texts_of_pair-script options from to script = by (pair_of_texts from to)
+texts_of_pair-script options from to script = by (pair_of_texts options from to)
   where
     by : (read : Result Pair PlanInputFault) → (pair_then options default_session 1 read (ends (Ok Clean))).text ≡ own_text default_session (all_items options (pair_before read []))
     by (Err bad) = refl
-    by (Ok pair) = append-nil (plan_text_between options default_session 1 pair.0 pair.1) ∙ reply-script options default_session 1 pair.0 pair.1 script
+    by (Ok pair) = append-nil (plan_text_between options default_session 1 pair) ∙ reply-script options default_session 1 pair script
 
 -- ---- it checks clean
 pub script-clean : WrittenScript → DirectiveIsWellFormed → ActualIsValid → (options : PlanOptions) (pairs : List Pair) (text : List ℕ) →

@@ -37,8 +37,9 @@ use Rattle.conf_tool.specs.PlanAnswer.{path_between}
 use Rattle.conf_tool.specs.PlanScript.{note_items, restore_directive, script_items, default_session}
 use Rattle.conf_tool.specs.Reports.{answered_entries}
 use Rattle.conf_tool.specs.UndoScript.{step_items, TakesSteps}
+use Rattle.conf_tool.specs.declared.pair.Pair.{Pair}
 use Rattle.conf_tool.specs.declared.plan_options.PlanOptions.{PlanOptions}
-use Rattle.conf_tool.proofs.Theorems.PairByPair.{Pair, AreValid, all-valid, texts-valid}
+use Rattle.conf_tool.proofs.Theorems.PairByPair.{AreValid, all-valid, texts-valid}
 use Rattle.conf_tool.proofs.Theorems.PlanScript.{Answered, items_with, gap_with, all_items, all-read, planned-script, script-clean, texts_of_pair-script}
 use Rattle.conf_tool.proofs.Theorems.RewrittenScript.{ActualIsValid, AreAgain, read-again}
 use Rattle.conf_tool.proofs.Theorems.PromisedPaths.{PathsAreRuns}
@@ -101,7 +102,7 @@ directives_with now (Ok steps) = restore_for now ∷ map directive_for steps
 
 abbrev own_directives : PlanOptions → List Pair → List DirectiveText
 own_directives options [] = []
-own_directives options (pair ∷ pairs) = directives_with pair.0 (path_between options pair.0 pair.1) ++ own_directives options pairs
+own_directives options (pair ∷ pairs) = directives_with pair.current (path_between options pair) ++ own_directives options pairs
 
 directives-append : (xs ys : List Item) → directives_of (xs ++ ys) ≡ directives_of xs ++ directives_of ys
 directives-append [] ys = refl
@@ -128,14 +129,14 @@ directives-gap path = grind arith
 
 directives-all : (options : PlanOptions) (pairs : List Pair) → directives_of (all_items options pairs) ≡ own_directives options pairs
 directives-all options [] = refl
-directives-all options (pair ∷ []) = directives-pair options.down pair.0 (path_between options pair.0 pair.1) ∙ sym (append-nil (directives_with pair.0 (path_between options pair.0 pair.1)))
+directives-all options (pair ∷ []) = directives-pair options.down pair.current (path_between options pair) ∙ sym (append-nil (directives_with pair.current (path_between options pair)))
 directives-all options (pair ∷ next ∷ pairs) =
-    let path = path_between options pair.0 pair.1 in
-    let items = items_with options.down pair.0 path in
+    let path = path_between options pair in
+    let items = items_with options.down pair.current path in
     directives-append (items ++ gap_with path) (all_items options (next ∷ pairs))
     ∙ ap (λ ds. ds ++ directives_of (all_items options (next ∷ pairs)))
-    (directives-append items (gap_with path) ∙ ap (λ ds. directives_of items ++ ds) (directives-gap path) ∙ append-nil (directives_of items) ∙ directives-pair options.down pair.0 path)
-    ∙ ap (λ ds. directives_with pair.0 path ++ ds) (directives-all options (next ∷ pairs))
+    (directives-append items (gap_with path) ∙ ap (λ ds. directives_of items ++ ds) (directives-gap path) ∙ append-nil (directives_of items) ∙ directives-pair options.down pair.current path)
+    ∙ ap (λ ds. directives_with pair.current path ++ ds) (directives-all options (next ∷ pairs))
 
 -- ---- they lead through the pairs
 -- what is known of a pair
@@ -144,25 +145,25 @@ record IsKnown (options : PlanOptions) (pair : Pair) : Type 0 where
   u64_ids : HasU64Pair options pair
 
 abbrev AreRuns : Type 0
-AreRuns = (options : PlanOptions) (pair : Pair) (steps : List Step) → AreValid pair → path_between options pair.0 pair.1 ≡ Ok steps → (is_restorable pair.0 ≡ true) × IsRun pair.0 steps pair.1
+AreRuns = (options : PlanOptions) (pair : Pair) (steps : List Step) → AreValid pair → path_between options pair ≡ Ok steps → (is_restorable pair.current ≡ true) × IsRun pair.current steps pair.target
 
 own-leads : IsRestored → DescribesOwn → ChangesAreRead → AreRuns → (options : PlanOptions) (session : SessionState) (pairs : List Pair) → All (IsKnown options) pairs →
     LeadsThrough options session (own_directives options pairs) pairs
 own-leads restored_is own read runs options session [] known = NoPair session
 own-leads restored_is own read runs options session (pair ∷ pairs) known =
-    by_path (path_between options pair.0 pair.1) refl (λ after. own-leads restored_is own read runs options after pairs (All-tail (IsKnown options) pair pairs known))
+    by_path (path_between options pair) refl (λ after. own-leads restored_is own read runs options after pairs (All-tail (IsKnown options) pair pairs known))
   where
     this : IsKnown options pair
     this = All-head (IsKnown options) pair pairs known
 
-    by_path : (path : Answered) → path_between options pair.0 pair.1 ≡ path → ((after : SessionState) → LeadsThrough options after (own_directives options pairs) pairs) →
-        LeadsThrough options session (directives_with pair.0 path ++ own_directives options pairs) (pair ∷ pairs)
+    by_path : (path : Answered) → path_between options pair ≡ path → ((after : SessionState) → LeadsThrough options after (own_directives options pairs) pairs) →
+        LeadsThrough options session (directives_with pair.current path ++ own_directives options pairs) (pair ∷ pairs)
     by_path (Err why) is rest = WithoutPath session (own_directives options pairs) pair pairs why is (rest session)
     by_path (Ok steps) is rest =
         let run = runs options pair steps this.valid is in
-        let first = restore_for pair.0 in
-        let restored_to = restored-current restored_is own session pair.0 this.u64_ids.now run.0 in
-        let comes = run-comes read (answer session first).session steps pair.1 (this.u64_ids.steps steps is) (subst (λ c. IsRun c steps pair.1) (sym restored_to) run.1) in
+        let first = restore_for pair.current in
+        let restored_to = restored-current restored_is own session pair.current this.u64_ids.now run.0 in
+        let comes = run-comes read (answer session first).session steps pair.target (this.u64_ids.steps steps is) (subst (λ c. IsRun c steps pair.target) (sym restored_to) run.1) in
         WithPath session first (map directive_for steps) (own_directives options pairs) pair pairs steps is
         (record { command = refl; restored = restored_to; taken = comes.taken; there = comes.there })
         (rest (after_answers session (first ∷ map directive_for steps)))
@@ -203,20 +204,20 @@ leads-again options session directives again pairs same (WithoutPath at own pair
 
 -- ---- each path is a run
 between-runs : PathsAreRuns → AreRuns
-between-runs runs options pair steps valid is = by (has_voter pair.0) (has_voter pair.1) (has_path options.strategy pair.0 pair.1) refl refl refl is
+between-runs runs options pair steps valid is = by (has_voter pair.current) (has_voter pair.target) (has_path pair.strategy pair.current pair.target) refl refl refl is
   where
     path : List Step
-    path = path_by options.strategy (ids_down options.down) pair.0 pair.1
+    path = path_by pair.strategy (ids_down options.down) pair.current pair.target
 
-    by : (a b c : Bool) → has_voter pair.0 ≡ a → has_voter pair.1 ≡ b → has_path options.strategy pair.0 pair.1 ≡ c →
+    by : (a b c : Bool) → has_voter pair.current ≡ a → has_voter pair.target ≡ b → has_path pair.strategy pair.current pair.target ≡ c →
         ◌≡◌ {A = Answered} (if a then (if b then (if c then Ok path else Err (codes "the target is joint")) else Err (codes "the target has no voter")) else Err (codes "the current configuration has no voter")) (Ok steps) →
-        (is_restorable pair.0 ≡ true) × IsRun pair.0 steps pair.1
+        (is_restorable pair.current ≡ true) × IsRun pair.current steps pair.target
     by false b c x y z e = let wrong : ⊥ = cc in absurd wrong
     by true false c x y z e = let wrong : ⊥ = cc in absurd wrong
     by true true false x y z e = let wrong : ⊥ = cc in absurd wrong
     by true true true x y z e =
         let same : path ≡ steps = cc in
-        (simp (valid.now, x) refl, subst (λ taken. IsRun pair.0 taken pair.1) same (runs options.strategy (ids_down options.down) pair.0 pair.1 (record { valid = valid.now; voter = x }) (record { valid = valid.target; voter = y }) z))
+        (simp (valid.now, x) refl, subst (λ taken. IsRun pair.current taken pair.target) same (runs pair.strategy (ids_down options.down) pair.current pair.target (record { valid = valid.now; voter = x }) (record { valid = valid.target; voter = y }) z))
 
 known-pairs : (options : PlanOptions) (pairs : List Pair) → All AreValid pairs → All (HasU64Pair options) pairs → All (IsKnown options) pairs
 known-pairs options [] valid small = All-nil (IsKnown options)
@@ -241,7 +242,7 @@ text-leads written given holds restored_is own read runs options pairs text vali
 pub script-leads : WrittenScript → DirectiveIsWellFormed → ActualIsValid → IsRestored → DescribesOwn → ChangesAreRead → PathsAreRuns → PlanScriptLeads
 script-leads written given holds restored_is own read runs = record {
   each = λ options input script fits.
-      (text-leads written given holds restored_is own read runs options (pairs_in input) (planned_output options input).text (all-valid input) (planned-script holds options input script) fits);
+      (text-leads written given holds restored_is own read runs options (pairs_in options input) (planned_output options input).text (all-valid options input) (planned-script holds options input script) fits);
   texts = λ options from to script fits.
-      (text-leads written given holds restored_is own read runs options (pairs_in_texts from to) (planned_texts options from to).text (texts-valid from to) (texts_of_pair-script options from to script) fits);
+      (text-leads written given holds restored_is own read runs options (pairs_in_texts options from to) (planned_texts options from to).text (texts-valid options from to) (texts_of_pair-script options from to script) fits);
 }

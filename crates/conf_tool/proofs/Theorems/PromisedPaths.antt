@@ -16,13 +16,14 @@ use Rattle.plan_output.specs.Stages.{AreOnTheWay, stages}
 use Rattle.plan_output.specs.Steps.{ids_down}
 use Rattle.conf_tool.specs.Laws.{IsPromisedPath, LeadsAsPromised, PrintedPathKeepsPromises}
 use Rattle.conf_tool.specs.PlanAnswer.{path_between, reply_text}
+use Rattle.conf_tool.specs.declared.pair.Pair.{Pair}
 use Rattle.conf_tool.specs.declared.plan_options.PlanOptions.{PlanOptions}
 use Rattle.conf_tool.proofs.Theorems.PairByPair.{HoldsOfText, each-printed, pair-printed}
 
 -- where there is a path, its text is printed
-pub path_between-path : (options : PlanOptions) (now target : Configuration) → has_voter now ≡ true → has_voter target ≡ true → has_path options.strategy now target ≡ true →
-    path_between options now target ≡ Ok (path_by options.strategy (ids_down options.down) now target)
-path_between-path options now target a b p = simp (a, b, p) refl
+pub path_between-path : (options : PlanOptions) (pair : Pair) → has_voter pair.current ≡ true → has_voter pair.target ≡ true → has_path pair.strategy pair.current pair.target ≡ true →
+    path_between options pair ≡ Ok (path_by pair.strategy (ids_down options.down) pair.current pair.target)
+path_between-path options pair a b p = simp (a, b, p) refl
 
 -- what holds of the path of a strategy between any two valid configurations with a voter
 abbrev pub HoldsOfPaths : (Strategy → Ids → Configuration → List Step → Configuration → Type 0) → Type 0
@@ -54,26 +55,26 @@ pub record IsGiven : Type 0 where
   pub lines : (strategy : Strategy) (made : Ids) (down : Option Ids) (number : ℕ) (now target : Configuration) → IsValidWithVoter now → IsValidWithVoter target → has_path strategy now target ≡ true →
       LinesLead now now (path_json number now (path_by strategy made now target) down) target
 
-path-leads : IsGiven → (options : PlanOptions) (number : ℕ) (now target : Configuration) → IsValidWithVoter now → IsValidWithVoter target → has_path options.strategy now target ≡ true →
-    LeadsAsPromised options number now (path_by options.strategy (ids_down options.down) now target) target
-path-leads given options number now target voter_now voter_target path =
+path-leads : IsGiven → (options : PlanOptions) (number : ℕ) (pair : Pair) → IsValidWithVoter pair.current → IsValidWithVoter pair.target → has_path pair.strategy pair.current pair.target ≡ true →
+    LeadsAsPromised options number pair (path_by pair.strategy (ids_down options.down) pair.current pair.target)
+path-leads given options number pair voter_now voter_target path =
     let down = ids_down options.down in
-    let steps = path_by options.strategy down now target in
-    let change_by_change = given.change_by_change options.strategy down now target voter_now voter_target path in
+    let steps = path_by pair.strategy down pair.current pair.target in
+    let change_by_change = given.change_by_change pair.strategy down pair.current pair.target voter_now voter_target path in
     record {
-      promised = given.promised options.strategy down now target voter_now voter_target path;
-      on_the_way = given.stages now target steps (paths-run given.promised options.strategy down now target voter_now voter_target path);
+      promised = given.promised pair.strategy down pair.current pair.target voter_now voter_target path;
+      on_the_way = given.stages pair.current pair.target steps (paths-run given.promised pair.strategy down pair.current pair.target voter_now voter_target path);
       change_by_change = change_by_change;
-      single_changes = given.stages now target (one_change_each steps) change_by_change.run;
-      lines = given.lines options.strategy down options.down number now target voter_now voter_target path;
+      single_changes = given.stages pair.current pair.target (one_change_each steps) change_by_change.run;
+      lines = given.lines pair.strategy down options.down number pair.current pair.target voter_now voter_target path;
     }
 
 pair-keeps_promises : IsGiven → (options : PlanOptions) → HoldsOfText options (IsPromisedPath options)
 pair-keeps_promises given options session number pair valid = λ voter_now voter_target path. (
-  path_by options.strategy (ids_down options.down) pair.0 pair.1,
-  path_between-path options pair.0 pair.1 voter_now voter_target path,
-  ap (reply_text options session number pair.0) (path_between-path options pair.0 pair.1 voter_now voter_target path),
-  path-leads given options number pair.0 pair.1 (record { valid = valid.now; voter = voter_now }) (record { valid = valid.target; voter = voter_target }) path,
+  path_by pair.strategy (ids_down options.down) pair.current pair.target,
+  path_between-path options pair voter_now voter_target path,
+  ap (reply_text options session number pair.current) (path_between-path options pair voter_now voter_target path),
+  path-leads given options number pair (record { valid = valid.now; voter = voter_now }) (record { valid = valid.target; voter = voter_target }) path,
 )
 
 pub printed-keeps_promises : IsGiven → PrintedPathKeepsPromises

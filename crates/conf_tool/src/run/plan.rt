@@ -27,7 +27,8 @@ ghost use Rattle.conf_tool.specs.declared.tool_fault.ToolFault.TheVariants.{NoMe
 use super::part_by_part::PartByPart;
 use super::plan_script::default_session;
 use crate::origin::Origin;
-use crate::pair_text::{current_of, is_skipped, target_of};
+use crate::pair::{Current, Pair};
+use crate::pair_text::{current_of, is_skipped, pair_of};
 use crate::pair_texts::PairTexts;
 use crate::plan_answer::plan_answer;
 use crate::plan_input_fault::PlanInputFault;
@@ -35,8 +36,7 @@ use crate::plan_options::{PlanOptions, PlanOutput};
 use crate::status::Status;
 use crate::tool_fault::ToolFault;
 use ascii_text::append::append;
-use conf_change::Config;
-use conf_session::{Session, SessionIds};
+use conf_session::Session;
 use dd_file::device::Sink;
 use dd_file::fault::FileFault;
 use dd_file::line::Line;
@@ -54,8 +54,8 @@ pub(super) struct Planning {
     lines: usize,
     /// The number of the current pair, counted from 1.
     pair: u64,
-    /// The first configuration of that pair, if it was read.
-    now: Option<Config<SessionIds>>,
+    /// The current configuration of that pair, if it was read.
+    now: Option<Current>,
     /// The worst status of the pairs before it.
     status: Status,
 }
@@ -78,20 +78,18 @@ impl Planning {
     }
 
     /// Writes the reply to a pair, and begins the next one.
-    fn write_pair<W: Sink>(
-        &mut self,
-        now: &Config<SessionIds>,
-        target: &Config<SessionIds>,
-        writer: &mut W,
-    ) -> Result<(), ToolFault>
+    fn write_pair<W: Sink>(&mut self, pair: &Pair, writer: &mut W) -> Result<(), ToolFault>
         requires few { self.old.pair < 2 ^ 63 }
-        requires valid_now { is_valid now.now ≡ true }
-        requires valid_target { is_valid target.now ≡ true }
+        requires valid_now { is_valid pair.now.current ≡ true }
+        requires valid_target { is_valid pair.now.target ≡ true }
         ensures next { OnOk result ((self.new.options ≡ self.old.options) × (self.new.lines ≡ self.old.lines) × (self.new.pair ≡ self.old.pair + 1) × (self.new.now ≡ self.old.now)) }
-        ensures session { OnOk result (self.new.session ≡ session_between self.old.options self.old.session now.now target.now) }
-        ensures status { OnOk result (Ok self.new.status ≡ worse_of self.old.status (Ok (plan_status self.old.options now.now target.now))) }
-        ensures written { OnOk result (Appends (W.contents writer.old) (W.contents writer.new) (pair_text self.old.options self.old.session self.old.pair now.now target.now)) }
-        ensures part { OnErr result (AppendsPart (W.contents writer.old) (W.contents writer.new) (pair_text self.old.options self.old.session self.old.pair now.now target.now)) }
+        ensures session { OnOk result (self.new.session ≡ session_between self.old.options self.old.session pair.now) }
+        ensures status { OnOk result
+            (Ok self.new.status ≡ worse_of self.old.status (Ok (plan_status self.old.options pair.now))) }
+        ensures written { OnOk result (Appends (W.contents writer.old) (W.contents writer.new)
+            (pair_text self.old.options self.old.session self.old.pair pair.now)) }
+        ensures part { OnErr result (AppendsPart (W.contents writer.old) (W.contents writer.new)
+            (pair_text self.old.options self.old.session self.old.pair pair.now)) }
         ensures write { W.has_failed writer.new ≡ (W.has_failed writer.old || is_write_failure result) }
         ensures kinds { IfErr result IsAnswerFault }
     {
@@ -100,8 +98,7 @@ impl Planning {
             &self.options,
             &mut self.session,
             self.pair,
-            now,
-            target,
+            pair,
         )?;
         write_all(writer, text.as_slice())?;
         self.pair += 1;
@@ -126,17 +123,16 @@ fn pair_answer(
     options: &PlanOptions,
     session: &mut Session,
     number: u64,
-    now: &Config<SessionIds>,
-    target: &Config<SessionIds>,
+    pair: &Pair,
 ) -> Result<(Vec<u8>, Status), ToolFault>
-    requires valid_now { is_valid now.now ≡ true }
-    requires valid_target { is_valid target.now ≡ true }
-    ensures text { IfOk result (λ answer. answer.0.items ≡ pair_text options.now session.old number now.now target.now) }
-    ensures session { OnOk result (session.new ≡ session_between options.now session.old now.now target.now) }
-    ensures status { IfOk result (λ answer. answer.1 ≡ plan_status options.now now.now target.now) }
+    requires valid_now { is_valid pair.now.current ≡ true }
+    requires valid_target { is_valid pair.now.target ≡ true }
+    ensures text { IfOk result (λ answer. answer.0.items ≡ pair_text options.now session.old number pair.now) }
+    ensures session { OnOk result (session.new ≡ session_between options.now session.old pair.now) }
+    ensures status { IfOk result (λ answer. answer.1 ≡ plan_status options.now pair.now) }
     ensures memory { IsOkUnless result OutOfMemory }
 {
-    let (plan, status) = plan_answer(alloc, options, session, number, now, target)?;
+    let (plan, status) = plan_answer(alloc, options, session, number, pair)?;
     let mut text = separator_before(number, options.output).to_vec(alloc)?;
     append(&mut text, plan.as_slice())?;
     Ok((text, status))
@@ -168,8 +164,8 @@ impl PartByPart<Line> for Planning {
 
     ghost HasAnswered = { λ s. HasPlanned s.options s.session s.lines s.pair s.now s.status };
 
-    // Keeps the configuration of the first line of a pair, and replies to the second. Blank lines and comments are
-    // skipped. A line with an error ends the run.
+    // Keeps the current configuration, which is the first line of a pair, and replies to the second. Blank lines and
+    // comments are skipped. A line with an error ends the run.
     fn answer<W: Sink>(&mut self, line: &Line, writer: &mut W) -> Result<(), ToolFault> {
         self.lines += 1;
         if is_skipped(line.as_slice()) {
@@ -178,17 +174,19 @@ impl PartByPart<Line> for Planning {
         let origin = Origin::Line(self.lines);
         match self.now.take() {
             None => {
-                self.now = Some(current_of(self.alloc, origin, line.as_slice())?);
+                let text = line.as_slice();
+                self.now = Some(current_of(self.alloc, &self.options, origin, text)?);
                 Ok(())
             }
-            Some(now) => {
-                let target = target_of(self.alloc, origin, &now, line.as_slice())?;
-                self.write_pair(&now, &target, writer)
+            Some(current) => {
+                let text = line.as_slice();
+                let pair = pair_of(self.alloc, &self.options, current, origin, text)?;
+                self.write_pair(&pair, writer)
             }
         }
     }
 
-    // An input without a pair, and one that ends after the first line of a pair, is an error.
+    // An input without a pair, and one that ends before the target of a pair, is an error.
     fn end<W: Sink>(
         &mut self,
         fault: Option<FileFault>,
@@ -198,7 +196,11 @@ impl PartByPart<Line> for Planning {
         if let Some(fault) = fault {
             return Err(ToolFault::Script(fault));
         }
-        if self.now.is_some() || self.pair <= 1 {
+        if let Some(current) = &self.now {
+            let missing = PlanInputFault::NoTarget(current.origin);
+            return Err(ToolFault::Configurations(missing));
+        }
+        if self.pair <= 1 {
             return Err(ToolFault::Configurations(PlanInputFault::NotTwoLines));
         }
         Ok(self.status)
@@ -233,41 +235,40 @@ fn texts_answer(
 ) -> Result<(Vec<u8>, Status), ToolFault>
     ensures text { IfOk result (λ answer. (planned_texts options.now texts.entry.from.now texts.entry.to.now).text ≡ answer.0.items) }
     ensures outcome { IfOk result (λ answer. (planned_texts options.now texts.entry.from.now texts.entry.to.now).outcome ≡ Ok answer.1) }
-    ensures fault { IfErr result (IsFaultOf (pair_of_texts texts.entry.from.now texts.entry.to.now)) }
+    ensures fault { IfErr result (IsFaultOf (pair_of_texts options.now texts.entry.from.now texts.entry.to.now)) }
 {
-    let (now, target) = pair_of(alloc, texts.from.as_bytes(), texts.to.as_bytes())?;
-    first_answer(alloc, options, &now, &target)
+    let pair = pair_of_texts(alloc, options, texts.from.as_bytes(), texts.to.as_bytes())?;
+    first_answer(alloc, options, &pair)
 }
 
 // The reply to the first pair of a run, and its status.
 fn first_answer(
     alloc: Global,
     options: &PlanOptions,
-    now: &Config<SessionIds>,
-    target: &Config<SessionIds>,
+    pair: &Pair,
 ) -> Result<(Vec<u8>, Status), ToolFault>
-    requires valid_now { is_valid now.now ≡ true }
-    requires valid_target { is_valid target.now ≡ true }
-    ensures text { IfOk result (λ answer. answer.0.items ≡ pair_text options.now default_session 1 now.now target.now) }
-    ensures status { IfOk result (λ answer. answer.1 ≡ plan_status options.now now.now target.now) }
+    requires valid_now { is_valid pair.now.current ≡ true }
+    requires valid_target { is_valid pair.now.target ≡ true }
+    ensures text { IfOk result (λ answer. answer.0.items ≡ pair_text options.now default_session 1 pair.now) }
+    ensures status { IfOk result (λ answer. answer.1 ≡ plan_status options.now pair.now) }
     ensures memory { IsOkUnless result OutOfMemory }
 {
     let mut session = default_session(alloc)?;
-    pair_answer(alloc, options, &mut session, 1, now, target)
+    pair_answer(alloc, options, &mut session, 1, pair)
 }
 
-// The current configuration and the target that two texts are.
-fn pair_of(
+// The pair that two texts are.
+fn pair_of_texts(
     alloc: Global,
+    options: &PlanOptions,
     from: &[u8],
     to: &[u8],
-) -> Result<(Config<SessionIds>, Config<SessionIds>), ToolFault>
-    ensures pair { IfOk result (λ pair. pair_of_texts from.now to.now ≡ Ok pair) }
-    ensures valid_now { IfOk result (λ pair. is_valid pair.0 ≡ true) }
-    ensures valid_target { IfOk result (λ pair. is_valid pair.1 ≡ true) }
-    ensures fault { IfErr result (IsFaultOf (pair_of_texts from.now to.now)) }
+) -> Result<Pair, ToolFault>
+    ensures pair { IfOk result (λ pair. pair_of_texts options.now from.now to.now ≡ Ok pair) }
+    ensures valid_now { IfOk result (λ pair. is_valid pair.current ≡ true) }
+    ensures valid_target { IfOk result (λ pair. is_valid pair.target ≡ true) }
+    ensures fault { IfErr result (IsFaultOf (pair_of_texts options.now from.now to.now)) }
 {
-    let now = current_of(alloc, Origin::From, from)?;
-    let target = target_of(alloc, Origin::To, &now, to)?;
-    Ok((now, target))
+    let current = current_of(alloc, options, Origin::From, from)?;
+    pair_of(alloc, options, current, Origin::To, to)
 }

@@ -97,7 +97,7 @@ static FLOORS: [(&[&str], Floor); 6] = [
 ];
 
 // Arguments that are refused with a usage error or the help, and the exit status.
-static REFUSED: [(&[&str], i32); 42] = [
+static REFUSED: [(&[&str], i32); 32] = [
     (&["confscript"], 2),
     (&["confscript", "check", "a", "b"], 2),
     (&["confscript", "rewrite", "--history", "1001"], 2),
@@ -124,16 +124,6 @@ static REFUSED: [(&[&str], i32); 42] = [
     (&["confscript", "plan", "--output", ""], 2),
     (&["confscript", "check", "--output", "steps"], 2),
     (&["confscript", "plan", "--down"], 2),
-    (&["confscript", "plan", "--down", ""], 2),
-    (&["confscript", "plan", "--down", "0"], 2),
-    (&["confscript", "plan", "--down", "1,,2"], 2),
-    (&["confscript", "plan", "--down", "1,"], 2),
-    (&["confscript", "plan", "--down", "1 2"], 2),
-    (&["confscript", "plan", "--down", "18446744073709551616"], 2),
-    (&["confscript", "plan", "--from", "voters=(1)"], 2),
-    (&["confscript", "plan", "--to", "v1"], 2),
-    (&["confscript", "plan", "--from=a", "--to=b", "f"], 2),
-    (&["confscript", "plan", "--from", "a", "--to", "b", "-"], 2),
     (&["confscript", "plan", "--from=a", "--from=b", "--to=c"], 2),
     (&["confscript", "check", "--from=a", "--to=b"], 2),
     (&["confscript", "--version"], 0),
@@ -179,65 +169,60 @@ fn accepts_arguments_of_undo(rt: HostRuntime) {
     }
 }
 
-// Arguments of `plan`, and their strategy, output and ids that are down.
-static PLANNING: [(&[&str], Strategy, PlanOutput, Option<&[u64]>); 10] = [
-    (
-        &["confscript", "plan"],
-        Strategy::Shortest,
-        PlanOutput::Steps,
-        None,
-    ),
+// Arguments of `plan`, and their strategy, if it is given, their output, and the ids that are down.
+static PLANNING: [(&[&str], Option<Strategy>, PlanOutput, Option<&[u64]>); 10] = [
+    (&["confscript", "plan"], None, PlanOutput::Steps, None),
     (
         &["confscript", "plan", "--strategy", "shortest"],
-        Strategy::Shortest,
+        Some(Strategy::Shortest),
         PlanOutput::Steps,
         None,
     ),
     (
         &["confscript", "plan", "--strategy", "learners-first", "f"],
-        Strategy::LearnersFirst,
+        Some(Strategy::LearnersFirst),
         PlanOutput::Steps,
         None,
     ),
     (
         &["confscript", "plan", "--strategy=one-at-a-time"],
-        Strategy::OneAtATime,
+        Some(Strategy::OneAtATime),
         PlanOutput::Steps,
         None,
     ),
     (
         &["confscript", "plan", "--output", "steps"],
-        Strategy::Shortest,
+        None,
         PlanOutput::Steps,
         None,
     ),
     (
         &["confscript", "plan", "--output", "script"],
-        Strategy::Shortest,
+        None,
         PlanOutput::Script,
         None,
     ),
     (
         &["confscript", "plan", "--output=table", "--down", "4"],
-        Strategy::Shortest,
+        None,
         PlanOutput::Table,
         Some(&[4]),
     ),
     (
         &["confscript", "plan", "--output", "json"],
-        Strategy::Shortest,
+        None,
         PlanOutput::Json,
         None,
     ),
     (
         &["confscript", "plan", "--down=6,4,06", "f"],
-        Strategy::Shortest,
+        None,
         PlanOutput::Steps,
         Some(&[4, 6]),
     ),
     (
         &["confscript", "plan", "--down", "18446744073709551615,1"],
-        Strategy::Shortest,
+        None,
         PlanOutput::Steps,
         Some(&[1, u64::MAX]),
     ),
@@ -254,7 +239,7 @@ fn are_down(down: &Option<SessionIds>, expected: Option<&[u64]>) -> bool {
 fn have_plan_options(
     rt: &impl Runtime,
     arguments: &[&str],
-    strategy: Strategy,
+    strategy: Option<Strategy>,
     output: PlanOutput,
     down: Option<&[u64]>,
 ) -> bool {
@@ -281,8 +266,8 @@ static PAIRED: [(&[&str], &str, &str); 3] = [
         "v2",
     ),
     (
-        &["confscript", "plan", "--to=--from", "--from="],
-        "",
+        &["confscript", "plan", "--to=--from", "--from=--to"],
+        "--to",
         "--from",
     ),
     (
@@ -323,7 +308,6 @@ fn accepts_initial_next_indexes(rt: HostRuntime) {
 fn status_of(rt: &impl Runtime, arguments: &[&str]) -> Option<i32> {
     match command_line(rt.alloc(), arguments) {
         Err(ArgumentFault::Clap(error)) => Some(error.exit_code()),
-        Err(ArgumentFault::BadIds | ArgumentFault::BadPair) => Some(2),
         _ => None,
     }
 }
@@ -335,5 +319,76 @@ fn refuses_arguments(rt: HostRuntime) {
             status_of(&rt, *arguments) == Some(*status),
             "of {arguments:?}"
         );
+    }
+}
+
+const BAD_IDS: &str = "--down expects ids from 1 with commas between them, as in 4,6";
+
+const HEXADECIMAL: &str =
+    "--down expects ids from 1 with commas between them, as in 4,6; ids are decimal: printf \
+    '%u\\n' 0x8e9e05c52164694d";
+
+const DIGITS_OF_0X: &str =
+    "--down expects ids from 1 with commas between them, as in 4,6; ids are decimal: printf \
+    '%u\\n' 0x12";
+
+const FILE_BESIDE: &str = "FILE f beside --from and --to";
+
+const ID_BESIDE: &str = "FILE 3 beside --from and --to; ids are separated by commas: --down 2,4,3";
+
+// Values of `plan` that are refused, and the error.
+static BAD_VALUES: [(&[&str], &str); 22] = [
+    (&["--down", ""], BAD_IDS),
+    (&["--down", "0"], BAD_IDS),
+    (&["--down", "1,,2"], BAD_IDS),
+    (&["--down", "1,"], BAD_IDS),
+    (&["--down", "1 2"], BAD_IDS),
+    (&["--down", "18446744073709551616"], BAD_IDS),
+    (&["--down", "8e9e05c52164694d"], HEXADECIMAL),
+    (&["--down", "1,0x12,x"], DIGITS_OF_0X),
+    (&["--down", "1,x,0x12"], BAD_IDS),
+    (&["--down", "a1234567890123456"], BAD_IDS),
+    (&["--down", "0x"], BAD_IDS),
+    (&["--down", "x", "--from", "a"], BAD_IDS),
+    (&["--from", "voters=(1)"], "--from needs --to"),
+    (&["--from", "a", "-"], "--from needs --to"),
+    (&["--to", "v1"], "--to needs --from"),
+    (&["--from=a", "--to=b", "f"], FILE_BESIDE),
+    (&["--from=", "--to=b", "f", "--down=2"], FILE_BESIDE),
+    (&["--from=a", "--to=b", "--down", "2,4", "3"], ID_BESIDE),
+    (
+        &["--from=a", "--to=b", "3"],
+        "FILE 3 beside --from and --to",
+    ),
+    (
+        &["--from=a", "--to=b", "--down=1", "-"],
+        "FILE - beside --from and --to",
+    ),
+    (
+        &["--from=a", "--to=b", "--down=1", "0"],
+        "FILE 0 beside --from and --to",
+    ),
+    (&["--from=", "--to="], "--from is empty"),
+];
+
+// Whether values of `plan` are refused with this error.
+fn are_refused(rt: &impl Runtime, values: &[&str], message: &str) -> bool {
+    let mut arguments = Vec::new(rt.alloc());
+    arguments.push("confscript").expect(rt, "memory");
+    arguments.push("plan").expect(rt, "memory");
+    arguments.extend_from_slice(values).expect(rt, "memory");
+    match command_line(rt.alloc(), arguments.as_slice()) {
+        Err(fault) => {
+            let shown = format!(in rt.alloc(); "{fault}").expect(rt, "a message");
+            shown.as_str() == message
+        }
+        Ok(_) => false,
+    }
+}
+
+#[test]
+fn refuses_values_of_plan(rt: HostRuntime) {
+    for (values, message) in &BAD_VALUES {
+        assert!(rt; are_refused(&rt, *values, *message), "of {values:?}");
     }
 }

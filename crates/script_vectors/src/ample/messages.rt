@@ -7,7 +7,7 @@ use conf_plan::{NoPath, PlanFault, PlanTextFault, StepRefused};
 use conf_session::UndoFault;
 use conf_tool::{Origin, PlanInputFault, ToolFault};
 use dd_file::fault::{DeviceFault, FileFault, SyntaxFault, WriteFault};
-use plan_input::TextFault;
+use plan_input::{IdHint, TextFault};
 use quorum_sets::NoMemory;
 use std::fmt::Display;
 use test_vectors::runtime::Runtime;
@@ -252,21 +252,21 @@ const BAD_JSON: &str =
     "line 3: bad JSON: expected {\"voters\":[1,2],\"voters_outgoing\":[],\"learners\":[3],\"learners_next\":[],\
     \"auto_leave\":false}, or etcdctl member list -w json";
 
-static CONFIGURATIONS: [(PlanInputFault, &str); 7] = [
+static CONFIGURATIONS: [(PlanInputFault, &str); 10] = [
     (
         PlanInputFault::BadText(Origin::From, TextFault::UnknownForm),
         UNKNOWN_FORM,
     ),
     (
-        PlanInputFault::BadText(Origin::Line(1), TextFault::BadConfState),
+        PlanInputFault::BadText(Origin::Line(1), TextFault::BadConfState(IdHint::NONE)),
         BAD_LINE,
     ),
     (
-        PlanInputFault::BadText(Origin::To, TextFault::BadPrinted),
+        PlanInputFault::BadText(Origin::To, TextFault::BadPrinted(IdHint::NONE)),
         BAD_PRINTED,
     ),
     (
-        PlanInputFault::BadText(Origin::Line(3), TextFault::BadJson),
+        PlanInputFault::BadText(Origin::Line(3), TextFault::BadJson(IdHint::NONE)),
         BAD_JSON,
     ),
     (
@@ -280,7 +280,16 @@ static CONFIGURATIONS: [(PlanInputFault, &str); 7] = [
         PlanInputFault::BadText(Origin::Line(2), TextFault::NoMemory),
         "line 2: out of memory",
     ),
+    (PlanInputFault::NotAMember(9), "--down: 9 is not a member"),
+    (
+        PlanInputFault::NotAMemberAt(2, 18446744073709551615),
+        "line 2: 18446744073709551615 is down and not a member",
+    ),
     (PlanInputFault::NotTwoLines, "expected two lines"),
+    (
+        PlanInputFault::NoTarget(Origin::Line(3)),
+        "line 3: its target is missing",
+    ),
 ];
 
 static RUNS: [(ToolFault, &str); 7] = [

@@ -6,7 +6,7 @@ use Rattle.clap.proofs.OnLiterals.{clap_on_literals}
 use Rattle.conf_tool.specs.Program.{program}
 use Rattle.conf_tool.specs.CommandLine.{IsInvocation, IsValueFault, IsRefusal}
 use Rattle.conf_tool.specs.declared.argument_fault.ArgumentFault.{ArgumentFault}
-use Rattle.conf_tool.specs.declared.argument_fault.ArgumentFault.TheVariants.{Clap, BadIds, BadPair, NoMemory}
+use Rattle.conf_tool.specs.declared.argument_fault.ArgumentFault.TheVariants.{Clap, BadIds, HexadecimalId, FromAlone, ToAlone, FileBesidePair, IdBesidePair, EmptyFrom, NoMemory}
 use Rattle.conf_tool.specs.declared.invocation.Invocation.{Invocation}
 use Rattle.conf_tool.specs.declared.program.OptionNames.{OptionNames}
 use Rattle.conf_tool.proofs.command_line.read_arguments.Goals as goal
@@ -25,7 +25,12 @@ refused-by_value : (r : Result Invocation ArgumentFault) (app : App) (texts : Li
 refused-by_value (Ok invocation) app texts none fault = none
 refused-by_value (Err (Clap error)) app texts none fault = absurd fault
 refused-by_value (Err BadIds) app texts none fault = (none, fault)
-refused-by_value (Err BadPair) app texts none fault = (none, fault)
+refused-by_value (Err (HexadecimalId token)) app texts none fault = (none, fault)
+refused-by_value (Err FromAlone) app texts none fault = (none, fault)
+refused-by_value (Err ToAlone) app texts none fault = (none, fault)
+refused-by_value (Err (FileBesidePair name)) app texts none fault = (none, fault)
+refused-by_value (Err (IdBesidePair name ids)) app texts none fault = (none, fault)
+refused-by_value (Err EmptyFrom) app texts none fault = (none, fault)
 refused-by_value (Err NoMemory) app texts none fault = tt
 
 pub returns-in_err-matches-clause-refused : goal.returns-in_err-matches-clause-refused

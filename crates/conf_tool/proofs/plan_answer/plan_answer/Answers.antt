@@ -1,36 +1,37 @@
 use Rattle.std.proofs.Common.{◌≡◌, ◌∙◌, ap, false, refl, subst, sym, true}
 use Rattle.std.specs.Prelude.{Err, IfOk, codes}
-use Rattle.conf_change.specs.Configuration.{Configuration, has_voter}
+use Rattle.conf_change.specs.Configuration.{has_voter}
 use Rattle.conf_plan.specs.PathBy.{has_path}
 use Rattle.conf_tool.specs.PlanAnswer.{path_between, reply_text}
+use Rattle.conf_tool.specs.declared.pair.Pair.{Pair}
 use Rattle.conf_tool.specs.declared.plan_options.PlanOptions.{PlanOptions}
 use Rattle.conf_tool.proofs.plan_answer.plan_answer.Goals as goal
 
-no_now : (options : PlanOptions) (now target : Configuration) → has_voter now ≡ false → path_between options now target ≡ Err (codes "the current configuration has no voter")
-no_now options now target none = simp none refl
+no_now : (options : PlanOptions) (pair : Pair) → has_voter pair.current ≡ false → path_between options pair ≡ Err (codes "the current configuration has no voter")
+no_now options pair none = simp none refl
 
-no_target : (options : PlanOptions) (now target : Configuration) → has_voter now ≡ true → has_voter target ≡ false → path_between options now target ≡ Err (codes "the target has no voter")
-no_target options now target some none = simp (some, none) refl
+no_target : (options : PlanOptions) (pair : Pair) → has_voter pair.current ≡ true → has_voter pair.target ≡ false → path_between options pair ≡ Err (codes "the target has no voter")
+no_target options pair some none = simp (some, none) refl
 
-joint : (options : PlanOptions) (now target : Configuration) → has_voter now ≡ true → has_voter target ≡ true → has_path options.strategy now target ≡ false → path_between options now target ≡ Err (codes "the target is joint")
-joint options now target some there none = simp (some, there, none) refl
+joint : (options : PlanOptions) (pair : Pair) → has_voter pair.current ≡ true → has_voter pair.target ≡ true → has_path pair.strategy pair.current pair.target ≡ false → path_between options pair ≡ Err (codes "the target is joint")
+joint options pair some there none = simp (some, there, none) refl
 
 pub returns-in-Err-NoVoterNow-clause-text : goal.returns-in-Err-NoVoterNow-clause-text
 returns-in-Err-NoVoterNow-clause-text c =
     let options = c.args.options.now in
     let why = (c.path_between.ensures.no_voter_now).0 (c.in-Err-NoVoterNow.is ∙ ap Err c.in-Err-NoVoterNow.field-0-is) in
-    subst (λ path. IfOk c.no_plan.result (λ answer. answer.0.items ≡ reply_text options c.args.session.now c.args.number c.args.now.now path)) (sym (no_now options c.args.now.now c.args.target.now why)) c.no_plan.ensures.text
+    subst (λ path. IfOk c.no_plan.result (λ answer. answer.0.items ≡ reply_text options c.args.session.now c.args.number c.args.pair.now.current path)) (sym (no_now options c.args.pair.now why)) c.no_plan.ensures.text
 
 pub returns-in-Err-NoVoterTarget-clause-text : goal.returns-in-Err-NoVoterTarget-clause-text
 returns-in-Err-NoVoterTarget-clause-text c =
     let options = c.args.options.now in
     let why = (c.path_between.ensures.no_voter_target).0 (c.in-Err-NoVoterTarget.is ∙ ap Err c.in-Err-NoVoterTarget.field-0-is) in
-    subst (λ path. IfOk c.no_plan-in-Err-NoVoterTarget.result (λ answer. answer.0.items ≡ reply_text options c.args.session.now c.args.number c.args.now.now path))
-    (sym (no_target options c.args.now.now c.args.target.now why.0 why.1)) c.no_plan-in-Err-NoVoterTarget.ensures.text
+    subst (λ path. IfOk c.no_plan-in-Err-NoVoterTarget.result (λ answer. answer.0.items ≡ reply_text options c.args.session.now c.args.number c.args.pair.now.current path))
+    (sym (no_target options c.args.pair.now why.0 why.1)) c.no_plan-in-Err-NoVoterTarget.ensures.text
 
 pub returns-in-Err-JointTarget-clause-text : goal.returns-in-Err-JointTarget-clause-text
 returns-in-Err-JointTarget-clause-text c =
     let options = c.args.options.now in
     let why = (c.path_between.ensures.joint_target).0 (c.in-Err-JointTarget.is ∙ ap Err c.in-Err-JointTarget.field-0-is) in
-    subst (λ path. IfOk c.no_plan-in-Err-JointTarget.result (λ answer. answer.0.items ≡ reply_text options c.args.session.now c.args.number c.args.now.now path))
-    (sym (joint options c.args.now.now c.args.target.now why.0 why.1 why.2)) c.no_plan-in-Err-JointTarget.ensures.text
+    subst (λ path. IfOk c.no_plan-in-Err-JointTarget.result (λ answer. answer.0.items ≡ reply_text options c.args.session.now c.args.number c.args.pair.now.current path))
+    (sym (joint options c.args.pair.now why.0 why.1 why.2)) c.no_plan-in-Err-JointTarget.ensures.text

@@ -5,5 +5,5 @@ use Rattle.conf_tool.proofs.run.plan.first_answer.Goals as goal
 
 pub returns-clause-text : goal.returns-clause-text
 returns-clause-text c =
-    subst (λ session. IfOk c.pair_answer.result (λ answer. answer.0.items ≡ pair_text c.args.options.now session 1 c.args.now.now c.args.target.now))
+    subst (λ session. IfOk c.pair_answer.result (λ answer. answer.0.items ≡ pair_text c.args.options.now session 1 c.args.pair.now))
     c.in_ok-session.ensures c.pair_answer.ensures.text

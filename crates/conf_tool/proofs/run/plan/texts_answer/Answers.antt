@@ -5,24 +5,24 @@ use Rattle.conf_tool.specs.Outputs.{Output, planned_texts}
 use Rattle.conf_tool.proofs.Modes.Plan.{texts-memory, texts-planned}
 use Rattle.conf_tool.proofs.run.plan.texts_answer.Goals as goal
 
-pub returns-in_err-now-clause-fault : goal.returns-in_err-now-clause-fault
-returns-in_err-now-clause-fault c =
+pub returns-in_err-pair-clause-fault : goal.returns-in_err-pair-clause-fault
+returns-in_err-pair-clause-fault c =
     let p = err_from_is_err_and c.from_residual.result c.from_residual.ensures.1 in
-    rw (p.1, p.2) (rw c.as_bytes.ensures.value at (rw c.as_bytes-2.ensures.value at c.in_err-now.ensures.fault))
+    rw (p.1, p.2) (rw c.as_bytes.ensures.value at (rw c.as_bytes-2.ensures.value at c.in_err-pair.ensures.fault))
 
 pub returns-clause-text : goal.returns-clause-text
 returns-clause-text c =
-    let pair = rw c.as_bytes.ensures.value at (rw c.as_bytes-2.ensures.value at c.in_ok-now.ensures.pair) in
+    let pair = rw c.as_bytes.ensures.value at (rw c.as_bytes-2.ensures.value at c.in_ok-pair.ensures.pair) in
     let output = planned_texts c.args.options.now c.args.texts.from.now c.args.texts.to.now in
     IfOk-weaker c.first_answer.result _ (λ answer. output.text ≡ answer.0.items)
-    (λ answer is. ap (λ (o : Output). o.text) (texts-planned c.args.options.now c.args.texts.from.now c.args.texts.to.now c.in_ok-now.now c.in_ok-now.target pair) ∙ sym is) c.first_answer.ensures.text
+    (λ answer is. ap (λ (o : Output). o.text) (texts-planned c.args.options.now c.args.texts.from.now c.args.texts.to.now c.in_ok-pair.pair pair) ∙ sym is) c.first_answer.ensures.text
 
 pub returns-clause-outcome : goal.returns-clause-outcome
 returns-clause-outcome c =
-    let pair = rw c.as_bytes.ensures.value at (rw c.as_bytes-2.ensures.value at c.in_ok-now.ensures.pair) in
+    let pair = rw c.as_bytes.ensures.value at (rw c.as_bytes-2.ensures.value at c.in_ok-pair.ensures.pair) in
     let output = planned_texts c.args.options.now c.args.texts.from.now c.args.texts.to.now in
     IfOk-weaker c.first_answer.result _ (λ answer. output.outcome ≡ Ok answer.1)
-    (λ answer is. ap (λ (o : Output). o.outcome) (texts-planned c.args.options.now c.args.texts.from.now c.args.texts.to.now c.in_ok-now.now c.in_ok-now.target pair) ∙ ap Ok (sym is)) c.first_answer.ensures.status
+    (λ answer is. ap (λ (o : Output). o.outcome) (texts-planned c.args.options.now c.args.texts.from.now c.args.texts.to.now c.in_ok-pair.pair pair) ∙ ap Ok (sym is)) c.first_answer.ensures.status
 
 pub returns-clause-fault : goal.returns-clause-fault
 returns-clause-fault c = texts-memory _ _ c.first_answer.ensures.memory
