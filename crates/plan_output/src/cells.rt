@@ -44,7 +44,8 @@ fn append_changes(
     names: &Names,
     changes: &[Change],
 ) -> Result<(), NoMemory>
-    ensures { OnOk result (text.new.items ≡ text.old.items ++ flat_map (λ change. 32 ∷ named_change (name_by names.now) change) changes.now) }
+    ensures { OnOk result (text.new.items
+        ≡ text.old.items ++ flat_map (λ change. 32 ∷ named_change (name_by names.now) change) changes.now) }
 {
     for change in changes {
         append(text, b" ")?;
@@ -102,7 +103,8 @@ pub(crate) fn marks_text<S: MemberSet>(
     ids: &S,
     config: &Config<S>,
 ) -> Result<Vec<u8>, NoMemory>
-    ensures { IfOk result (λ text. text.items ≡ spec.marks_text (name_by names.now) (ascending (S.ids ids.now)) config.now) }
+    ensures { IfOk result (λ text. text.items
+        ≡ spec.marks_text (name_by names.now) (ascending (S.ids ids.now)) config.now) }
 {
     let mut text = Vec::new(alloc);
     for index in 0..ids.len() {

@@ -48,9 +48,9 @@ struct Number {
 /// Appends an object for each change that is proposed, each on its own line: for each step of a path one, and for each
 /// change of a simple step one. It has what is proposed to etcd, the configuration after it, and how many failures that
 /// tolerates. With `down` it also has these ids, how many may be down besides them, while the members that have to catch
-/// up do not count either, and whether the path stalls. A path without a step is one line, `{"plan":1,"steps":0}`, or with
-/// `down` `{"down":[4],"plan":1,"stalls":false,"steps":0}`, where `stalls` is `true` if the configuration stalls. `plan` is
-/// the number of the path, as the caller counts. On `NoMemory` the text is unchanged (own).
+/// up do not count either, and whether the path stalls. A path without a step is one line, `{"plan":1,"steps":0}`, or
+/// with `down` `{"down":[4],"plan":1,"stalls":false,"steps":0}`, where `stalls` is `true` if the configuration stalls.
+/// `plan` is the number of the path, as the caller counts. On `NoMemory` the text is unchanged (own).
 pub fn add_json_lines<S: MemberSet>(
     alloc: Global,
     text: &mut Vec<u8>,

@@ -39,8 +39,8 @@ pub fn json_lines_lead_to_the_target()
     run_stays_valid();
 }
 
-/// In a table with an id of more than six digits, the names of the ids are `#1`, `#2`, .. in ascending order. No two ids
-/// have the same name, also if these are digits.
+/// In a table with an id of more than six digits, the names of the ids are `#1`, `#2`, .. in ascending order. In each
+/// table, no two ids have the same name.
 pub fn names_denote_one_id()
     ensures ascending { (ids : Ids) (index : ℕ) → list_any is_long (ascending ids) ≡ true → index < size ids
         → name_by (numbered_of (ascending ids)) (slice_index (ascending ids) index) ≡ codes "#" ++ decimal (index + 1) }
@@ -52,6 +52,7 @@ pub fn names_denote_one_id()
 /// `add_steps` appends, and nothing follows the rows.
 pub fn short_ids_are_their_digits()
     ensures names { (ids : List ℕ) (id : ℕ) → list_any is_long ids ≡ false → name_by (numbered_of ids) id ≡ decimal id }
-    ensures lines { (ids : List ℕ) (step : Step) → list_any is_long ids ≡ false → named_line (name_by (numbered_of ids)) step ≡ line_text step }
+    ensures lines { (ids : List ℕ) (step : Step) → list_any is_long ids ≡ false
+        → named_line (name_by (numbered_of ids)) step ≡ line_text step }
     ensures nothing { (ids : List ℕ) → list_any is_long ids ≡ false → denoted_text (numbered_of ids) ≡ [] }
 {}

@@ -1,5 +1,6 @@
 //! The names of the ids of a table. An id of etcd has 19 or 20 digits, and a table with columns so wide cannot be read.
-//! If an id has more than six digits, the table calls its ids by numbers, and lists after its rows which id each denotes:
+//! If an id has more than six digits, the table calls its ids by numbers, and lists after its rows which id each number
+//! denotes:
 //!
 //! ```text
 //! #1  4                     4

@@ -21,9 +21,9 @@ use conf_plan::{Path, print_path};
 use quorum_sets::{MemberSet, NoMemory, commits_without};
 use std::alloc::Global;
 
-/// The note that a path stalls with the ids that are down, such as `stalls with 4 5 down`. If no step can be made, since
-/// the configuration with which the path begins has no quorum then, it is `no quorum with 4 5 down: no step can be made`.
-/// `None` if the path does not stall, or if no ids are given (own).
+/// The note that a path stalls with the ids that are down, such as `stalls with 4 5 down`. It is `no quorum with 4 5 down:
+/// no step can be made` if the configuration with which the path begins has no quorum then. `None` if the path does not
+/// stall, or if no ids are given (own).
 pub fn stall_note<S: MemberSet>(
     alloc: Global,
     now: &Config<S>,

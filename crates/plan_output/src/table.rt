@@ -32,8 +32,8 @@ use std::alloc::Global;
 /// configuration after it. A row shows who votes and learns there, the majority, how many may be down, who has to catch
 /// up, and how many may be down until then. With `down`, the last column shows how many may be down besides these,
 /// while the members that have to catch up do not count either. Each line ends with a newline. If an id of a column has
-/// more than six digits, these ids are called `#1`, `#2` and so on, and an empty line and a line for each of them follow.
-/// On `NoMemory` the text is unchanged (own).
+/// more than six digits, these ids are called `#1`, `#2` and so on; an empty line and a line for each of them follow. On
+/// `NoMemory` the text is unchanged (own).
 pub fn add_table<S: MemberSet>(
     alloc: Global,
     text: &mut Vec<u8>,
@@ -57,7 +57,8 @@ fn table_of<S: MemberSet>(
     down: Option<&S>,
 ) -> Result<Vec<u8>, NoMemory>
     ensures { IfOk result (λ table. table.items
-        ≡ spec.table_of (ascending (spec.ids_on_the_way stages.now)) stages.now path.now (option_map S.ids (option_copied down.entry))) }
+        ≡ spec.table_of (ascending (spec.ids_on_the_way stages.now)) stages.now path.now
+        (option_map S.ids (option_copied down.entry))) }
 {
     let ids = ids_on_the_way(alloc, stages)?;
     let names = Names::of_columns(alloc, &ids)?;
@@ -77,7 +78,8 @@ fn rows<S: MemberSet>(
     down: Option<&S>,
 ) -> Result<Vec<Row>, NoMemory>
     ensures { IfOk result (λ rows. rows.items
-        ≡ spec.stage_rows (name_by names.now) (ascending (S.ids ids.now)) stages.now path.now (option_map S.ids (option_copied down.entry))) }
+        ≡ spec.stage_rows (name_by names.now) (ascending (S.ids ids.now)) stages.now path.now
+        (option_map S.ids (option_copied down.entry))) }
 {
     let mut rows = Vec::new(alloc);
     rows.push(headings(alloc, names, ids, down)?)?;
@@ -115,7 +117,8 @@ fn headings<S: MemberSet>(
     ids: &S,
     down: Option<&S>,
 ) -> Result<Row, NoMemory>
-    ensures { IfOk result (λ row. row ≡ spec.headings (name_by names.now) (ascending (S.ids ids.now)) (option_map S.ids (option_copied down.entry))) }
+    ensures { IfOk result (λ row. row
+        ≡ spec.headings (name_by names.now) (ascending (S.ids ids.now)) (option_map S.ids (option_copied down.entry))) }
 {
     let mut row = Row::new(alloc);
     row.add(Vec::from_slice(alloc, b"step")?)?;
@@ -152,7 +155,8 @@ fn row<S: MemberSet>(
     stage: &Stage<S>,
 ) -> Result<Row, NoMemory>
     ensures { IfOk result (λ row. row
-        ≡ spec.row (name_by names.now) (ascending (S.ids ids.now)) (option_map S.ids (option_copied down.entry)) name.items stage.now) }
+        ≡ spec.row (name_by names.now) (ascending (S.ids ids.now)) (option_map S.ids (option_copied down.entry)) name.items
+        stage.now) }
 {
     let mut row = Row::new(alloc);
     row.add(name)?;
