@@ -49,7 +49,11 @@ static CHANGED: [(&str, &str, &str); 15] = [
     ("voters=(2 3)&&(1 2)", "v1", "voters=(1 2 3)"),
     ("voters=(1 2)", " l1\tv3\n", "voters=(2 3) learners=(1)"),
     // No change has an effect.
-    ("voters=(1) learners=(2)", "u1 u9 v1 l2 v0", "voters=(1) learners=(2)"),
+    (
+        "voters=(1) learners=(2)",
+        "u1 u9 v1 l2 v0",
+        "voters=(1) learners=(2)",
+    ),
     // The last effective change of an id counts.
     ("voters=(1)", "v2 l2", "voters=(1) learners=(2)"),
     ("voters=(1 2)", "v2 l2 r2 u2", "voters=(1)"),
@@ -164,7 +168,10 @@ static OTHERS: [(&str, &str); 5] = [
 ];
 
 // Texts whose first token that is not a change is a number.
-static BARE: [(&str, &str); 2] = [("1 2 4", "1"), ("r1 18446744073709551616", "18446744073709551616")];
+static BARE: [(&str, &str); 2] = [
+    ("1 2 4", "1"),
+    ("r1 18446744073709551616", "18446744073709551616"),
+];
 
 fn current<S: MemberSet>(alloc: Global, text: &str) -> Result<Config<S>, TextFault>
     ensures { IfOk result (λ c. is_valid c ≡ true) }

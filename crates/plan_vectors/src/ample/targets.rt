@@ -8,14 +8,18 @@ use quorum_sets::InlineIds;
 use std::alloc::Global;
 use test_vectors::runtime::Runtime;
 
-const CHANGES: &str = "expected changes as r1 v4 l5, or a configuration as voters=(1 2 3), a ConfState line, or JSON";
+const CHANGES: &str =
+    "expected changes as r1 v4 l5, or a configuration as voters=(1 2 3), a ConfState line, or JSON";
 
-const PRINTED: &str = "bad configuration: expected voters=(1 2)&&(1 2 3) learners=(4) learners_next=(3) autoleave, \
+const PRINTED: &str =
+    "bad configuration: expected voters=(1 2)&&(1 2 3) learners=(4) learners_next=(3) autoleave, \
     without what is empty";
 
-const LINE: &str = "bad conf state: expected Voters:[1 2] VotersOutgoing:[] Learners:[3] LearnersNext:[] AutoLeave:false";
+const LINE: &str =
+    "bad conf state: expected Voters:[1 2] VotersOutgoing:[] Learners:[3] LearnersNext:[] AutoLeave:false";
 
-const JSON: &str = "bad JSON: expected {\"voters\":[1,2],\"voters_outgoing\":[],\"learners\":[3],\"learners_next\":[],\
+const JSON: &str =
+    "bad JSON: expected {\"voters\":[1,2],\"voters_outgoing\":[],\"learners\":[3],\"learners_next\":[],\
     \"auto_leave\":false}, or etcdctl member list -w json";
 
 // A text, what is printed of it, and the hexadecimal id in it, if there is one.
@@ -54,12 +58,7 @@ static MESSAGES: [(&str, &str, &str, &str); 24] = [
         CHANGES,
         "8e9e05c521646",
     ),
-    (
-        "r8e9e05c52164",
-        "bad change r8e9e05c52164: ",
-        CHANGES,
-        "",
-    ),
+    ("r8e9e05c52164", "bad change r8e9e05c52164: ", CHANGES, ""),
     (
         "r8e9e05c52164694d1",
         "bad change r8e9e05c52164694d1: ",
@@ -112,12 +111,7 @@ static MESSAGES: [(&str, &str, &str, &str); 24] = [
         "",
         "8e9e05c52164694d",
     ),
-    (
-        "{\"cluster_id\":\"cdf818194e3a8c32\"}",
-        JSON,
-        "",
-        "",
-    ),
+    ("{\"cluster_id\":\"cdf818194e3a8c32\"}", JSON, "", ""),
     (
         "{\"learners_next\":[1,\"2\"]}",
         "bad JSON: an ID is a decimal number",
@@ -125,7 +119,12 @@ static MESSAGES: [(&str, &str, &str, &str); 24] = [
         "",
     ),
     ("{\"members\":[{\"ID\":\"2\"}", JSON, "", ""),
-    ("{\"members\":[{\"ID\":1,\"name\":2.5},{\"name\":\"1\"}]}", JSON, "", ""),
+    (
+        "{\"members\":[{\"ID\":1,\"name\":2.5},{\"name\":\"1\"}]}",
+        JSON,
+        "",
+        "",
+    ),
 ];
 
 fn three(alloc: Global) -> Option<Config<InlineIds>>
@@ -142,7 +141,10 @@ fn is_refused(rt: &impl Runtime, text: &str, message: &str) -> bool {
     match read_target(rt.alloc(), &now, text.as_bytes()) {
         Ok(_) => false,
         Err(fault) => {
-            format!(in rt.alloc(); "{fault}").expect(rt, "a message").as_str() == message
+            format!(in rt.alloc(); "{fault}")
+                .expect(rt, "a message")
+                .as_str()
+                == message
         }
     }
 }
