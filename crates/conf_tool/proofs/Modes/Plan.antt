@@ -296,6 +296,12 @@ texts-planned options from to pair is =
     ∙ ap (λ (text : List ℕ). record { text = text; outcome = worse_of (plan_status options pair) (Ok Clean) }) (append-nil (pair_text options default_session 1 pair))
     ∙ ap (λ (outcome : Result Status ToolFault). record { text = pair_text options default_session 1 pair; outcome = outcome }) (worse_of-clean (plan_status options pair))
 
+-- .. whose text is that of the reply
+pub texts-text : (options : PlanOptions) (from to text : List ℕ) (pair : Pair) → ◌≡◌ {A = Result Pair PlanInputFault} (pair_of_texts options from to) (Ok pair) →
+    text ≡ pair_text options default_session 1 pair → (planned_texts options from to).text ≡ text
+texts-text options from to text pair is of =
+    ◌∙◌ {b = pair_text options default_session 1 pair} (ap (λ (output : Output). output.text) (texts-planned options from to pair is)) (sym of)
+
 -- .. and no read has failed
 pub texts-unread : (read : Result Pair PlanInputFault) (stop : ToolFault) → IsFaultOf read stop → is_read_failure {X = Status} (Err stop) ≡ false
 texts-unread read stop (inl memory) = subst (λ s. is_read_failure {X = Status} (Err s) ≡ false) (sym memory) refl
