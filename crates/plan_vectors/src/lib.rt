@@ -13,4 +13,5 @@ mod plan_inputs;
 mod plans;
 #[cfg(test)]
 mod printed_paths;
+#[cfg(test)]
 mod stall_notes;
