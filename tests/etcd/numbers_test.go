@@ -31,6 +31,9 @@ func TestNumbers(t *testing.T) {
 					does := commits(t, line.ConfState, away)
 					stalls = stalls || !does
 					compareNumbers(t, line, down)
+					if len(without(down, line.Down)) != 0 || len(without(line.Down, down)) != 0 || !ascend(line.Down) {
+						t.Errorf("%v are down, and the line has %v", down, line.Down)
+					}
 					if (line.Besides != nil) != does {
 						t.Errorf("without %v this commits: %v\n%s", away, does, describe(line.ConfState))
 					}
@@ -137,4 +140,14 @@ func commitsUnder(t *testing.T, state pb.ConfState, leader uint64, away []uint64
 	c.wait()
 	last, _ := c.leading().storage.LastIndex()
 	return c.leading().applied == last
+}
+
+// ascend reports whether each number is greater than the one before it.
+func ascend(numbers []uint64) bool {
+	for i := 1; i < len(numbers); i++ {
+		if numbers[i-1] >= numbers[i] {
+			return false
+		}
+	}
+	return true
 }

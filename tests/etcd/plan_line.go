@@ -18,6 +18,7 @@ type planLine struct {
 	CatchUp    []uint64        `json:"catch_up"`
 	ConfChange pb.ConfChangeV2 `json:"conf_change"`
 	ConfState  pb.ConfState    `json:"conf_state"`
+	Down       []uint64        `json:"down"` // of --down, ascending
 	MayBeDown  int             `json:"may_be_down"`
 	Besides    *int            `json:"may_be_down_besides"` // with --down; null if it stalls
 	NoPlan     string          `json:"no_plan"`
