@@ -215,6 +215,15 @@ impl Json<'_> {
         Some(state)
     }
 
+    // The ids that are down and a comma, if there are any.
+    fn down(&mut self) -> Option<()> {
+        if self.skips("\"down\":") {
+            self.list(Self::number)?;
+            self.expects(",")?;
+        }
+        Some(())
+    }
+
     // Whether the plan stalls, which is there if ids are down.
     fn stalls(&mut self) -> Option<bool> {
         self.expects("\"plan\":1,")?;
@@ -230,13 +239,16 @@ impl Json<'_> {
     fn line(mut self) -> Option<(Option<Stage>, bool)> {
         self.expects("{")?;
         if !self.skips("\"catch_up\":") {
+            self.down()?;
             let stalls = self.stalls()?;
             return (self.0 == "\"steps\":0}").then_some((None, stalls));
         }
         let fresh = self.list(Self::number)?;
         let conf_change = self.conf_change()?;
         let conf_state = self.conf_state(fresh)?;
-        self.expects(",\"may_be_down\":")?;
+        self.expects(",")?;
+        self.down()?;
+        self.expects("\"may_be_down\":")?;
         let may_be_down = self.count()?;
         self.expects(",")?;
         let mut may_be_down_besides = None;
