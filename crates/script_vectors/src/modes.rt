@@ -185,7 +185,7 @@ const LISTED_SHORTEST: &[u8] =
 
 // A pair of which 3 is a member, and one of which it is not.
 const WITHOUT_3: &[u8] =
-    b"{\"voters\":[1,2,3]}\n{\"voters\":[1,2]}\n{\"voters\":[1,2]}\n\nvoters=(1)\n";
+    b"{\"voters\":[1,2,3]}\n{\"voters\":[1,2]}\n{\"voters\":[1,2]}\n\nvoters=(1)";
 
 // Inputs whose last line has an error: it has no target, is not the JSON of a ConfState, or lists an id twice.
 const HALF: &[u8] = b"{\"voters\":[1,2]}\n{\"voters\":[1]}\n{\"voters\":[1]}\n";
