@@ -1,5 +1,5 @@
-//! With the feature `system`, tells cargo where libconfscript.a is: in the folder that CONFSCRIPT_LIB names, or where
-//! pkg-config finds it. Cargo looks again if the file or one of these variables changes.
+//! With the feature `system`, names the folder of libconfscript.a to cargo: the one in CONFSCRIPT_LIB, or that of
+//! pkg-config. Cargo looks again if the file or one of these variables changes.
 use std::env;
 use std::process::{exit, Command};
 

@@ -242,7 +242,7 @@ func (t *trial) change(state pb.ConfState, ids []uint64) pb.ConfChangeI {
 		return pb.ConfChange{Type: list[0].Type, NodeID: list[0].NodeID}
 	case kind < 9:
 		return pb.ConfChangeV2{Changes: list[:1]}
-	case kind < 11 || t.waits: // raft waits for nobody before it leaves by itself
+	case kind < 11 || t.waits: // raft waits for no one before it leaves by itself
 		return pb.ConfChangeV2{Transition: pb.ConfChangeTransitionJointExplicit, Changes: list}
 	default:
 		return pb.ConfChangeV2{Transition: pb.ConfChangeTransitionJointImplicit, Changes: list}

@@ -31,7 +31,7 @@ def all_healthy_servers():
         output = "".join(shown)
         holds(f"status {it.wait()}:\n{output}", it.returncode == 0)
         holds(f"the leader moves before it leaves:\n{output}", " move-leader " in output)
-        holds(f"nobody has to stay stopped:\n{output}", "must stay stopped" not in output)
+        holds(f"no server has to stay stopped:\n{output}", "must stay stopped" not in output)
         for server in cluster.first:
             wait_for(f"{server.name} ends by itself", lambda: server.process.poll() is not None)
         cluster.check_end("n4 n5 n6")

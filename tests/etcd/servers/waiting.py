@@ -1,4 +1,4 @@
-"""What a run waits for: a server that is behind, that never starts, that nobody reaches, a voter that dies meanwhile."""
+"""What a run waits for: a server that is behind, that never starts, that no one reaches, a voter that dies meanwhile."""
 import contextlib
 import queue
 import socket

@@ -47,7 +47,7 @@ func (c *cluster) lead(target confscript.ConfState) error {
 }
 
 // settled waits for a leader that has applied its whole log, so that no change is under way, and whose members have all
-// that it has. That is what a stage before this one was waited for; after a restart nobody else remembers it.
+// that it has. That is what a stage before this one was waited for; after a restart no one else remembers it.
 func (c *cluster) settled() (leader *server, now confscript.ConfState, err error) {
 	isSettled := waits(patience, func() bool {
 		if leader = c.leader(); leader == nil {
@@ -132,7 +132,7 @@ func successor(leader uint64, now, next confscript.ConfState) uint64 {
 }
 
 // carryOut proposes a stage, and reports whether the leader has applied it within a while. A proposal may be lost, or be
-// replaced by an empty entry, without an error: only the configuration tells.
+// replaced by an empty entry, without an error: only the configuration shows it.
 func (c *cluster) carryOut(leader *server, stage confscript.Stage) bool {
 	leader.do(func() { leader.node.ProposeConfChange(changeOf(stage.ConfChange)) })
 	return waits(trial, func() (isApplied bool) {
