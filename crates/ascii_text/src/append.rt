@@ -1,7 +1,7 @@
 //! Appending to a text.
 //!
 //! A printed text has many parts, and memory may run out between two of them. A public call that appends several parts
-//! notes the length first and ends with [`keep_whole`], so that it appends all of them or none.
+//! notes the length first and ends with [`undo_if_failed`], so that it appends all of them or none.
 ghost use Rattle.std.specs.Prelude.{◌≡◌, ◌<◌, ◌^◌, ◌++◌, length, take, replicate, decimal, OnOk, OnErr};
 ghost use Rattle.ascii_text.specs.Append.{Extends};
 
@@ -61,7 +61,7 @@ fn append_digits(text: &mut Vec<u8>, number: u64) -> Result<(), AllocError>
 
 /// Ends the appending of several parts. If it failed, the text is cut back to `len` bytes, the length that it had
 /// before the first part.
-pub fn keep_whole(
+pub fn undo_if_failed(
     text: &mut Vec<u8>,
     len: usize,
     appended: Result<(), NoMemory>,

@@ -1,19 +1,21 @@
 //! The lines of a text. A full line is a line with its newline; the last line of a text may have none. `"a\r\nb"` has
 //! the full lines `"a\r\n"` and `"b"`, and the lines `"a"` and `"b"`.
+//!
+//! What names no source here is own.
 ghost use Rattle.std.specs.Prelude.{◌≡◌, ◌≤◌, ◌<◌, [], ◌∷◌, length, IfSome, MatchOption};
 ghost use Rattle.ascii_text.specs.Lines.{first_len, full_lines, without_last, line_of, ends_in_newline};
 
-use crate::position::far_position_of;
+use crate::position::find_far_byte;
 
 /// The length of the first full line in bytes, 0 if the text is empty.
 pub fn first_line_len(bytes: &[u8]) -> usize
     ensures count { result ≡ first_len bytes.now }
     ensures bound { result ≤ length bytes.now }
 {
-    (far_position_of(bytes, b'\n') + 1).min(bytes.len())
+    (find_far_byte(bytes, b'\n') + 1).min(bytes.len())
 }
 
-/// The first full line of a text, and the text after it. An empty text has none (own).
+/// The first full line of a text, and the text after it. An empty text has none.
 pub fn next_full_line(text: &[u8]) -> Option<(&[u8], &[u8])>
     ensures full_lines { MatchOption result (full_lines text.now ≡ [])
         (λ parts. full_lines text.now ≡ parts.0.now ∷ full_lines parts.1.now) }
@@ -25,8 +27,8 @@ pub fn next_full_line(text: &[u8]) -> Option<(&[u8], &[u8])>
     Some(text.split_at(first_line_len(text)))
 }
 
-/// Drops the last byte if it is `end` (own).
-pub fn without_end(bytes: &[u8], end: u8) -> &[u8]
+/// Drops the last byte if it is `end`.
+pub fn strip_last(bytes: &[u8], end: u8) -> &[u8]
     ensures { result.now ≡ without_last end bytes.now }
 {
     match bytes.split_last() {
@@ -40,7 +42,7 @@ pub fn without_end(bytes: &[u8], end: u8) -> &[u8]
 pub fn line_of(full_line: &[u8]) -> &[u8]
     ensures { result.now ≡ line_of full_line.now }
 {
-    without_end(without_end(full_line, b'\n'), b'\r')
+    strip_last(strip_last(full_line, b'\n'), b'\r')
 }
 
 /// Whether the bytes end in a newline. A line that is read in parts is complete after the first part that does.

@@ -2,5 +2,5 @@
 
 pub mod Entries
 pub mod OfEachId
-pub mod Picked
+pub mod Filtered
 pub mod Acknowledged

@@ -1,4 +1,4 @@
 -- Walks over the ids of a set.
 
 pub mod PositionByPosition
-pub mod FirstThat
+pub mod FindId

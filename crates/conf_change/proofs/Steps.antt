@@ -6,3 +6,4 @@ pub mod ChangerAfter
 pub mod Soundness
 pub mod EmptyTracker
 pub mod OneChange
+pub mod Moved

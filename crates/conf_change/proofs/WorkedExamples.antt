@@ -5,6 +5,8 @@ use Rattle.quorum_sets.specs.Ids.{has, ids_of, no_ids}
 use Rattle.quorum_sets.proofs.Offered.{has-ids_of, written_out}
 use Rattle.conf_change.specs.Configuration.{Configuration, first_broken}
 use Rattle.conf_change.specs.Change.{result_of, last_effective, is_learner_after, is_next_after}
+use Rattle.conf_change.specs.Edits.{edit_of, has_role, has_member_role}
+use Rattle.conf_change.specs.declared.edit_list.Role.TheVariants as role
 use Rattle.conf_change.specs.Outcome.{simple_outcome, enter_outcome, leave_outcome}
 use Rattle.conf_change.specs.Progress.{keeps_progress}
 use Rattle.conf_change.specs.declared.config.Invariant.TheVariants.{ZeroId, NextNotOutgoing, NextAndIncoming}
@@ -34,6 +36,18 @@ many = change Remove 1 ∷ change Remove 2 ∷ change Remove 9 ∷ change Voter 
 
 change_summary : (last_effective many 1 ≡ Some Learner) × (last_effective many 2 ≡ Some Learner) × (last_effective many 3 ≡ Some Voter) × (last_effective many 4 ≡ Some Remove) × (last_effective many 9 ≡ Some Remove) × (last_effective many 5 ≡ None)
 change_summary = (refl, refl, refl, refl, refl, refl)
+
+-- of v4 r4 l4 the edit of 4 is Learner with a removal; an outgoing voter waits, and stays a member when it is removed
+edit_of_4 : edit_of (change Voter 4 ∷ change Remove 4 ∷ change Learner 4 ∷ change Update 4 ∷ []) (ids_of (1 ∷ [])) 4 ≡ Some (record { kind = Learner; removed = true; outgoing = false })
+edit_of_4 = ap (λ b. Some (record { kind = Learner; removed = true; outgoing = b })) (has-ids_of (1 ∷ []) 4)
+
+no_edit : (edit_of (change Voter 0 ∷ change Update 1 ∷ []) no_ids 0 ≡ None) × (edit_of (change Voter 0 ∷ change Update 1 ∷ []) no_ids 1 ≡ None)
+no_edit = (refl, refl)
+
+roles_of_edits : (has_role (record { kind = Learner; removed = true; outgoing = false }) role.Learner ≡ true) × (has_role (record { kind = Learner; removed = true; outgoing = true }) role.Learner ≡ false)
+    × (has_role (record { kind = Learner; removed = true; outgoing = true }) role.Next ≡ true) × (has_member_role (record { kind = Remove; removed = true; outgoing = true }) ≡ true)
+    × (has_member_role (record { kind = Remove; removed = true; outgoing = false }) ≡ false)
+roles_of_edits = (refl, refl, refl, refl, refl)
 
 -- a change of 0 and an update have no say
 no_effective_change : (last_effective (change Voter 0 ∷ change Update 1 ∷ []) 0 ≡ None) × (last_effective (change Voter 0 ∷ change Update 1 ∷ []) 1 ≡ None)

@@ -2,7 +2,7 @@
 use Rattle.std.specs.Prelude.{◌≡◌, ℕ, Bool, true, false, not, ◌&&◌, ◌||◌, List, [], ◌∷◌, ◌++◌, Option, find, nat_eq}
 use Rattle.std.specs.Bool.{beq}
 use Rattle.std.specs.List.{list_all}
-use Rattle.quorum_sets.specs.Ids.{Ids, no_ids, has, ascending, is_empty, difference_count}
+use Rattle.quorum_sets.specs.Ids.{Ids, no_ids, has, ascending, is_empty, difference_count, union}
 use Rattle.quorum_sets.specs.Voters.{Voters}
 use Rattle.conf_change.specs.declared.config.Invariant.{Invariant}
 use Rattle.conf_change.specs.declared.config.Invariant.TheVariants.{ZeroId, NextNotOutgoing, NextAndIncoming, LearnerAndVoter, NotJointButNext, NotJointButAutoLeave}
@@ -35,6 +35,10 @@ has_voter c = not (is_empty c.incoming)
 -- the members: voters of either kind, and learners; an id may occur twice
 abbrev pub members : Configuration → List ℕ
 members c = ascending c.incoming ++ ascending c.outgoing ++ ascending c.learners
+
+-- the members as a set
+abbrev pub member_ids : Configuration → Ids
+member_ids c = union (union c.incoming c.outgoing) c.learners
 
 -- the id is a voter of either kind, or a learner
 abbrev pub is_member : Configuration → ℕ → Bool

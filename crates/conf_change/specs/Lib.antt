@@ -8,9 +8,9 @@ pub mod Floor
 pub mod TrackerState
 pub mod ChangerState
 pub mod Progress
-pub mod ChangeSummary
-pub mod Roles
 pub mod TrackerEdits
+pub mod Edits
+pub mod EditLaws
 pub mod Changer
 pub mod Acknowledgement
 pub mod ConfState

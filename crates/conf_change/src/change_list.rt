@@ -104,7 +104,8 @@ fn read_over<'a>(list: &mut Vec<Change>, text: &'a [u8]) -> Result<(), TokenFaul
 
 /// Parses a change: a letter and a decimal number below 2^64, which may have leading zeros. `v007` is the change `v7`.
 pub fn read_change(token: &[u8]) -> Result<Change, TokenFault<'_>>
-    ensures { MatchResult result (λ change. change_in token.now ≡ Ok change) (λ fault. IsSomeAnd (bad_token fault) (λ bad. change_in token.now ≡ Err bad)) }
+    ensures { MatchResult result (λ change. change_in token.now ≡ Ok change)
+        (λ fault. IsSomeAnd (bad_token fault) (λ bad. change_in token.now ≡ Err bad)) }
 {
     let [letter, digits @ ..] = token else {
         return Err(TokenFault::UnknownToken(token));

@@ -10,10 +10,9 @@
 //! ```
 //!
 //! A step is accepted or refused as a whole: a refused step changes nothing.
-ghost use Rattle.std.specs.Prelude.{◌≡◌, ◌-◌, ◌^◌, ◌↔◌, [], ◌∷◌, true, false, not, nat_lt, Some, None, Err, IfOk, OnErr, if◌then◌else◌};
+ghost use Rattle.std.specs.Prelude.{◌≡◌, ◌-◌, ◌^◌, ◌↔◌, [], ◌∷◌, true, false, Some, Err, IfOk, OnErr};
 ghost use Rattle.std.specs.FinMap as finite;
-ghost use Rattle.quorum_sets.specs.Ids.{difference_count};
-ghost use Rattle.conf_change.specs.Configuration.{is_member, has_voter};
+ghost use Rattle.conf_change.specs.Configuration.{is_member};
 ghost use Rattle.conf_change.specs.Acknowledgement.{acknowledged, ack_answer, changer_with_progress};
 ghost use Rattle.conf_change.specs.declared.floor.Floor.TheVariants.{One};
 ghost use Rattle.conf_change.specs.declared.progress.Progress.{Progress};
@@ -168,7 +167,11 @@ impl<S: MemberSet> Changer<S> {
         ensures refused { OnErr result (self.new ≡ new_changer before.now.tracker.floor before.now.last_index) }
         ensures sound { IsSound self.new.tracker }
     {
-        match make_next(&mut self.tracker, before, kind, changes) {
+        let next_index = before.fresh_next();
+        match self
+            .tracker
+            .become_next(&before.tracker, kind, changes, next_index)
+        {
             Ok(()) => {
                 self.last_index = before.last_index;
                 Ok(())
@@ -184,15 +187,7 @@ impl<S: MemberSet> Changer<S> {
     pub fn simple_one(&mut self, change: Change) -> Result<(), Refused>
         ensures { Makes self.old (Simple (change ∷ [])) result self.new }
     {
-        if self.tracker.is_joint() {
-            return Err(Refused::SimpleInJoint);
-        }
-        if !self.tracker.has_voter_after(change) {
-            return Err(Refused::RemovedAllVoters);
-        }
-        let next_index = self.fresh_next();
-        self.tracker.make_change(change, next_index)?;
-        Ok(())
+        self.simple(&[change])
     }
 
     /// Makes changes that alter at most one voter, and any number of learners (etcd's `Simple`; Ongaro's dissertation,
@@ -265,10 +260,12 @@ impl<S: MemberSet> Changer<S> {
     /// Refused with NotMember if the id is not a member, else with IndexTooLarge if the index is 2^64-1.
     pub fn ack(&mut self, id: u64, index: u64) -> Result<Progress, AckFault>
         ensures answer { result ≡ ack_answer self.old.tracker id index }
-        ensures acknowledged { IfOk result (λ p. (was : Progress) × (finite.get self.old.tracker.progress id ≡ Some was) × (p ≡ acknowledged index was)) }
+        ensures acknowledged { IfOk result (λ p. (was : Progress) × (finite.get self.old.tracker.progress id ≡ Some was)
+            × (p ≡ acknowledged index was)) }
         ensures taken { IfOk result (λ p. self.new ≡ changer_with_progress self.old id p) }
         ensures not_member { (result ≡ Err AckFault.NotMember) ↔ (is_member self.old.tracker.config id ≡ false) }
-        ensures too_large { (result ≡ Err AckFault.IndexTooLarge) ↔ ((is_member self.old.tracker.config id ≡ true) × (index ≡ 2 ^ 64 - 1)) }
+        ensures too_large { (result ≡ Err AckFault.IndexTooLarge)
+            ↔ ((is_member self.old.tracker.config id ≡ true) × (index ≡ 2 ^ 64 - 1)) }
         ensures unchanged { OnErr result (self.new ≡ self.old) }
         ensures sound { IsSound self.new.tracker }
     {
@@ -280,9 +277,11 @@ impl<S: MemberSet> Changer<S> {
     /// The result that [`Changer::ack`] would return, without recording it.
     pub fn ack_answer(&self, id: u64, index: u64) -> Result<Progress, AckFault>
         ensures answer { result ≡ ack_answer self.now.tracker id index }
-        ensures acknowledged { IfOk result (λ p. (was : Progress) × (finite.get self.now.tracker.progress id ≡ Some was) × (p ≡ acknowledged index was)) }
+        ensures acknowledged { IfOk result (λ p. (was : Progress) × (finite.get self.now.tracker.progress id ≡ Some was)
+            × (p ≡ acknowledged index was)) }
         ensures not_member { (result ≡ Err AckFault.NotMember) ↔ (is_member self.now.tracker.config id ≡ false) }
-        ensures too_large { (result ≡ Err AckFault.IndexTooLarge) ↔ ((is_member self.now.tracker.config id ≡ true) × (index ≡ 2 ^ 64 - 1)) }
+        ensures too_large { (result ≡ Err AckFault.IndexTooLarge)
+            ↔ ((is_member self.now.tracker.config id ≡ true) × (index ≡ 2 ^ 64 - 1)) }
     {
         let Some(known) = self.tracker.progress(id) else {
             return Err(AckFault::NotMember);
@@ -291,97 +290,5 @@ impl<S: MemberSet> Changer<S> {
             return Err(AckFault::IndexTooLarge);
         }
         Ok(known.acknowledged(index))
-    }
-}
-
-// Overwrites a tracker with the result of a step of this kind. After a refusal its contents are unspecified.
-fn make_next<S: MemberSet>(
-    tracker: &mut Tracker<S>,
-    before: &Changer<S>,
-    kind: StepKind,
-    changes: &[Change],
-) -> Result<(), Refused>
-    ensures { GivesNext before.now (step_of kind changes.now) (left_in result (changer_of tracker.new before.now.last_index)) }
-{
-    match kind {
-        StepKind::Simple => make_simple(tracker, before, changes),
-        StepKind::Enter(auto_leave) => make_joint(tracker, before, auto_leave, changes),
-        StepKind::Leave => make_left(tracker, before),
-    }
-}
-
-// Overwrites a tracker with the result of a simple change.
-fn make_simple<S: MemberSet>(
-    tracker: &mut Tracker<S>,
-    before: &Changer<S>,
-    changes: &[Change],
-) -> Result<(), Refused>
-    ensures { GivesNext before.now (Simple changes.now) (left_in result (changer_of tracker.new before.now.last_index)) }
-{
-    if before.tracker.is_joint() {
-        return Err(Refused::SimpleInJoint);
-    }
-    let config = before.tracker.config();
-    let next_index = before.fresh_next();
-    tracker.become_changed(
-        &before.tracker,
-        &config.outgoing,
-        config.auto_leave,
-        changes,
-        next_index,
-    )?;
-    match simple_refusal(&before.tracker, tracker) {
-        Some(refusal) => Err(refusal),
-        None => Ok(()),
-    }
-}
-
-// Overwrites a tracker with the result of entering a joint configuration.
-fn make_joint<S: MemberSet>(
-    tracker: &mut Tracker<S>,
-    before: &Changer<S>,
-    auto_leave: bool,
-    changes: &[Change],
-) -> Result<(), Refused>
-    ensures { GivesNext before.now (EnterJoint auto_leave changes.now) (left_in result (changer_of tracker.new before.now.last_index)) }
-{
-    if before.tracker.is_joint() {
-        return Err(Refused::AlreadyJoint);
-    }
-    if !before.tracker.has_voter() {
-        return Err(Refused::ZeroVoterJoint);
-    }
-    let outgoing = &before.tracker.config().incoming;
-    let next_index = before.fresh_next();
-    tracker.become_changed(&before.tracker, outgoing, auto_leave, changes, next_index)?;
-    if !tracker.has_voter() {
-        return Err(Refused::RemovedAllVoters);
-    }
-    Ok(())
-}
-
-// Overwrites a tracker with the result of leaving a joint configuration.
-fn make_left<S: MemberSet>(tracker: &mut Tracker<S>, before: &Changer<S>) -> Result<(), Refused>
-    ensures { GivesNext before.now LeaveJoint (left_in result (changer_of tracker.new before.now.last_index)) }
-{
-    if !before.tracker.is_joint() {
-        return Err(Refused::NotJoint);
-    }
-    tracker.become_left(&before.tracker)?;
-    Ok(())
-}
-
-// Why a simple change that leads from `before`, which is not joint, to `after` is refused, or `None`. The order of the
-// two tests is etcd's.
-fn simple_refusal<S: MemberSet>(before: &Tracker<S>, after: &Tracker<S>) -> Option<Refused>
-    ensures { result ≡ (if not (has_voter after.now.config) then Some Refused.RemovedAllVoters
-        else (if nat_lt 1 (difference_count before.now.config.incoming after.now.config.incoming) then Some Refused.MoreThanOneVoter else None)) }
-{
-    if !after.has_voter() {
-        Some(Refused::RemovedAllVoters)
-    } else if before.changed_voters(after) > 1 {
-        Some(Refused::MoreThanOneVoter)
-    } else {
-        None
     }
 }

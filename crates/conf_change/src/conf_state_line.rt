@@ -14,9 +14,9 @@ ghost use Rattle.conf_change.specs.ConfStateLine.{ParsesToNumbers, DenotesConfSt
 
 use crate::append::append_numbers;
 use crate::saved_configuration::{ConfState, ConfStateFault};
-use ascii_text::append::{append, keep_whole};
+use ascii_text::append::{append, undo_if_failed};
 use ascii_text::number::read_number;
-use ascii_text::position::{far_position_of, split_at_first};
+use ascii_text::position::{find_far_byte, split_at_first};
 use ascii_text::white_space::trimmed;
 use quorum_sets::NoMemory;
 use std::alloc::{AllocError, AllocFailed, Global};
@@ -51,7 +51,7 @@ pub fn write_conf_state(text: &mut Vec<u8>, state: &ConfState) -> Result<(), NoM
 {
     let len = text.len();
     let appended = append_conf_state(text, state);
-    keep_whole(text, len, appended)
+    undo_if_failed(text, len, appended)
 }
 
 fn append_conf_state(text: &mut Vec<u8>, state: &ConfState) -> Result<(), NoMemory>
@@ -89,7 +89,8 @@ fn append_field(text: &mut Vec<u8>, name: &[u8], numbers: &[u64]) -> Result<(), 
 #[tactic(auto, using(crate::proofs::Texts::ConfStateLine::line_laws))]
 pub fn read_conf_state(alloc: Global, text: &[u8]) -> Result<ConfState, ConfStateFault>
     ensures denotes { IfOk result (DenotesConfState text.now) }
-    ensures bad { result ≡ Err ConfStateFault.BadConfState → (state : ConfStateLists) → ¬ (DenotesConfState text.now state) }
+    ensures bad { result ≡ Err ConfStateFault.BadConfState → (state : ConfStateLists)
+        → ¬ (DenotesConfState text.now state) }
 
     // As a function of the text:
     ensures value { IfOk result (λ state. conf_state_in text.now ≡ Some state) }
@@ -128,7 +129,7 @@ fn read_field<'a>(
     let text = text
         .strip_prefix(prefix)
         .ok_or(ConfStateFault::BadConfState)?;
-    let (numbers, rest) = text.split_at(far_position_of(text, b']'));
+    let (numbers, rest) = text.split_at(find_far_byte(text, b']'));
     Ok((read_numbers(alloc, numbers)?, rest))
 }
 

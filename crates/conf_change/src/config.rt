@@ -4,13 +4,18 @@
 //! (1 2) learners=(3)                  1 and 2 vote, and 3 learns
 //! (1 2)&&(1 3) learners_next=(3)      joint: 3 still votes, and is to become a learner
 //! ```
-ghost use Rattle.std.specs.Prelude.{◌≡◌, ◌↔◌, Some, true, false, not, ◌&&◌, IfOk, IfErr, OnOk, OnErr, IsOk, IsTrue, if◌then◌else◌};
+ghost use Rattle.std.specs.Prelude.{◌≡◌, ◌↔◌, List, map, Some, true, false, not, ◌&&◌, IfOk, IfErr, OnOk, OnErr, IsOk, IsTrue, if◌then◌else◌};
 ghost use Rattle.quorum_sets.specs.Ids.{has};
 ghost use Rattle.conf_change.specs.Configuration.{empty_configuration, is_joint, has_voter, first_broken, is_valid, keeps, is_within, is_apart, is_same, is_same_set};
+ghost use Rattle.quorum_sets.specs.AscendingLists.{IsAscending};
+ghost use Rattle.conf_change.specs.Change.{result_of};
+ghost use Rattle.conf_change.specs.Edits.{AreEdits, with_voters_out};
+ghost use Rattle.conf_change.specs.declared.change.Change.{Change};
 ghost use Rattle.conf_change.specs.Outcome.{after_leave};
 ghost use Rattle.conf_change.specs.declared.config.Invariant.{Invariant};
 
-use crate::first_that::first_that;
+use crate::edit_list::{Edit, Role};
+use crate::find_id::find_id;
 use quorum_sets::{MemberSet, NoMemory, contains_from, symdiff, union};
 use std::alloc::Global;
 use std::marker::Model;
@@ -103,8 +108,8 @@ impl<S: MemberSet> Config<S> {
         })
     }
 
-    // Whether the configuration has outgoing voters.
-    pub(crate) fn is_joint(&self) -> bool
+    /// Whether the configuration has outgoing voters.
+    pub fn is_joint(&self) -> bool
         ensures { result ≡ is_joint self.now }
     {
         self.outgoing.len() != 0
@@ -132,6 +137,30 @@ impl<S: MemberSet> Config<S> {
         })
     }
 
+    // Overwrites `self` with the configuration after the edits, but with these outgoing voters and this flag. On `NoMemory`
+    // its contents are unspecified.
+    pub(crate) fn become_edited(
+        &mut self,
+        before: &Config<S>,
+        outgoing: &S,
+        auto_leave: bool,
+        edits: &[(u64, Edit)],
+    ) -> Result<(), NoMemory>
+        requires { IsAscending (map (λ e. e.0) edits.now) }
+        ensures { OnOk result ((changes : List Change) → AreEdits changes (S.ids outgoing.now) edits.now →
+            self.new ≡ result_of (with_voters_out before.now (S.ids outgoing.now) auto_leave) changes) }
+    {
+        self.outgoing.try_clone_from(outgoing)?;
+        self.auto_leave = auto_leave;
+        self.incoming
+            .try_clone_edited(&before.incoming, edits, &Role::Incoming)?;
+        self.learners
+            .try_clone_edited(&before.learners, edits, &Role::Learner)?;
+        self.learners_next
+            .try_clone_edited(&before.learners_next, edits, &Role::Next)?;
+        Ok(())
+    }
+
     /// Whether two configurations are the same: their four sets and their flags agree.
     pub fn same(&self, other: &Config<S>) -> bool
         ensures same { result ≡ is_same self.now other.now }
@@ -152,8 +181,8 @@ fn has_same_parts<S: MemberSet>(a: &Config<S>, b: &Config<S>) -> bool
         && a.auto_leave == b.auto_leave
 }
 
-// Whether two sets have the same ids.
-fn has_same_ids<S: MemberSet>(a: &S, b: &S) -> bool
+/// Whether two sets have the same ids.
+pub fn has_same_ids<S: MemberSet>(a: &S, b: &S) -> bool
     ensures { result ≡ is_same_set (S.ids a.now) (S.ids b.now) }
 {
     symdiff(a, b) == 0
@@ -185,7 +214,9 @@ pub fn check<S: MemberSet>(config: &Config<S>) -> Result<(), Invariant>
 fn check_single<S: MemberSet>(config: &Config<S>) -> Result<(), Invariant>
     ensures kept { OnOk result ((keeps config.now Invariant.NotJointButNext && keeps config.now Invariant.NotJointButAutoLeave) ≡ true) }
     ensures not_kept { OnErr result ((keeps config.now Invariant.NotJointButNext && keeps config.now Invariant.NotJointButAutoLeave) ≡ false) }
-    ensures broken { IfErr result (λ broken. broken ≡ (if keeps config.now Invariant.NotJointButNext then Invariant.NotJointButAutoLeave else Invariant.NotJointButNext)) }
+    ensures broken { IfErr result (λ broken. broken
+        ≡ (if keeps config.now Invariant.NotJointButNext then Invariant.NotJointButAutoLeave
+        else Invariant.NotJointButNext)) }
 {
     if config.outgoing.len() != 0 {
         Ok(())
@@ -219,12 +250,12 @@ fn begins_with_zero<S: MemberSet>(set: &S) -> bool
 fn is_within<S: MemberSet>(ids: &S, others: &S) -> bool
     ensures { result ≡ is_within (S.ids ids.now) (S.ids others.now) }
 {
-    first_that(ids, |id| !others.contains(id)).is_none()
+    find_id(ids, |id| !others.contains(id)).is_none()
 }
 
 // Whether no id of the first set is in the second.
 fn is_apart<S: MemberSet>(ids: &S, others: &S) -> bool
     ensures { result ≡ is_apart (S.ids ids.now) (S.ids others.now) }
 {
-    first_that(ids, |id| others.contains(id)).is_none()
+    find_id(ids, |id| others.contains(id)).is_none()
 }

@@ -1,4 +1,6 @@
 //! The valid configuration that a ConfState or its line describes, for input that a user wrote by hand.
+//!
+//! What names no source here is own.
 ghost use Rattle.std.specs.Prelude.{◌≡◌, ◌⊎◌, true, Some, None, Ok, Err, option_and_then, IfOk, IfErr};
 ghost use Rattle.conf_change.specs.Configuration.{is_valid};
 ghost use Rattle.conf_change.specs.ConfStateLine.{conf_state_in};
@@ -52,7 +54,7 @@ impl From<ConfStateFault> for ConfigurationFault {
 }
 
 /// Reads a line in the form that `write_conf_state` appends, and returns the valid configuration that it describes
-/// (own). Any other line is refused with the first reason, such as `3 is listed twice`.
+///. Any other line is refused with the first reason, such as `3 is listed twice`.
 pub fn read_configuration<S: MemberSet>(
     alloc: Global,
     line: &[u8],
@@ -60,7 +62,8 @@ pub fn read_configuration<S: MemberSet>(
     ensures configuration { IfOk result (λ c. configuration_in line.now ≡ Ok c) }
     ensures valid { IfOk result (λ c. is_valid c ≡ true) }
     ensures described { IfOk result (λ c. option_and_then described (conf_state_in line.now) ≡ Some c) }
-    ensures fault { IfErr result (λ fault. (fault ≡ ConfigurationFault.NoMemory) ⊎ (configuration_in line.now ≡ Err fault)) }
+    ensures fault { IfErr result (λ fault. (fault ≡ ConfigurationFault.NoMemory)
+        ⊎ (configuration_in line.now ≡ Err fault)) }
 {
     match read_conf_state(alloc, line) {
         Ok(state) => valid_configuration(alloc, &state),
@@ -69,7 +72,7 @@ pub fn read_configuration<S: MemberSet>(
 }
 
 /// The valid configuration that a ConfState describes. It may have members but no incoming voter, unlike one that is
-/// restored (own). Any other ConfState is refused with the first reason.
+/// restored. Any other ConfState is refused with the first reason.
 pub fn valid_configuration<S: MemberSet>(
     alloc: Global,
     state: &ConfState,

@@ -34,29 +34,35 @@ pub fn one_list_per_text()
 /// A ConfState line denotes at most one ConfState, which is the value of `conf_state_in`. The line that is printed of a
 /// configuration denotes its ConfState.
 pub fn one_conf_state_per_text()
-    ensures some { (text : List ℕ) (saved : ConfStateLists) → (DenotesConfState text saved) ↔ (conf_state_in text ≡ Some saved) }
+    ensures some { (text : List ℕ) (saved : ConfStateLists) → (DenotesConfState text saved)
+        ↔ (conf_state_in text ≡ Some saved) }
     ensures one { (text : List ℕ) (a b : ConfStateLists) → DenotesConfState text a → DenotesConfState text b → a ≡ b }
-    ensures printed { (c : Configuration) → HasU64Lists c → DenotesConfState (conf_state_text (lists_of c)) (lists_of c) }
+    ensures printed { (c : Configuration) → HasU64Lists c
+        → DenotesConfState (conf_state_text (lists_of c)) (lists_of c) }
 {}
 
 /// A printed configuration denotes at most one ConfState, which is the value of `config_in`. The text that is printed of
 /// a configuration denotes its ConfState, with the lists in ascending order, and so describes no other configuration.
 pub fn one_config_per_text()
-    ensures some { (text : List ℕ) (saved : ConfStateLists) → (DenotesConfig text saved) ↔ (config_in text ≡ Some saved) }
+    ensures some { (text : List ℕ) (saved : ConfStateLists) → (DenotesConfig text saved)
+        ↔ (config_in text ≡ Some saved) }
     ensures one { (text : List ℕ) (a b : ConfStateLists) → DenotesConfig text a → DenotesConfig text b → a ≡ b }
     ensures printed { (c : Configuration) → HasU64Lists c → DenotesConfig (config_text c) (lists_of c) }
-    ensures no_other { (c d : Configuration) (saved : ConfStateLists) → HasU64Lists c → DenotesConfig (config_text c) saved → Describes saved d → d ≡ c }
+    ensures no_other { (c d : Configuration) (saved : ConfStateLists) → HasU64Lists c
+        → DenotesConfig (config_text c) saved → Describes saved d → d ≡ c }
 {}
 
 /// A ConfState has a valid configuration exactly if it describes that configuration, and that is valid; and it has no
 /// other.
 pub fn valid_is_described()
-    ensures { (saved : ConfStateLists) (c : Configuration) → ((valid_of saved ≡ Ok c) ↔ (Describes saved c × (is_valid c ≡ true))) }
+    ensures { (saved : ConfStateLists) (c : Configuration)
+        → ((valid_of saved ≡ Ok c) ↔ (Describes saved c × (is_valid c ≡ true))) }
 {}
 
 /// A ConfState is restored to the configuration that it describes, if that one can be restored, and to no other.
 pub fn restored_is_described()
-    ensures { (saved : ConfStateLists) (c : Configuration) → ((restored saved ≡ Some c) ↔ (Describes saved c × (is_restorable c ≡ true))) }
+    ensures { (saved : ConfStateLists) (c : Configuration)
+        → ((restored saved ≡ Some c) ↔ (Describes saved c × (is_restorable c ≡ true))) }
 {}
 
 /// The ConfState of a configuration, with its lists in ascending order, describes that configuration, and a ConfState
@@ -74,8 +80,10 @@ pub fn equal_conf_states_are_the_same()
 /// A step leads from a changer to at most one changer, which is the value of `changer_after`; if the step is refused,
 /// `changer_after` gives the refusal.
 pub fn one_changer_after_a_step()
-    ensures ok { (before after : ChangerState) (step : Step) → (Accepts before step after) ↔ (changer_after before step ≡ Ok after) }
-    ensures err { (before : ChangerState) (step : Step) (why : Refused) → (outcome before.tracker.config step ≡ Err why) ↔ (changer_after before step ≡ Err why) }
+    ensures ok { (before after : ChangerState) (step : Step) → (Accepts before step after)
+        ↔ (changer_after before step ≡ Ok after) }
+    ensures err { (before : ChangerState) (step : Step) (why : Refused) → (outcome before.tracker.config step ≡ Err why)
+        ↔ (changer_after before step ≡ Err why) }
 {}
 
 /// An accepted step leads from a sound tracker to a sound one, and from a configuration that can be restored to one
@@ -83,13 +91,18 @@ pub fn one_changer_after_a_step()
 /// is sound, and so is a new one, whose configuration is empty. An acknowledgement keeps a tracker sound. So every
 /// tracker that is ever reached is sound.
 pub fn trackers_stay_sound()
-    ensures step { (before : ChangerState) (step : Step) (after : Configuration) → IsSound before.tracker → outcome before.tracker.config step ≡ Ok after
+    ensures step { (before : ChangerState) (step : Step) (after : Configuration) → IsSound before.tracker
+        → outcome before.tracker.config step ≡ Ok after
         → IsSound (moved_to before step after).tracker }
-    ensures restorable { (before after : Configuration) (step : Step) → is_restorable before ≡ true → outcome before step ≡ Ok after → is_restorable after ≡ true }
-    ensures voter { (before after : Configuration) (step : Step) → is_restorable before ≡ true → outcome before step ≡ Ok after → has_voter after ≡ true }
-    ensures begun { (floor : Floor) (last_index : ℕ) (c : Configuration) → is_restorable c ≡ true → IsSound (begun_with floor last_index c).tracker }
+    ensures restorable { (before after : Configuration) (step : Step) → is_restorable before ≡ true
+        → outcome before step ≡ Ok after → is_restorable after ≡ true }
+    ensures voter { (before after : Configuration) (step : Step) → is_restorable before ≡ true
+        → outcome before step ≡ Ok after → has_voter after ≡ true }
+    ensures begun { (floor : Floor) (last_index : ℕ) (c : Configuration) → is_restorable c ≡ true
+        → IsSound (begun_with floor last_index c).tracker }
     ensures empty { (floor : Floor) (last_index : ℕ) → IsSound (new_changer floor last_index).tracker }
-    ensures acknowledged { (before : ChangerState) (id index : ℕ) (p : Progress) → IsSound before.tracker → ack_answer before.tracker id index ≡ Ok p
+    ensures acknowledged { (before : ChangerState) (id index : ℕ) (p : Progress) → IsSound before.tracker
+        → ack_answer before.tracker id index ≡ Ok p
         → IsSound (changer_with_progress before id p).tracker }
 {}
 
@@ -109,13 +122,16 @@ pub fn result_by_member()
     ensures incoming { (c : Configuration) (changes : List Change) (id : ℕ)
         → has (result_of c changes).incoming id ≡ is_incoming_after (last_effective changes id) (has c.incoming id) }
     ensures learners { (c : Configuration) (changes : List Change) (id : ℕ)
-        → has (result_of c changes).learners id ≡ is_learner_after (last_effective changes id) (has c.outgoing id) (has c.learners id) }
+        → has (result_of c changes).learners id
+        ≡ is_learner_after (last_effective changes id) (has c.outgoing id) (has c.learners id) }
     ensures learners_next { (c : Configuration) (changes : List Change) (id : ℕ)
-        → has (result_of c changes).learners_next id ≡ is_next_after (last_effective changes id) (has c.outgoing id) (has c.learners_next id) }
+        → has (result_of c changes).learners_next id
+        ≡ is_next_after (last_effective changes id) (has c.outgoing id) (has c.learners_next id) }
 {}
 
 /// The voters before and after an accepted step are neighbours, so each quorum before it shares a member with each
 /// quorum after it (Ongaro's dissertation, 4.1 and 4.3).
 pub fn steps_lead_to_neighbours()
-    ensures { (before after : Configuration) (step : Step) → outcome before step ≡ Ok after → AreNeighbours (voters_of before) (voters_of after) }
+    ensures { (before after : Configuration) (step : Step) → outcome before step ≡ Ok after
+        → AreNeighbours (voters_of before) (voters_of after) }
 {}

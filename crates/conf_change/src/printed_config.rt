@@ -24,7 +24,8 @@ use std::alloc::{AllocError, Global};
 #[tactic(auto, using(crate::proofs::Texts::PrintedConfig::printed_laws))]
 pub fn read_config(alloc: Global, text: &[u8]) -> Result<ConfState, ConfStateFault>
     ensures denotes { IfOk result (DenotesConfig text.now) }
-    ensures bad { result ≡ Err ConfStateFault.BadConfState → (saved : ConfStateLists) → ¬ (DenotesConfig text.now saved) }
+    ensures bad { result ≡ Err ConfStateFault.BadConfState → (saved : ConfStateLists)
+        → ¬ (DenotesConfig text.now saved) }
 
     // As a function of the text:
     ensures value { IfOk result (λ saved. config_in text.now ≡ Some saved) }
@@ -100,8 +101,10 @@ fn read_part<'a>(
     begun: Option<&'a [u8]>,
     text: &'a [u8],
 ) -> Result<(Vec<u64>, &'a [u8]), ConfStateFault>
-    ensures ok { IfOk result (λ read. part_in (option_map (λ rest. tokens_in rest.now) begun.entry) (tokens_in text.now) ≡ Some (read.0.items, tokens_in read.1.now)) }
-    ensures bad { result ≡ Err ConfStateFault.BadConfState → part_in (option_map (λ rest. tokens_in rest.now) begun.entry) (tokens_in text.now) ≡ None }
+    ensures ok { IfOk result (λ read. part_in (option_map (λ rest. tokens_in rest.now) begun.entry) (tokens_in text.now)
+        ≡ Some (read.0.items, tokens_in read.1.now)) }
+    ensures bad { result ≡ Err ConfStateFault.BadConfState
+        → part_in (option_map (λ rest. tokens_in rest.now) begun.entry) (tokens_in text.now) ≡ None }
 {
     let Some(rest) = begun else {
         return Ok((Vec::new(alloc), text));
@@ -124,7 +127,8 @@ fn read_set<'a>(alloc: Global, text: &'a [u8]) -> Result<(Vec<u64>, &'a [u8]), C
 
 // Reads numbers before a closing bracket, and returns the text after it.
 fn read_to_close<'a>(alloc: Global, text: &'a [u8]) -> Result<(Vec<u64>, &'a [u8]), ConfStateFault>
-    ensures ok { IfOk result (λ read. printed.numbers_to_close (tokens_in text.now) ≡ Some (read.0.items, tokens_in read.1.now)) }
+    ensures ok { IfOk result (λ read. printed.numbers_to_close (tokens_in text.now)
+        ≡ Some (read.0.items, tokens_in read.1.now)) }
     ensures bad { result ≡ Err ConfStateFault.BadConfState → printed.numbers_to_close (tokens_in text.now) ≡ None }
 {
     let mut numbers = Vec::new(alloc);

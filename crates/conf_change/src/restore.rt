@@ -26,7 +26,7 @@ use crate::floor::Floor;
 use crate::progress::Progress;
 use crate::saved_configuration::{ConfState, SavedLists};
 use crate::tracker::Tracker;
-use quorum_sets::{MemberSet, NoMemory, contains_from, union};
+use quorum_sets::{MemberSet, NoMemory, contains_from};
 use smallvec::SmallVec;
 use std::alloc::Global;
 use thiserror::Error;
@@ -55,17 +55,19 @@ impl From<NoMemory> for RestoreFault {
 impl<S: MemberSet> Changer<S> {
     /// A changer with the saved configuration, fresh progress and floor one (etcd's `confchange.Restore`). Refused with
     /// NotAConfiguration if a list names an id twice, if the configuration is not valid, or if it has members but no
-    /// incoming voter (own).
+    /// incoming voter.
     pub fn restore(
         alloc: Global,
         state: &ConfState,
         last_index: u64,
     ) -> Result<Changer<S>, RestoreFault>
         ensures described { (c : Configuration) → Describes state.now c → is_restorable c ≡ true →
-            MatchResult result (λ changer. changer ≡ begun_with One last_index c) (λ fault. fault ≡ RestoreFault.NoMemory) }
+            MatchResult result (λ changer. changer ≡ begun_with One last_index c)
+            (λ fault. fault ≡ RestoreFault.NoMemory) }
         ensures restored { IfOk result (λ changer. Describes state.now changer.tracker.config) }
         ensures sound { IfOk result (λ changer. IsSound changer.tracker) }
-        ensures as_function { MatchResult result (λ changer. restored state.now ≡ Some changer.tracker.config) (λ fault. fault ≡ RestoreFault.NotAConfiguration → restored state.now ≡ None) }
+        ensures as_function { MatchResult result (λ changer. restored state.now ≡ Some changer.tracker.config)
+            (λ fault. fault ≡ RestoreFault.NotAConfiguration → restored state.now ≡ None) }
     {
         Changer::restore_with_floor(alloc, state, last_index, Floor::One)
     }
@@ -79,12 +81,14 @@ impl<S: MemberSet> Changer<S> {
     ) -> Result<Changer<S>, RestoreFault>
         // A ConfState that describes a restorable configuration is restored to it, whatever the order of its lists.
         ensures described { (c : Configuration) → Describes state.now c → is_restorable c ≡ true →
-            MatchResult result (λ changer. changer ≡ begun_with floor last_index c) (λ fault. fault ≡ RestoreFault.NoMemory) }
+            MatchResult result (λ changer. changer ≡ begun_with floor last_index c)
+            (λ fault. fault ≡ RestoreFault.NoMemory) }
         // Any other is refused, since all trackers are sound.
         ensures restored { IfOk result (λ changer. Describes state.now changer.tracker.config) }
         ensures sound { IfOk result (λ changer. IsSound changer.tracker) }
         // As a function of the ConfState:
-        ensures as_function { MatchResult result (λ changer. restored state.now ≡ Some changer.tracker.config) (λ fault. fault ≡ RestoreFault.NotAConfiguration → restored state.now ≡ None) }
+        ensures as_function { MatchResult result (λ changer. restored state.now ≡ Some changer.tracker.config)
+            (λ fault. fault ≡ RestoreFault.NotAConfiguration → restored state.now ≡ None) }
     {
         let config = described(alloc, state)?;
         if !is_restorable(&config) {
@@ -96,7 +100,7 @@ impl<S: MemberSet> Changer<S> {
 }
 
 /// The configuration that a ConfState describes, valid or not. Refused with NotAConfiguration if one of its lists names
-/// an id twice (own).
+/// an id twice.
 pub fn described<S: MemberSet>(alloc: Global, state: &ConfState) -> Result<Config<S>, RestoreFault>
     ensures described { IfOk result (λ config. Describes state.now config) }
     ensures refused { result ≡ Err RestoreFault.NotAConfiguration → (c : Configuration) → Describes state.now c → ⊥ }
@@ -148,7 +152,7 @@ fn is_restorable<S: MemberSet>(config: &Config<S>) -> bool
 }
 
 /// Whether the configuration has an incoming voter or is empty. Steps from the empty one never lead to a configuration
-/// without a voter (own).
+/// without a voter.
 pub fn has_voter_or_is_empty<S: MemberSet>(config: &Config<S>) -> bool
     ensures { result ≡ has_voter_or_is_empty config.now }
 {
@@ -167,8 +171,7 @@ fn fresh_progress<S: MemberSet>(
     ensures ascends { IfOk result (λ members. IsAscending (map (λ m. m.0) members.items)) }
     ensures fresh { IfOk result (λ members. finite.from_entries members.items ≡ all_fresh next_index config.now) }
 {
-    let voters = union(&config.incoming, &config.outgoing)?;
-    let ids = union(&voters, &config.learners)?;
+    let ids = config.members()?;
     fresh_of(alloc, &ids, &config.learners, next_index)
 }
 
@@ -179,7 +182,8 @@ fn fresh_of<S: MemberSet>(
     learners: &S,
     next_index: u64,
 ) -> Result<SmallVec<(u64, Progress), 1>, NoMemory>
-    ensures { IfOk result (λ members. members.items ≡ map (λ id. (id, fresh_progress next_index (has (S.ids learners.now) id))) (ascending (S.ids ids.now))) }
+    ensures { IfOk result (λ members. members.items
+        ≡ map (λ id. (id, fresh_progress next_index (has (S.ids learners.now) id))) (ascending (S.ids ids.now))) }
 {
     let fresh = Progress::fresh(next_index);
     let mut members = SmallVec::with_capacity(alloc, ids.len())?;

@@ -18,7 +18,7 @@ use crate::change_list::TokenFault;
 use crate::config::Config;
 use crate::progress::Progress;
 use crate::refused::Refused;
-use ascii_text::append::{append, append_number, keep_whole};
+use ascii_text::append::{append, append_number, undo_if_failed};
 use quorum_sets::{MemberSet, NoMemory};
 
 /// Appends a configuration, without a newline: `voters=(1 2)`, `&&(2 3)` if it is joint, its learners and next learners
@@ -30,7 +30,7 @@ pub fn write_config<S: MemberSet>(text: &mut Vec<u8>, config: &Config<S>) -> Res
 {
     let len = text.len();
     let appended = append_config(text, config);
-    keep_whole(text, len, appended)
+    undo_if_failed(text, len, appended)
 }
 
 fn append_config<S: MemberSet>(text: &mut Vec<u8>, config: &Config<S>) -> Result<(), NoMemory>
@@ -47,7 +47,8 @@ fn append_config<S: MemberSet>(text: &mut Vec<u8>, config: &Config<S>) -> Result
 // Appends a name and a set, unless the set is empty.
 #[inline(always)]
 fn append_any<S: MemberSet>(text: &mut Vec<u8>, name: &[u8], set: &S) -> Result<(), NoMemory>
-    ensures ok { OnOk result (text.new.items ≡ text.old.items ++ text_if (not (is_empty (S.ids set.now))) (name.now ++ set_text (S.ids set.now))) }
+    ensures ok { OnOk result (text.new.items
+        ≡ text.old.items ++ text_if (not (is_empty (S.ids set.now))) (name.now ++ set_text (S.ids set.now))) }
     ensures extends { Extends text.old.items text.new.items }
 {
     if set.len() > 0 {
@@ -90,7 +91,7 @@ pub fn write_progress(text: &mut Vec<u8>, id: u64, progress: Progress) -> Result
 {
     let len = text.len();
     let appended = append_progress(text, id, progress);
-    keep_whole(text, len, appended)
+    undo_if_failed(text, len, appended)
 }
 
 fn append_progress(text: &mut Vec<u8>, id: u64, progress: Progress) -> Result<(), NoMemory>
@@ -128,7 +129,8 @@ pub fn write_refused(text: &mut Vec<u8>, refused: Refused) -> Result<(), NoMemor
 /// `unknown input: x1`, as etcd's test scripts have it, or `bad number: v-1` (own). `NoMemory` has no message; it is
 /// returned as the error.
 pub fn write_token_fault(text: &mut Vec<u8>, fault: TokenFault<'_>) -> Result<(), NoMemory>
-    ensures ok { OnOk result (IsSomeAnd (bad_token fault.entry) (λ bad. text.new.items ≡ text.old.items ++ bad_token_text bad)) }
+    ensures ok { OnOk result (IsSomeAnd (bad_token fault.entry)
+        (λ bad. text.new.items ≡ text.old.items ++ bad_token_text bad)) }
     ensures err { OnErr result (text.new.items ≡ text.old.items) }
 {
     match fault {
@@ -146,7 +148,7 @@ fn append_both(text: &mut Vec<u8>, message: &[u8], token: &[u8]) -> Result<(), N
 {
     let len = text.len();
     let appended = append_parts(text, message, token);
-    keep_whole(text, len, appended)
+    undo_if_failed(text, len, appended)
 }
 
 fn append_parts(text: &mut Vec<u8>, message: &[u8], token: &[u8]) -> Result<(), NoMemory>

@@ -1,16 +1,18 @@
 //! What is wrong with a ConfState that describes no valid configuration, or with a configuration that is not valid. A
 //! user who wrote it by hand is shown the id to look at.
+//!
+//! What names no source here is own.
 ghost use Rattle.std.specs.Prelude.{◌≡◌, ◌↔◌, None, IsTrue};
 ghost use Rattle.conf_change.specs.Configuration.{is_valid};
 ghost use Rattle.conf_change.specs.Violation.{violation_by, violation_of};
 
 use crate::config::{Config, Invariant, check};
-use crate::first_that::first_that;
+use crate::find_id::find_id;
 use quorum_sets::MemberSet;
 use thiserror::Error;
 
 /// An id that a list of a ConfState names twice, or an invariant that a configuration breaks, with the least id that
-/// breaks it, if the invariant is about ids (own).
+/// breaks it, if the invariant is about ids.
 #[derive(Clone, Copy, Debug, PartialEq, Eq, Error)]
 pub enum Violation {
     /// As in `Voters:[3 3]`.
@@ -36,7 +38,7 @@ pub enum Violation {
     NotJointButAutoLeave,
 }
 
-/// The first invariant that a configuration breaks, with the least id that breaks it; none if it is valid (own).
+/// The first invariant that a configuration breaks, with the least id that breaks it; none if it is valid.
 pub fn first_violation<S: MemberSet>(config: &Config<S>) -> Option<Violation>
     ensures value { result ≡ violation_of config.now }
     ensures none { (result ≡ None) ↔ IsTrue (is_valid config.now) }
@@ -61,15 +63,15 @@ fn violation_by<S: MemberSet>(config: &Config<S>, invariant: Invariant) -> Optio
     match invariant {
         Invariant::ZeroId => Some(Violation::ZeroId),
         Invariant::NextNotOutgoing => {
-            let id = first_that(next, |id| !outgoing.contains(id))?;
+            let id = find_id(next, |id| !outgoing.contains(id))?;
             Some(Violation::NextNotOutgoing(id))
         }
         Invariant::NextAndIncoming => {
-            let id = first_that(next, |id| incoming.contains(id))?;
+            let id = find_id(next, |id| incoming.contains(id))?;
             Some(Violation::NextAndIncoming(id))
         }
         Invariant::LearnerAndVoter => {
-            let id = first_that(
+            let id = find_id(
                 learners,
                 |id| incoming.contains(id) || outgoing.contains(id),
             )?;

@@ -1,6 +1,6 @@
 -- The path from one configuration to another by each strategy (own).
-use Rattle.std.specs.Prelude.{Bool, true, not, ◌||◌, List, [], ◌∷◌, if◌then◌else◌}
-use Rattle.quorum_sets.specs.Ids.{Ids}
+use Rattle.std.specs.Prelude.{Bool, true, not, ◌||◌, List, [], ◌∷◌, Option, Some, None, if◌then◌else◌}
+use Rattle.quorum_sets.specs.Ids.{Ids, no_ids}
 use Rattle.conf_change.specs.Configuration.{Configuration, is_joint, is_same}
 use Rattle.conf_change.specs.Outcome.{after_leave}
 use Rattle.conf_change.specs.declared.step.Step.{Step}
@@ -11,6 +11,11 @@ use Rattle.conf_plan.specs.OneAtATime.{one_at_a_time_from_single}
 use Rattle.conf_plan.specs.Planned.{planned_from_single}
 use Rattle.conf_plan.specs.declared.strategy.Strategy.{Strategy}
 use Rattle.conf_plan.specs.declared.strategy.Strategy.TheVariants.{Shortest, LearnersFirst, OneAtATime}
+
+-- the ids that are down: none if none are given
+abbrev pub ids_down : Option Ids → Ids
+ids_down None = no_ids
+ids_down (Some down) = down
 
 -- the path from a configuration that is not joint, by a strategy; the ids that are down matter to OneAtATime alone
 abbrev pub from_single_by : Strategy → Ids → Configuration → Configuration → List Step

@@ -30,13 +30,19 @@ pub fn apply_plan<S: MemberSet>(changer: &mut Changer<S>, plan: &Plan) -> Result
     ensures taken { OnOk result (Takes changer.old plan.now changer.new) }
     ensures stopped { IfErr result (λ stop. StopsAt changer.old plan.now stop.step stop.refused changer.new) }
     ensures sound { IsSound changer.new.tracker }
-    ensures reached { OnOk result ((target : Configuration) → IsRun changer.old.tracker.config plan.now target → changer.new.tracker.config ≡ target) }
-    ensures preserved { OnOk result ((id : ℕ) → Preserves changer.old.tracker.config plan.now changer.new.tracker.config id → HasKeptProgress changer.old changer.new id) }
-    ensures preserving { OnOk result ((target : Configuration) (other : List Step) (id : ℕ) → plan.now ≡ planned changer.old.tracker.config target
+    ensures reached { OnOk result ((target : Configuration) → IsRun changer.old.tracker.config plan.now target
+        → changer.new.tracker.config ≡ target) }
+    ensures preserved { OnOk result ((id : ℕ)
+        → Preserves changer.old.tracker.config plan.now changer.new.tracker.config id
+        → HasKeptProgress changer.old changer.new id) }
+    ensures preserving { OnOk result ((target : Configuration) (other : List Step) (id : ℕ)
+        → plan.now ≡ planned changer.old.tracker.config target
         → Preserves changer.old.tracker.config other target id → HasKeptProgress changer.old changer.new id) }
-    ensures best { OnOk result ((target : Configuration) → plan.now ≡ planned changer.old.tracker.config target → IsValidWithVoter changer.old.tracker.config
+    ensures best { OnOk result ((target : Configuration) → plan.now ≡ planned changer.old.tracker.config target
+        → IsValidWithVoter changer.old.tracker.config
         → IsValidWithVoter target → IsBest changer.old.tracker.config plan.now changer.new.tracker.config) }
-    ensures memory_alone { IfErr result (λ stop. (target : Configuration) → IsRun changer.old.tracker.config plan.now target → stop.refused ≡ Refused.NoMemory) }
+    ensures memory_alone { IfErr result (λ stop. (target : Configuration)
+        → IsRun changer.old.tracker.config plan.now target → stop.refused ≡ Refused.NoMemory) }
 {
     let _tracker = changer.tracker();
     apply_path(changer, plan)
@@ -49,9 +55,13 @@ pub fn apply_path<S: MemberSet>(changer: &mut Changer<S>, path: &Path) -> Result
     ensures taken { OnOk result (Takes changer.old path.now changer.new) }
     ensures stopped { IfErr result (λ stop. StopsAt changer.old path.now stop.step stop.refused changer.new) }
     ensures sound { IsSound changer.new.tracker }
-    ensures reached { OnOk result ((target : Configuration) → IsRun changer.old.tracker.config path.now target → changer.new.tracker.config ≡ target) }
-    ensures preserved { OnOk result ((id : ℕ) → Preserves changer.old.tracker.config path.now changer.new.tracker.config id → HasKeptProgress changer.old changer.new id) }
-    ensures memory_alone { IfErr result (λ stop. (target : Configuration) → IsRun changer.old.tracker.config path.now target → stop.refused ≡ Refused.NoMemory) }
+    ensures reached { OnOk result ((target : Configuration) → IsRun changer.old.tracker.config path.now target
+        → changer.new.tracker.config ≡ target) }
+    ensures preserved { OnOk result ((id : ℕ)
+        → Preserves changer.old.tracker.config path.now changer.new.tracker.config id
+        → HasKeptProgress changer.old changer.new id) }
+    ensures memory_alone { IfErr result (λ stop. (target : Configuration)
+        → IsRun changer.old.tracker.config path.now target → stop.refused ≡ Refused.NoMemory) }
 {
     let _tracker = changer.tracker();
     for index in 0..path.len() {

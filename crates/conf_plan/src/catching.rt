@@ -9,8 +9,8 @@ ghost use Rattle.conf_change.specs.Transition.{step_of};
 ghost use Rattle.conf_change.specs.declared.step.Step.{Step};
 ghost use Rattle.conf_plan.specs.OnTheWay.{catching_up};
 
-use crate::picked::picked;
-use conf_change::{Change, Config, Kind, Step, StepKind, union};
+use crate::filtered::filtered;
+use conf_change::{Change, Config, Kind, Step, StepKind};
 use quorum_sets::{MemberSet, NoMemory};
 use std::alloc::Global;
 
@@ -25,7 +25,7 @@ pub fn catching_up<S: MemberSet>(
 ) -> Result<S, NoMemory>
     ensures { IfOk result (λ ids. S.ids ids ≡ catching_up before.now step.now after.now) }
 {
-    fresh_members(alloc, before, step.changes(), after)
+    catching_up_after(alloc, before, step.changes(), after)
 }
 
 /// As [`catching_up`], for the step of this kind with these changes; leaving a joint configuration ignores them.
@@ -42,28 +42,29 @@ pub fn catching_up_by<S: MemberSet>(
         StepKind::Simple | StepKind::Enter(_) => changes,
         StepKind::Leave => &[],
     };
-    fresh_members(alloc, before, changes, after)
+    catching_up_after(alloc, before, changes, after)
 }
 
 // The members after a step with these changes that do not keep their progress in it.
-fn fresh_members<S: MemberSet>(
+fn catching_up_after<S: MemberSet>(
     alloc: Global,
     before: &Config<S>,
     changes: &[Change],
     after: &Config<S>,
 ) -> Result<S, NoMemory>
-    ensures { IfOk result (λ ids. (step : Step) → changes_of step ≡ changes.now → S.ids ids ≡ catching_up before.now step after.now) }
+    ensures { IfOk result (λ ids. (step : Step) → changes_of step ≡ changes.now
+        → S.ids ids ≡ catching_up before.now step after.now) }
 {
-    let voters = union(&after.incoming, &after.outgoing)?;
-    let members = union(&voters, &after.learners)?;
+    let members = after.members()?;
     let mut removed = S::empty(alloc);
     add_removed(&mut removed, changes)?;
-    picked(alloc, &members, |id| has_lost(before, after, &removed, id))
+    filtered(alloc, &members, |id| has_lost(before, after, &removed, id))
 }
 
 // Adds the ids that the changes remove.
 fn add_removed<S: MemberSet>(removed: &mut S, changes: &[Change]) -> Result<(), NoMemory>
-    ensures { OnOk result ((id : ℕ) → has (S.ids removed.new) id ≡ (has (S.ids removed.old) id || removes changes.now id)) }
+    ensures { OnOk result ((id : ℕ)
+        → has (S.ids removed.new) id ≡ (has (S.ids removed.old) id || removes changes.now id)) }
 {
     for change in changes {
         if is_removal(change.kind) {
@@ -88,12 +89,5 @@ fn is_removal(kind: Kind) -> bool
 fn has_lost<S: MemberSet>(before: &Config<S>, after: &Config<S>, removed: &S, id: u64) -> bool
     ensures { result ≡ (not (is_member before.now id) || (has (S.ids removed.now) id && not (has after.now.outgoing id))) }
 {
-    !is_member(before, id) || (removed.contains(id) && !after.outgoing.contains(id))
-}
-
-// Whether the id is a voter of either kind, or a learner.
-fn is_member<S: MemberSet>(config: &Config<S>, id: u64) -> bool
-    ensures { result ≡ is_member config.now id }
-{
-    config.incoming.contains(id) || config.outgoing.contains(id) || config.learners.contains(id)
+    !before.is_member(id) || (removed.contains(id) && !after.outgoing.contains(id))
 }

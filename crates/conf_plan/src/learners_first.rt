@@ -15,9 +15,9 @@ ghost use Rattle.conf_plan.specs.Planned.{single_with};
 ghost use Rattle.conf_plan.specs.Run.{IsValidWithVoter};
 ghost use Rattle.conf_plan.specs.AddedSteps.{IsAdded};
 
-use crate::picked::picked;
+use crate::filtered::filtered;
+use crate::not_joint::NotJoint;
 use crate::planner::{add_from_single, add_single_steps};
-use crate::single::Single;
 use conf_change::{Config, Step, union};
 use quorum_sets::{MemberSet, NoMemory};
 use std::alloc::Global;
@@ -27,7 +27,7 @@ use std::alloc::Global;
 pub(crate) fn add_learners_first<S: MemberSet>(
     alloc: Global,
     steps: &mut Vec<Step>,
-    start: &Single<S>,
+    start: &NotJoint<S>,
     target: &Config<S>,
 ) -> Result<(), NoMemory>
     requires start { IsValidWithVoter (single_with (S.ids start.now.incoming.now) (S.ids start.now.learners.now)) }
@@ -40,7 +40,7 @@ pub(crate) fn add_learners_first<S: MemberSet>(
     }
     let learners = union(start.learners, &newcomers)?;
     add_single_steps(alloc, steps, start, start.incoming, &learners)?;
-    let learning = Single {
+    let learning = NotJoint {
         incoming: start.incoming,
         learners: &learners,
     };
@@ -50,13 +50,14 @@ pub(crate) fn add_learners_first<S: MemberSet>(
 // The voters of the target, incoming or outgoing, that are not members: 4 and 5 on the way from (1 2 3) to (3 4 5).
 fn newcomers<S: MemberSet>(
     alloc: Global,
-    start: &Single<S>,
+    start: &NotJoint<S>,
     target: &Config<S>,
 ) -> Result<S, NoMemory>
-    ensures { IfOk result (λ ids. S.ids ids ≡ first.newcomers (single_with (S.ids start.now.incoming.now) (S.ids start.now.learners.now)) target.now) }
+    ensures { IfOk result (λ ids. S.ids ids
+        ≡ first.newcomers (single_with (S.ids start.now.incoming.now) (S.ids start.now.learners.now)) target.now) }
 {
     let voters = union(&target.incoming, &target.outgoing)?;
-    picked(
+    filtered(
         alloc,
         &voters,
         |id| !start.incoming.contains(id) && !start.learners.contains(id),

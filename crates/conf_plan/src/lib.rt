@@ -39,16 +39,16 @@
 
 pub mod apply;
 mod catching;
+mod filtered;
 pub mod laws;
 mod learners_first;
 mod moves;
+mod not_joint;
 mod one_at_a_time;
 mod one_change_each;
 pub mod path;
-mod picked;
 pub mod planner;
 mod shared_members;
-mod single;
 pub mod step_list;
 pub mod strategy;
 pub mod text;

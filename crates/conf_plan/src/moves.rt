@@ -26,7 +26,8 @@ pub(crate) fn moves_to<S: MemberSet>(
     to_voters: &S,
     to_learners: &S,
 ) -> Result<Vec<Change>, NoMemory>
-    ensures moves { IfOk result (λ changes. changes.items ≡ moves (single_with (S.ids incoming.now) (S.ids learners.now)) (S.ids to_voters.now) (S.ids to_learners.now)) }
+    ensures moves { IfOk result (λ changes. changes.items
+        ≡ moves (single_with (S.ids incoming.now) (S.ids learners.now)) (S.ids to_voters.now) (S.ids to_learners.now)) }
     ensures u64_ids { IfOk result (λ changes. All (λ change. change.id < 2 ^ 64) changes.items) }
 {
     let ids = union_of_all(alloc, to_voters, to_learners, incoming, learners)?;
@@ -47,7 +48,8 @@ pub(crate) fn moves_to<S: MemberSet>(
 
 // The union of four sets: one list of their ids is sorted once.
 fn union_of_all<S: MemberSet>(alloc: Global, a: &S, b: &S, c: &S, d: &S) -> Result<S, NoMemory>
-    ensures { IfOk result (λ all. S.ids all ≡ union (union (S.ids a.now) (S.ids b.now)) (union (S.ids c.now) (S.ids d.now))) }
+    ensures { IfOk result (λ all. S.ids all
+        ≡ union (union (S.ids a.now) (S.ids b.now)) (union (S.ids c.now) (S.ids d.now))) }
 {
     let mut ids = SmallVec::new(alloc);
     add_ids(&mut ids, a)?;

@@ -31,10 +31,10 @@ ghost use Rattle.conf_plan.specs.OneAtATime.{steps_of, learners_first, in_turn, 
 ghost use Rattle.conf_plan.specs.Planned.{single_with};
 ghost use Rattle.conf_plan.specs.AddedSteps.{IsAdded};
 
+use crate::filtered::filtered;
 use crate::moves::kind_of_move;
+use crate::not_joint::NotJoint;
 use crate::one_change_each::add_change;
-use crate::picked::picked;
-use crate::single::Single;
 use conf_change::{Config, Kind, Step};
 use quorum_sets::{MemberSet, NoMemory, add_ids, commits_without};
 use smallvec::SmallVec;
@@ -45,11 +45,12 @@ use std::alloc::Global;
 pub(crate) fn add_one_at_a_time<S: MemberSet>(
     alloc: Global,
     steps: &mut Vec<Step>,
-    start: &Single<S>,
+    start: &NotJoint<S>,
     target: &Config<S>,
     down: &S,
 ) -> Result<(), NoMemory>
-    ensures { OnOk result (IsAdded steps.old.items (one_at_a_time_from_single (S.ids down.now) (single_with (S.ids start.now.incoming.now) (S.ids start.now.learners.now)) target.now) steps.new.items) }
+    ensures { OnOk result (IsAdded steps.old.items (one_at_a_time_from_single (S.ids down.now)
+        (single_with (S.ids start.now.incoming.now) (S.ids start.now.learners.now)) target.now) steps.new.items) }
 {
     if both_commit(alloc, start, target, down) {
         add_in_order(alloc, steps, start, target, down)
@@ -60,8 +61,14 @@ pub(crate) fn add_one_at_a_time<S: MemberSet>(
 }
 
 // Whether a configuration that is not joint and the target both commit while these ids are down.
-fn both_commit<S: MemberSet>(alloc: Global, start: &Single<S>, target: &Config<S>, down: &S) -> bool
-    ensures { result ≡ (commits_without (voters_of (single_with (S.ids start.now.incoming.now) (S.ids start.now.learners.now))) (S.ids down.now) && commits_without (voters_of target.now) (S.ids down.now)) }
+fn both_commit<S: MemberSet>(
+    alloc: Global,
+    start: &NotJoint<S>,
+    target: &Config<S>,
+    down: &S,
+) -> bool
+    ensures { result ≡ (commits_without (voters_of (single_with (S.ids start.now.incoming.now)
+        (S.ids start.now.learners.now))) (S.ids down.now) && commits_without (voters_of target.now) (S.ids down.now)) }
 {
     let none = S::empty(alloc);
     commits_without((start.incoming, &none), down)
@@ -72,11 +79,14 @@ fn both_commit<S: MemberSet>(alloc: Global, start: &Single<S>, target: &Config<S
 fn add_in_order<S: MemberSet>(
     alloc: Global,
     steps: &mut Vec<Step>,
-    start: &Single<S>,
+    start: &NotJoint<S>,
     target: &Config<S>,
     down: &S,
 ) -> Result<(), NoMemory>
-    ensures { OnOk result (IsAdded steps.old.items (flat_map (steps_of (single_with (S.ids start.now.incoming.now) (S.ids start.now.learners.now)) target.now) (order (S.ids down.now) (single_with (S.ids start.now.incoming.now) (S.ids start.now.learners.now)) target.now)) steps.new.items) }
+    ensures { OnOk result (IsAdded steps.old.items (flat_map (steps_of (single_with (S.ids start.now.incoming.now)
+        (S.ids start.now.learners.now)) target.now)
+        (order (S.ids down.now)
+        (single_with (S.ids start.now.incoming.now) (S.ids start.now.learners.now)) target.now)) steps.new.items) }
 {
     let ids = ids_in_order(alloc, start, target, down)?;
     for id in ids.as_slice() {
@@ -88,40 +98,42 @@ fn add_in_order<S: MemberSet>(
 // The ids in the order in which they get their roles in the target.
 fn ids_in_order<S: MemberSet>(
     alloc: Global,
-    start: &Single<S>,
+    start: &NotJoint<S>,
     target: &Config<S>,
     down: &S,
 ) -> Result<SmallVec<u64, 16>, NoMemory>
-    ensures { IfOk result (λ ids. ids.items ≡ order (S.ids down.now) (single_with (S.ids start.now.incoming.now) (S.ids start.now.learners.now)) target.now) }
+    ensures { IfOk result (λ ids. ids.items
+        ≡ order (S.ids down.now)
+        (single_with (S.ids start.now.incoming.now) (S.ids start.now.learners.now)) target.now) }
 {
-    let retiring_down = picked(
+    let retiring_down = filtered(
         alloc,
         start.incoming,
         |id| !target.incoming.contains(id) && down.contains(id),
     )?;
-    let leaving = picked(
+    let leaving = filtered(
         alloc,
         start.learners,
         |id| !(start.incoming.contains(id)
             || target.incoming.contains(id)
             || target.learners.contains(id)),
     )?;
-    let joining_up = picked(
+    let joining_up = filtered(
         alloc,
         &target.incoming,
         |id| !start.incoming.contains(id) && !down.contains(id),
     )?;
-    let retiring_up = picked(
+    let retiring_up = filtered(
         alloc,
         start.incoming,
         |id| !target.incoming.contains(id) && !down.contains(id),
     )?;
-    let joining_down = picked(
+    let joining_down = filtered(
         alloc,
         &target.incoming,
         |id| !start.incoming.contains(id) && down.contains(id),
     )?;
-    let new_learners = picked(
+    let new_learners = filtered(
         alloc,
         &target.learners,
         |id| !(start.incoming.contains(id)
@@ -146,10 +158,11 @@ fn add_learners_first<S: MemberSet>(
     ids: &S,
     learners: &S,
 ) -> Result<(), NoMemory>
-    ensures { OnOk result (list.new.items ≡ list.old.items ++ learners_first (S.ids learners.now) (ascending (S.ids ids.now))) }
+    ensures { OnOk result (list.new.items
+        ≡ list.old.items ++ learners_first (S.ids learners.now) (ascending (S.ids ids.now))) }
 {
-    let learning = picked(alloc, ids, |id| learners.contains(id))?;
-    let others = picked(alloc, ids, |id| !learners.contains(id))?;
+    let learning = filtered(alloc, ids, |id| learners.contains(id))?;
+    let others = filtered(alloc, ids, |id| !learners.contains(id))?;
     add_ids(list, &learning)?;
     add_ids(list, &others)
 }
@@ -184,11 +197,12 @@ fn add_if_any(list: &mut SmallVec<u64, 16>, id: Option<u64>) -> Result<(), NoMem
 fn add_steps_of<S: MemberSet>(
     alloc: Global,
     steps: &mut Vec<Step>,
-    start: &Single<S>,
+    start: &NotJoint<S>,
     target: &Config<S>,
     id: u64,
 ) -> Result<(), NoMemory>
-    ensures { OnOk result (IsAdded steps.old.items (steps_of (single_with (S.ids start.now.incoming.now) (S.ids start.now.learners.now)) target.now id) steps.new.items) }
+    ensures { OnOk result (IsAdded steps.old.items (steps_of (single_with (S.ids start.now.incoming.now)
+        (S.ids start.now.learners.now)) target.now id) steps.new.items) }
 {
     let votes = start.incoming.contains(id);
     let learns = start.learners.contains(id);

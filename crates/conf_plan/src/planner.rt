@@ -11,7 +11,7 @@
 //!
 //! So the longest plan has four steps: leave-joint, enter-joint, leave-joint, enter-joint.
 ghost use Rattle.std.specs.Prelude.{◌≡◌, ◌↔◌, true, false, [], ◌∷◌, Err, IfOk, OnOk};
-ghost use Rattle.conf_change.specs.Configuration.{is_joint, is_same, is_same_set, is_valid, has_voter};
+ghost use Rattle.conf_change.specs.Configuration.{is_joint, is_same, is_valid, has_voter};
 ghost use Rattle.conf_plan.specs.PathBy.{from_single_by, path_by};
 ghost use Rattle.conf_plan.specs.Planned.{single_with, single_steps, entering_step, joint_steps, planned_from_single, planned};
 ghost use Rattle.conf_plan.specs.Best.{IsBest};
@@ -20,12 +20,12 @@ ghost use Rattle.conf_plan.specs.AddedSteps.{IsAdded};
 
 use crate::learners_first::add_learners_first;
 use crate::moves::moves_to;
+use crate::not_joint::NotJoint;
 use crate::one_at_a_time::add_one_at_a_time;
 use crate::shared_members::shared_members;
-use crate::single::Single;
 use crate::step_list::Plan;
 use crate::strategy::{NoPath, Strategy, plan_by};
-use conf_change::{Changes, Config, Step, union};
+use conf_change::{Changes, Config, Step, has_same_ids, union};
 use quorum_sets::{MemberSet, NoMemory, symdiff};
 use std::alloc::Global;
 use thiserror::Error;
@@ -69,10 +69,11 @@ pub fn plan<S: MemberSet>(
     ensures planned { IfOk result (λ plan. plan ≡ planned now.now target.now) }
     ensures best { IfOk result (λ plan. IsBest now.now plan target.now) }
     ensures no_voter_now { (result ≡ Err PlanFault.NoVoterNow) ↔ (has_voter now.now ≡ false) }
-    ensures no_voter_target { (result ≡ Err PlanFault.NoVoterTarget) ↔ ((has_voter now.now ≡ true) × (has_voter target.now ≡ false)) }
+    ensures no_voter_target { (result ≡ Err PlanFault.NoVoterTarget)
+        ↔ ((has_voter now.now ≡ true) × (has_voter target.now ≡ false)) }
 {
     let none = S::empty(alloc);
-    match plan_by(alloc, Strategy::Shortest, now, target, &none) {
+    match plan_by(alloc, Strategy::Shortest, now, target, Some(&none)) {
         Ok(path) => Ok(Plan::of_path(path)),
         Err(NoPath::NoVoterNow) => Err(PlanFault::NoVoterNow),
         Err(NoPath::NoVoterTarget) => Err(PlanFault::NoVoterTarget),
@@ -81,8 +82,8 @@ pub fn plan<S: MemberSet>(
     }
 }
 
-// Appends the path from one configuration to another by a strategy, while these ids are down. Every path out of a joint
-// configuration begins with leaving it.
+// Appends the path from a configuration to another one by a strategy, while these ids are down. Every path out of a
+// joint configuration begins with leaving it.
 pub(crate) fn add_path<S: MemberSet>(
     alloc: Global,
     strategy: Strategy,
@@ -93,21 +94,19 @@ pub(crate) fn add_path<S: MemberSet>(
 ) -> Result<(), NoMemory>
     requires now { IsValidWithVoter now.now }
     requires target { IsValidWithVoter target.now }
+    requires other { is_same now.now target.now ≡ false }
     ensures { OnOk result (IsAdded steps.old.items (path_by strategy (S.ids down.now) now.now target.now) steps.new.items) }
 {
-    if now.same(target) {
-        return Ok(());
-    }
-    if is_joint(now) {
+    if now.is_joint() {
         steps.push(Step::LeaveJoint)?;
         let learners = union(&now.learners, &now.learners_next)?;
-        let start = Single {
+        let start = NotJoint {
             incoming: &now.incoming,
             learners: &learners,
         };
         return add_from_single_by(alloc, strategy, steps, &start, target, down);
     }
-    let start = Single {
+    let start = NotJoint {
         incoming: &now.incoming,
         learners: &now.learners,
     };
@@ -119,13 +118,14 @@ fn add_from_single_by<S: MemberSet>(
     alloc: Global,
     strategy: Strategy,
     steps: &mut Vec<Step>,
-    start: &Single<S>,
+    start: &NotJoint<S>,
     target: &Config<S>,
     down: &S,
 ) -> Result<(), NoMemory>
     requires start { IsValidWithVoter (single_with (S.ids start.now.incoming.now) (S.ids start.now.learners.now)) }
     requires target { IsValidWithVoter target.now }
-    ensures { OnOk result (IsAdded steps.old.items (from_single_by strategy (S.ids down.now) (single_with (S.ids start.now.incoming.now) (S.ids start.now.learners.now)) target.now) steps.new.items) }
+    ensures { OnOk result (IsAdded steps.old.items (from_single_by strategy (S.ids down.now)
+        (single_with (S.ids start.now.incoming.now) (S.ids start.now.learners.now)) target.now) steps.new.items) }
 {
     match strategy {
         Strategy::Shortest => add_from_single(alloc, steps, start, target),
@@ -138,31 +138,25 @@ fn add_from_single_by<S: MemberSet>(
 pub(crate) fn add_from_single<S: MemberSet>(
     alloc: Global,
     steps: &mut Vec<Step>,
-    start: &Single<S>,
+    start: &NotJoint<S>,
     target: &Config<S>,
 ) -> Result<(), NoMemory>
     requires start { IsValidWithVoter (single_with (S.ids start.now.incoming.now) (S.ids start.now.learners.now)) }
     requires target { IsValidWithVoter target.now }
-    ensures { OnOk result (IsAdded steps.old.items (planned_from_single (single_with (S.ids start.now.incoming.now) (S.ids start.now.learners.now)) target.now) steps.new.items) }
+    ensures { OnOk result (IsAdded steps.old.items (planned_from_single (single_with (S.ids start.now.incoming.now)
+        (S.ids start.now.learners.now)) target.now) steps.new.items) }
 {
     if is_same(alloc, start, target) {
         Ok(())
-    } else if is_joint(target) {
+    } else if target.is_joint() {
         add_joint_steps(alloc, steps, start, target)
     } else {
         add_single_steps(alloc, steps, start, &target.incoming, &target.learners)
     }
 }
 
-// Whether the configuration has outgoing voters.
-fn is_joint<S: MemberSet>(config: &Config<S>) -> bool
-    ensures { result ≡ is_joint config.now }
-{
-    config.outgoing.len() != 0
-}
-
 // Whether a configuration that is not joint is the target.
-fn is_same<S: MemberSet>(alloc: Global, start: &Single<S>, target: &Config<S>) -> bool
+fn is_same<S: MemberSet>(alloc: Global, start: &NotJoint<S>, target: &Config<S>) -> bool
     ensures { result ≡ is_same (single_with (S.ids start.now.incoming.now) (S.ids start.now.learners.now)) target.now }
 {
     let none = S::empty(alloc);
@@ -173,25 +167,19 @@ fn is_same<S: MemberSet>(alloc: Global, start: &Single<S>, target: &Config<S>) -
         && !target.auto_leave
 }
 
-// Whether two sets have the same ids.
-fn has_same_ids<S: MemberSet>(a: &S, b: &S) -> bool
-    ensures { result ≡ is_same_set (S.ids a.now) (S.ids b.now) }
-{
-    symdiff(a, b) == 0
-}
-
 // Appends the plan from a configuration that is not joint to a joint one. Entering a joint configuration makes the
 // incoming voters the outgoing ones, so the target's outgoing voters have to become the incoming voters first.
 fn add_joint_steps<S: MemberSet>(
     alloc: Global,
     steps: &mut Vec<Step>,
-    start: &Single<S>,
+    start: &NotJoint<S>,
     target: &Config<S>,
 ) -> Result<(), NoMemory>
     requires start { IsValidWithVoter (single_with (S.ids start.now.incoming.now) (S.ids start.now.learners.now)) }
     requires target { IsValidWithVoter target.now }
     requires joint { is_joint target.now ≡ true }
-    ensures { OnOk result (IsAdded steps.old.items (joint_steps (single_with (S.ids start.now.incoming.now) (S.ids start.now.learners.now)) target.now) steps.new.items) }
+    ensures { OnOk result (IsAdded steps.old.items (joint_steps (single_with (S.ids start.now.incoming.now)
+        (S.ids start.now.learners.now)) target.now) steps.new.items) }
 {
     if has_same_ids(start.incoming, &target.outgoing) {
         return add_entering_step(alloc, steps, start, target);
@@ -199,7 +187,7 @@ fn add_joint_steps<S: MemberSet>(
     // The inserted steps make the target's outgoing voters the incoming ones, with the shared members as learners.
     let shared = shared_members(alloc, start, target)?;
     add_single_steps(alloc, steps, start, &target.outgoing, &shared)?;
-    let between = Single {
+    let between = NotJoint {
         incoming: &target.outgoing,
         learners: &shared,
     };
@@ -210,10 +198,11 @@ fn add_joint_steps<S: MemberSet>(
 fn add_entering_step<S: MemberSet>(
     alloc: Global,
     steps: &mut Vec<Step>,
-    start: &Single<S>,
+    start: &NotJoint<S>,
     target: &Config<S>,
 ) -> Result<(), NoMemory>
-    ensures { OnOk result (IsAdded steps.old.items (entering_step (single_with (S.ids start.now.incoming.now) (S.ids start.now.learners.now)) target.now ∷ []) steps.new.items) }
+    ensures { OnOk result (IsAdded steps.old.items (entering_step (single_with (S.ids start.now.incoming.now)
+        (S.ids start.now.learners.now)) target.now ∷ []) steps.new.items) }
 {
     let to_learners = union(&target.learners, &target.learners_next)?;
     let changes = moves_to(
@@ -232,11 +221,12 @@ fn add_entering_step<S: MemberSet>(
 pub(crate) fn add_single_steps<S: MemberSet>(
     alloc: Global,
     steps: &mut Vec<Step>,
-    start: &Single<S>,
+    start: &NotJoint<S>,
     to_voters: &S,
     to_learners: &S,
 ) -> Result<(), NoMemory>
-    ensures { OnOk result (IsAdded steps.old.items (single_steps (single_with (S.ids start.now.incoming.now) (S.ids start.now.learners.now)) (S.ids to_voters.now) (S.ids to_learners.now)) steps.new.items) }
+    ensures { OnOk result (IsAdded steps.old.items (single_steps (single_with (S.ids start.now.incoming.now)
+        (S.ids start.now.learners.now)) (S.ids to_voters.now) (S.ids to_learners.now)) steps.new.items) }
 {
     let changes = Changes::from(moves_to(
         alloc,

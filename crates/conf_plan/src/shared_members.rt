@@ -10,8 +10,8 @@ ghost use Rattle.std.specs.Prelude.{◌≡◌, IfOk};
 ghost use Rattle.conf_plan.specs.Planned as planned;
 ghost use Rattle.conf_plan.specs.Planned.{single_with, is_shared};
 
-use crate::picked::picked;
-use crate::single::Single;
+use crate::filtered::filtered;
+use crate::not_joint::NotJoint;
 use conf_change::{Config, union};
 use quorum_sets::{MemberSet, NoMemory};
 use std::alloc::Global;
@@ -19,13 +19,15 @@ use std::alloc::Global;
 // The members of both configurations that are not outgoing voters of the target; those are voters on the way anyway.
 pub(crate) fn shared_members<S: MemberSet>(
     alloc: Global,
-    start: &Single<S>,
+    start: &NotJoint<S>,
     target: &Config<S>,
 ) -> Result<S, NoMemory>
-    ensures { IfOk result (λ shared. S.ids shared ≡ planned.shared_members (single_with (S.ids start.now.incoming.now) (S.ids start.now.learners.now)) target.now) }
+    ensures { IfOk result (λ shared. S.ids shared
+        ≡ planned.shared_members (single_with (S.ids start.now.incoming.now)
+        (S.ids start.now.learners.now)) target.now) }
 {
     let members = union(start.incoming, start.learners)?;
-    picked(alloc, &members, |id| is_shared(target, id))
+    filtered(alloc, &members, |id| is_shared(target, id))
 }
 
 // Whether the id is a member of the target, but not an outgoing voter of it.

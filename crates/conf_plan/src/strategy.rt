@@ -1,7 +1,8 @@
 //! The strategies by which a path is chosen: for few steps, or so that new voters can catch up before they vote.
-ghost use Rattle.std.specs.Prelude.{◌≡◌, ◌↔◌, true, false, Err, IfOk};
-ghost use Rattle.conf_change.specs.Configuration.{is_valid, has_voter};
-ghost use Rattle.conf_plan.specs.PathBy.{has_path, path_by, KeepsPromises};
+ghost use Rattle.std.specs.Prelude.{◌≡◌, ◌↔◌, true, false, Err, IfOk, option_copied, option_map};
+ghost use Rattle.conf_change.specs.Configuration.{Configuration, is_same, is_valid, has_voter};
+ghost use Rattle.conf_plan.specs.PathBy.{has_path, ids_down, path_by, KeepsPromises};
+ghost use Rattle.conf_plan.specs.Run.{IsValidWithVoter};
 
 use crate::path::Path;
 use crate::planner::add_path;
@@ -50,22 +51,27 @@ impl From<NoMemory> for NoPath {
 
 /// The path from one configuration to another by a strategy, which keeps the strategy's promises (`KeepsPromises`).
 /// Refused, before anything is allocated, if a configuration has no voter, and by [`Strategy::OneAtATime`] also if the
-/// target is joint and is not the current configuration (own). [`Strategy::OneAtATime`] looks at the ids that are down:
-/// if both configurations commit without them, voters that are down retire first and join last.
+/// target is joint and is not the current configuration (own). [`Strategy::OneAtATime`] looks at the ids that are down,
+/// if any are given: if both configurations commit without them, voters that are down retire first and join last.
 pub fn plan_by<S: MemberSet>(
     alloc: Global,
     strategy: Strategy,
     now: &Config<S>,
     target: &Config<S>,
-    down: &S,
+    down: Option<&S>,
 ) -> Result<Path, NoPath>
     requires valid_now { is_valid now.now ≡ true }
     requires valid_target { is_valid target.now ≡ true }
-    ensures path { IfOk result (λ path. path ≡ path_by strategy (S.ids down.now) now.now target.now) }
-    ensures promises { IfOk result (λ path. KeepsPromises strategy (S.ids down.now) now.now path target.now) }
+    ensures path { IfOk result (λ path. path
+        ≡ path_by strategy (ids_down (option_map S.ids (option_copied down.entry))) now.now target.now) }
+    ensures promises { IfOk result (λ path.
+        KeepsPromises strategy (ids_down (option_map S.ids (option_copied down.entry))) now.now path target.now) }
     ensures no_voter_now { (result ≡ Err NoPath.NoVoterNow) ↔ (has_voter now.now ≡ false) }
-    ensures no_voter_target { (result ≡ Err NoPath.NoVoterTarget) ↔ ((has_voter now.now ≡ true) × (has_voter target.now ≡ false)) }
-    ensures joint_target { (result ≡ Err NoPath.JointTarget) ↔ ((has_voter now.now ≡ true) × (has_voter target.now ≡ true) × (has_path strategy now.now target.now ≡ false)) }
+    ensures no_voter_target { (result ≡ Err NoPath.NoVoterTarget)
+        ↔ ((has_voter now.now ≡ true) × (has_voter target.now ≡ false)) }
+    ensures joint_target { (result ≡ Err NoPath.JointTarget)
+        ↔ ((has_voter now.now ≡ true) × (has_voter target.now ≡ true)
+        × (has_path strategy now.now target.now ≡ false)) }
 {
     if now.incoming.len() == 0 {
         return Err(NoPath::NoVoterNow);
@@ -73,20 +79,42 @@ pub fn plan_by<S: MemberSet>(
     if target.incoming.len() == 0 {
         return Err(NoPath::NoVoterTarget);
     }
-    if !has_path(strategy, now, target) {
+    if now.same(target) {
+        return Ok(Path::of_steps(Vec::new(alloc)));
+    }
+    if !leads_to(strategy, target) {
         return Err(NoPath::JointTarget);
     }
-    let mut steps = Vec::new(alloc);
-    add_path(alloc, strategy, &mut steps, now, target, down)?;
-    Ok(Path::of_steps(steps))
+    match down {
+        Some(down) => Ok(path_to(alloc, strategy, now, target, down)?),
+        None => Ok(path_to(alloc, strategy, now, target, &S::empty(alloc))?),
+    }
 }
 
-// Whether the strategy has a path between configurations with voters.
-fn has_path<S: MemberSet>(strategy: Strategy, now: &Config<S>, target: &Config<S>) -> bool
-    ensures { result ≡ has_path strategy now.now target.now }
+// Whether the strategy has a path to the target from another configuration, if both have voters.
+fn leads_to<S: MemberSet>(strategy: Strategy, target: &Config<S>) -> bool
+    ensures { (now : Configuration) → is_same now target.now ≡ false → result ≡ has_path strategy now target.now }
 {
     match strategy {
         Strategy::Shortest | Strategy::LearnersFirst => true,
-        Strategy::OneAtATime => now.same(target) || target.outgoing.len() == 0,
+        Strategy::OneAtATime => !target.is_joint(),
     }
+}
+
+// The path to another configuration by a strategy, while these ids are down.
+fn path_to<S: MemberSet>(
+    alloc: Global,
+    strategy: Strategy,
+    now: &Config<S>,
+    target: &Config<S>,
+    down: &S,
+) -> Result<Path, NoMemory>
+    requires now { IsValidWithVoter now.now }
+    requires target { IsValidWithVoter target.now }
+    requires other { is_same now.now target.now ≡ false }
+    ensures { IfOk result (λ path. path ≡ path_by strategy (S.ids down.now) now.now target.now) }
+{
+    let mut steps = Vec::new(alloc);
+    add_path(alloc, strategy, &mut steps, now, target, down)?;
+    Ok(Path::of_steps(steps))
 }

@@ -6,6 +6,8 @@
 //! enter-joint autoleave=false r1 r2 v4 v5
 //! leave-joint
 //! ```
+//!
+//! What names no source here is own.
 ghost use Rattle.std.specs.Prelude.{◌≡◌, ◌⊎◌, ◌<◌, ◌≤◌, [], ◌∷◌, ◌++◌, List, None, Ok, Err, length, map, flat_map, IfOk, IfErr, IsErr, IsSome, OnOk, OnErr};
 ghost use Rattle.std.specs.List.{join_with_byte};
 ghost use Rattle.ascii_text.specs.Lines.{full_lines};
@@ -63,7 +65,7 @@ impl From<AllocFailed<Step>> for PlanTextFault {
 }
 
 /// Appends the lines of a plan, each with a newline: `simple v1 r2`, `enter-joint autoleave=false l3`, `leave-joint`,
-/// or `nothing to do` if it has no step (own). [`read_plan`] reads it back as the same plan.
+/// or `nothing to do` if it has no step. [`read_plan`] reads it back as the same plan.
 pub fn print_plan(text: &mut Vec<u8>, plan: &Plan) -> Result<(), NoMemory>
     ensures ok { OnOk result (text.new.items ≡ text.old.items ++ plan_text plan.now) }
     ensures denotes { ParsesToPlan (plan_text plan.now) plan.now }
@@ -73,7 +75,7 @@ pub fn print_plan(text: &mut Vec<u8>, plan: &Plan) -> Result<(), NoMemory>
     print_path(text, plan)
 }
 
-/// Appends the lines of a path, in the form of [`print_plan`] (own). [`read_path`] reads it back as the same path.
+/// Appends the lines of a path, in the form of [`print_plan`]. [`read_path`] reads it back as the same path.
 #[tactic(auto, using(crate::proofs::PlanText::PrintedPlan::printed_laws))]
 pub fn print_path(text: &mut Vec<u8>, path: &Path) -> Result<(), NoMemory>
     ensures ok { OnOk result (text.new.items ≡ text.old.items ++ plan_text path.now) }
@@ -191,12 +193,14 @@ fn letter(kind: Kind) -> u8
 }
 
 /// Reads the lines of a plan: a path of at most four steps. Refused as by [`read_path`], and at a fifth line, whatever
-/// it is (own).
+/// it is.
 pub fn read_plan(alloc: Global, text: &[u8]) -> Result<Plan, PlanTextFault>
     ensures denotes { IfOk result (ParsesToPlan text.now) }
     ensures fault { IfErr result (λ fault. (fault ≡ PlanTextFault.NoMemory) ⊎ HasPlanFault text.now fault) }
-    ensures read { (steps : List Step) → ParsesToPlan text.now steps → (result ≡ Ok steps) ⊎ (result ≡ Err PlanTextFault.NoMemory) }
-    ensures refused { (fault : PlanTextFault) → HasPlanFault text.now fault → (result ≡ Err fault) ⊎ (result ≡ Err PlanTextFault.NoMemory) }
+    ensures read { (steps : List Step) → ParsesToPlan text.now steps → (result ≡ Ok steps)
+        ⊎ (result ≡ Err PlanTextFault.NoMemory) }
+    ensures refused { (fault : PlanTextFault) → HasPlanFault text.now fault → (result ≡ Err fault)
+        ⊎ (result ≡ Err PlanTextFault.NoMemory) }
 
     // As a function of the text.
     ensures value { (result ≡ plan_in text.now) ⊎ (result ≡ Err PlanTextFault.NoMemory) }
@@ -223,12 +227,14 @@ fn at_most_four(read: Result<Path, PlanTextFault>) -> Result<Plan, PlanTextFault
 
 /// Reads the lines of a path of any length, in the form of [`print_path`]; tokens may have any white space around them,
 /// and ids leading zeros. Refused at the first line that is not parsed as a step, and never with `TooManySteps`. A blank
-/// line is not a step, and the empty text is one blank line (own).
+/// line is not a step, and the empty text is one blank line.
 pub fn read_path(alloc: Global, text: &[u8]) -> Result<Path, PlanTextFault>
     ensures denotes { IfOk result (ParsesToPath text.now) }
     ensures fault { IfErr result (λ fault. (fault ≡ PlanTextFault.NoMemory) ⊎ HasPathFault text.now fault) }
-    ensures read { (steps : List Step) → ParsesToPath text.now steps → (result ≡ Ok steps) ⊎ (result ≡ Err PlanTextFault.NoMemory) }
-    ensures refused { (fault : PlanTextFault) → HasPathFault text.now fault → (result ≡ Err fault) ⊎ (result ≡ Err PlanTextFault.NoMemory) }
+    ensures read { (steps : List Step) → ParsesToPath text.now steps → (result ≡ Ok steps)
+        ⊎ (result ≡ Err PlanTextFault.NoMemory) }
+    ensures refused { (fault : PlanTextFault) → HasPathFault text.now fault → (result ≡ Err fault)
+        ⊎ (result ≡ Err PlanTextFault.NoMemory) }
 
     // As a function of the text.
     ensures value { (result ≡ path_in text.now) ⊎ (result ≡ Err PlanTextFault.NoMemory) }

@@ -138,7 +138,8 @@ pub(crate) fn run_directive(
     buffers: &mut Buffers,
     directive: &Directive,
 ) -> Result<Reply, NoMemory>
-    ensures reply { IfOk result (λ reply. reply_in session.now.changer buffers.new.next reply ≡ spec.reply_to session.now directive.now) }
+    ensures reply { IfOk result (λ reply. reply_in session.now.changer buffers.new.next reply
+        ≡ spec.reply_to session.now directive.now) }
     ensures valid_output { IfOk result (λ reply. IsValidOutput reply.actual) }
 {
     actual_output_is_valid();
@@ -189,7 +190,8 @@ fn run_command(
     values: &Values,
 ) -> Result<Reply, NoMemory>
     requires { 1 ≤ values.now.steps }
-    ensures { IfOk result (λ reply. reply_in session.now.changer next.new reply ≡ spec.reply_of command session.now input.now values.now) }
+    ensures { IfOk result (λ reply. reply_in session.now.changer next.new reply
+        ≡ spec.reply_of command session.now input.now values.now) }
 {
     let changer = session.changer();
     let tracker = changer.tracker();

@@ -58,7 +58,8 @@ impl Input {
         kind: InputKind,
         text: &[u8],
     ) -> Result<Result<(), Vec<u8>>, NoMemory>
-        ensures { IfOk result (λ read. MatchResult read (λ _. spec.read_input kind text.now ≡ Ok self.new) (λ actual. spec.read_input kind text.now ≡ Err actual.items)) }
+        ensures { IfOk result (λ read. MatchResult read (λ _. spec.read_input kind text.now ≡ Ok self.new)
+            (λ actual. spec.read_input kind text.now ≡ Err actual.items)) }
     {
         let alloc = *self.changes.allocator();
         self.changes.clear();
@@ -91,7 +92,9 @@ fn read_change_list(
     changes: &mut Vec<Change>,
     text: &[u8],
 ) -> Result<Result<(), Vec<u8>>, NoMemory>
-    ensures { IfOk result (λ read. MatchResult read (λ _. spec.read_input InputKind.Changes text.now ≡ Ok (spec.of_changes changes.new.items)) (λ actual. spec.read_input InputKind.Changes text.now ≡ Err actual.items)) }
+    ensures { IfOk result (λ read. MatchResult read (λ _. spec.read_input InputKind.Changes text.now
+        ≡ Ok (spec.of_changes changes.new.items))
+        (λ actual. spec.read_input InputKind.Changes text.now ≡ Err actual.items)) }
 {
     match read_changes_into(changes, text) {
         Ok(()) => Ok(Ok(())),
@@ -106,7 +109,9 @@ fn read_no_change(
     changes: &mut Vec<Change>,
     text: &[u8],
 ) -> Result<Result<(), Vec<u8>>, NoMemory>
-    ensures { IfOk result (λ read. MatchResult read (λ _. spec.read_input InputKind.NoChange text.now ≡ Ok (spec.of_changes changes.new.items)) (λ actual. spec.read_input InputKind.NoChange text.now ≡ Err actual.items)) }
+    ensures { IfOk result (λ read. MatchResult read (λ _. spec.read_input InputKind.NoChange text.now
+        ≡ Ok (spec.of_changes changes.new.items))
+        (λ actual. spec.read_input InputKind.NoChange text.now ≡ Err actual.items)) }
 {
     let read = read_change_list(alloc, changes, text)?;
     if read.is_ok() && !changes.is_empty() {
@@ -121,7 +126,9 @@ fn read_saved(
     saved: &mut ConfState,
     text: &[u8],
 ) -> Result<Result<(), Vec<u8>>, NoMemory>
-    ensures { IfOk result (λ read. MatchResult read (λ _. spec.read_input InputKind.ConfStateLine text.now ≡ Ok (record { changes = []; saved = saved.new })) (λ actual. spec.read_input InputKind.ConfStateLine text.now ≡ Err actual.items)) }
+    ensures { IfOk result (λ read. MatchResult read (λ _. spec.read_input InputKind.ConfStateLine text.now
+        ≡ Ok (record { changes = []; saved = saved.new }))
+        (λ actual. spec.read_input InputKind.ConfStateLine text.now ≡ Err actual.items)) }
 {
     match read_conf_state(alloc, text) {
         Ok(read) => {
@@ -135,7 +142,8 @@ fn read_saved(
 
 // Accepts only an empty input.
 fn read_nothing(alloc: Global, text: &[u8]) -> Result<Result<(), Vec<u8>>, NoMemory>
-    ensures { IfOk result (λ read. MatchResult read (λ _. spec.read_input InputKind.Nothing text.now ≡ Ok (spec.of_changes [])) (λ actual. spec.read_input InputKind.Nothing text.now ≡ Err actual.items)) }
+    ensures { IfOk result (λ read. MatchResult read (λ _. spec.read_input InputKind.Nothing text.now
+        ≡ Ok (spec.of_changes [])) (λ actual. spec.read_input InputKind.Nothing text.now ≡ Err actual.items)) }
 {
     if text.is_empty() {
         Ok(Ok(()))

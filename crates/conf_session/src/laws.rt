@@ -20,7 +20,8 @@ use conf_plan::laws::{one_changer_after_steps, undo_of_run};
 /// The reply to a directive is a valid output: whole lines, one at least, none of which is blank, is four dashes or
 /// ends in a carriage return.
 pub fn actual_output_is_valid()
-    ensures { (session : SessionState) (directive : DirectiveText) → has_keys directive.arguments ≡ true → IsValidOutput (answer session directive).actual }
+    ensures { (session : SessionState) (directive : DirectiveText) → has_keys directive.arguments ≡ true
+        → IsValidOutput (answer session directive).actual }
 {
     one_list_per_text();
 }
@@ -28,7 +29,8 @@ pub fn actual_output_is_valid()
 /// The kept configurations of a session are those before its last accepted changes: `count` accepted steps lead from
 /// the one at index `count - 1` to the current one, which has a voter.
 pub fn kept_lead_to_now()
-    ensures { (session : SessionState) (count : ℕ) (older : Configuration) → IsSession session → 1 ≤ count → slice_get session.kept (count - 1) ≡ Some older → IsEarlier session count older }
+    ensures { (session : SessionState) (count : ℕ) (older : Configuration) → IsSession session → 1 ≤ count
+        → slice_get session.kept (count - 1) ≡ Some older → IsEarlier session count older }
 {
     trackers_stay_sound();
 }
@@ -36,7 +38,8 @@ pub fn kept_lead_to_now()
 /// What holds of every session (`IsSession`) still holds after each answer, whatever the directive is: the members fit
 /// the configuration, and accepted steps lead from each kept configuration to the next newer one.
 pub fn answer_keeps_session()
-    ensures { (session : SessionState) (directive : DirectiveText) → IsSession session → IsSession (answer session directive).session }
+    ensures { (session : SessionState) (directive : DirectiveText) → IsSession session
+        → IsSession (answer session directive).session }
 {
     trackers_stay_sound();
     one_changer_after_a_step();
@@ -48,8 +51,10 @@ pub fn answer_keeps_session()
 
 /// `IsSession` holds after any directives in turn, so it holds of every session that began as a new one.
 pub fn answers_keep_session()
-    ensures kept { (session : SessionState) (directives : List DirectiveText) → IsSession session → IsSession (after_answers session directives) }
-    ensures from_new { (history : ℕ) (floor : Floor) (directives : List DirectiveText) → IsSession (after_answers (new_session history floor) directives) }
+    ensures kept { (session : SessionState) (directives : List DirectiveText) → IsSession session
+        → IsSession (after_answers session directives) }
+    ensures from_new { (history : ℕ) (floor : Floor) (directives : List DirectiveText)
+        → IsSession (after_answers (new_session history floor) directives) }
 {
     answer_keeps_session();
     trackers_stay_sound();
@@ -57,7 +62,8 @@ pub fn answers_keep_session()
 
 /// The plan that undoes the last changes of a session leads back to the configuration before them.
 pub fn undo_plan_leads_back()
-    ensures { (session : SessionState) (count : ℕ) (steps : List Step) → IsSession session → 1 ≤ count → undo_plan_of session count ≡ Ok steps → LeadsBack session count steps }
+    ensures { (session : SessionState) (count : ℕ) (steps : List Step) → IsSession session → 1 ≤ count
+        → undo_plan_of session count ≡ Ok steps → LeadsBack session count steps }
 {
     kept_lead_to_now();
     undo_of_run();
@@ -66,7 +72,8 @@ pub fn undo_plan_leads_back()
 /// Whatever changes were accepted, the plan that undoes the last ones restores the voters, learners, next learners and
 /// the flag as they were before them, if there was a voter then.
 pub fn undo_brings_back()
-    ensures { (session : SessionState) (count : ℕ) (older : Configuration) → IsSession session → 1 ≤ count → slice_get session.kept (count - 1) ≡ Some older → has_voter older ≡ true
+    ensures { (session : SessionState) (count : ℕ) (older : Configuration) → IsSession session → 1 ≤ count
+        → slice_get session.kept (count - 1) ≡ Some older → has_voter older ≡ true
         → (undone_changer session (planned (current session) older)).tracker.config ≡ older }
 {
     kept_lead_to_now();

@@ -32,8 +32,10 @@ impl<'a, V: Copy + Drop> Quorum<'a, V> {
         values: &'a [Option<V>],
     ) -> Result<Option<Quorum<'a, V>>, NoMemory>
         ensures one_each { IfOk result (λ quorum. is_some quorum ≡ is_one_each (ids_named arguments.now) values.now) }
-        ensures voters { IfOk result (λ quorum. IfSome quorum (λ q. pair q.incoming q.outgoing ≡ voters_named arguments.now)) }
-        ensures values { IfOk result (λ quorum. IfSome quorum (λ q. map_of q.values ≡ values_by_id (ids_named arguments.now) values.now)) }
+        ensures voters { IfOk result (λ quorum. IfSome quorum (λ q. pair q.incoming q.outgoing
+            ≡ voters_named arguments.now)) }
+        ensures values { IfOk result (λ quorum. IfSome quorum (λ q. map_of q.values
+            ≡ values_by_id (ids_named arguments.now) values.now)) }
     {
         let incoming = arguments.incoming.as_slice();
         let outgoing = arguments.outgoing.as_slice();

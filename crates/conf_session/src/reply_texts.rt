@@ -104,7 +104,8 @@ pub(crate) fn committed_lines(
     outgoing: &SessionIds,
     acks: &ValuesById<u64>,
 ) -> Result<Vec<u8>, NoMemory>
-    ensures { IfOk result (λ text. text.items ≡ line (committed_text (pair incoming.now outgoing.now) (map_of acks.now))) }
+    ensures { IfOk result (λ text. text.items
+        ≡ line (committed_text (pair incoming.now outgoing.now) (map_of acks.now))) }
 {
     let mut text = Vec::new(alloc);
     text.reserve(usual_chart_room(incoming, outgoing))?;
@@ -120,7 +121,8 @@ pub(crate) fn vote_line(
     outgoing: &SessionIds,
     votes: &ValuesById<bool>,
 ) -> Result<Vec<u8>, NoMemory>
-    ensures { IfOk result (λ text. text.items ≡ line (vote_text (joint_vote_result (pair incoming.now outgoing.now) (map_of votes.now)))) }
+    ensures { IfOk result (λ text. text.items
+        ≡ line (vote_text (joint_vote_result (pair incoming.now outgoing.now) (map_of votes.now)))) }
 {
     line_of(alloc, b"", vote_name(joint_vote(incoming, outgoing, votes)))
 }

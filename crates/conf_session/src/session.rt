@@ -1,4 +1,6 @@
 //! A session: the state that the directives of a script act on.
+//!
+//! What names no source here is own.
 ghost use Rattle.std.specs.Prelude.{◌≡◌, ◌≢◌, ◌↔◌, ◌≤◌, ◌-◌, Some, Ok, Err, IfOk, OnOk, OnErr, length, option_copied, slice_get};
 ghost use Rattle.conf_change.specs.Changer.{IsSound};
 ghost use Rattle.conf_change.specs.declared.floor.Floor.TheVariants.{One};
@@ -24,7 +26,7 @@ use std::alloc::Global;
 use std::marker::Model;
 
 /// A configuration with the progress of its members, on which directives act, and the configurations from before its
-/// last accepted changes (own). A session runs one script, as etcd's tests make one `Changer` for each script file.
+/// last accepted changes. A session runs one script, as etcd's tests make one `Changer` for each script file.
 #[derive(Drop)]
 pub struct Session {
     state: State,
@@ -72,7 +74,7 @@ impl Session {
         self.state.changer()
     }
 
-    /// How many earlier configurations are kept (own). At most this many changes can be undone at once.
+    /// How many earlier configurations are kept. At most this many changes can be undone at once.
     pub fn kept(&self) -> usize
         ensures kept { result ≡ length self.now.kept }
         ensures few { result ≤ self.now.history }
@@ -80,14 +82,14 @@ impl Session {
         self.state.kept()
     }
 
-    /// The configuration before an accepted change (own). The one before the last change is at index 0.
+    /// The configuration before an accepted change. The one before the last change is at index 0.
     pub fn kept_at(&self, index: usize) -> Option<&Config<SessionIds>>
         ensures { option_copied result ≡ slice_get self.now.kept index }
     {
         self.state.kept_at(index)
     }
 
-    /// The plan that undoes the last `count` accepted changes (own). It is the best plan to the configuration before
+    /// The plan that undoes the last `count` accepted changes. It is the best plan to the configuration before
     /// them: the shortest, which also preserves the progress of the most members and names each id in the fewest
     /// changes.
     ///
@@ -96,9 +98,11 @@ impl Session {
     pub fn undo_plan(&self, count: usize) -> Result<Plan, UndoFault>
         requires { 1 ≤ count }
         ensures planned { IfOk result (λ plan. undo_plan_of self.now count ≡ Ok plan) }
-        ensures refused { (fault : WhyNot) → fault ≢ UndoFault.NoMemory → ((result ≡ Err fault) ↔ (undo_plan_of self.now count ≡ Err fault)) }
+        ensures refused { (fault : WhyNot) → fault ≢ UndoFault.NoMemory
+            → ((result ≡ Err fault) ↔ (undo_plan_of self.now count ≡ Err fault)) }
         ensures back { IfOk result (LeadsBack self.now count) }
-        ensures best { IfOk result (λ plan. (older : Configuration) → slice_get self.now.kept (count - 1) ≡ Some older → IsBest (current self.now) plan older) }
+        ensures best { IfOk result (λ plan. (older : Configuration) → slice_get self.now.kept (count - 1) ≡ Some older
+            → IsBest (current self.now) plan older) }
     {
         self.state.is_session();
         undo_plan_leads_back();

@@ -95,8 +95,10 @@ impl State {
     pub(crate) fn undo_plan(&self, alloc: Global, count: usize) -> Result<Plan, UndoFault>
         requires { 1 ≤ count }
         ensures planned { IfOk result (λ plan. undo_plan_of self.now count ≡ Ok plan) }
-        ensures refused { (fault : WhyNot) → fault ≢ UndoFault.NoMemory → ((result ≡ Err fault) ↔ (undo_plan_of self.now count ≡ Err fault)) }
-        ensures best { IfOk result (λ plan. (older : Configuration) → slice_get self.now.kept (count - 1) ≡ Some older → IsBest (current self.now) plan older) }
+        ensures refused { (fault : WhyNot) → fault ≢ UndoFault.NoMemory
+            → ((result ≡ Err fault) ↔ (undo_plan_of self.now count ≡ Err fault)) }
+        ensures best { IfOk result (λ plan. (older : Configuration) → slice_get self.now.kept (count - 1) ≡ Some older
+            → IsBest (current self.now) plan older) }
     {
         self.is_session();
         kept_lead_to_now();

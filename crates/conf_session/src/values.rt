@@ -87,7 +87,8 @@ impl Values {
         arguments: &[Argument],
     ) -> Result<Result<(), Vec<u8>>, NoMemory>
         ensures { IfOk result (λ read. MatchResult read (λ _. spec.read_arguments (option_map (λ p. p.now) parameters.entry) arguments.now ≡ Ok self.new)
-            (λ actual. spec.read_arguments (option_map (λ p. p.now) parameters.entry) arguments.now ≡ Err actual.items)) }
+            (λ actual. spec.read_arguments (option_map (λ p. p.now) parameters.entry) arguments.now
+            ≡ Err actual.items)) }
     {
         self.clear();
         let Some(parameters) = parameters else {
@@ -140,7 +141,8 @@ impl Values {
     // Reads an argument, and returns whether it has a parameter and valid values. Its key has not come before.
     fn take(&mut self, parameters: &[Parameter], argument: &Argument) -> Result<bool, NoMemory>
         ensures allowed { IfOk result (λ good. good ≡ is_allowed parameters.now argument.now) }
-        ensures values { IfOk result (λ good. good ≡ true → spec.HasMore self.old parameters.now argument.now self.new) }
+        ensures values { IfOk result (λ good. good ≡ true
+            → spec.HasMore self.old parameters.now argument.now self.new) }
     {
         match parameter_of(parameters, argument) {
             Some(parameter) => self.put(*parameter, argument),
@@ -151,7 +153,8 @@ impl Values {
     // Reads the values of a parameter's argument into its field, and returns whether they are valid.
     fn put(&mut self, parameter: Parameter, argument: &Argument) -> Result<bool, NoMemory>
         ensures allowed { IfOk result (λ good. good ≡ allows parameter argument.now.values) }
-        ensures values { IfOk result (λ good. good ≡ true → self.new ≡ spec.with_more self.old parameter argument.now.values) }
+        ensures values { IfOk result (λ good. good ≡ true
+            → self.new ≡ spec.with_more self.old parameter argument.now.values) }
     {
         match parameter {
             Parameter::AutoLeave => Ok(set(&mut self.auto_leave, flag_in(argument))),
@@ -184,7 +187,8 @@ fn set<T: Copy + Drop>(slot: &mut T, read: Option<T>) -> bool
 // Reads the ids of `cfgj`, and returns whether each value is valid. `zero` alone is the empty list, as in etcd's tests.
 fn read_list_or_zero(list: &mut Vec<u64>, argument: &Argument) -> Result<bool, NoMemory>
     ensures all { IfOk result (λ all. all ≡ allows Parameter.Outgoing argument.now.values) }
-    ensures list { IfOk result (λ all. all ≡ true → list.new.items ≡ list.old.items ++ filter_map id_in argument.now.values) }
+    ensures list { IfOk result (λ all. all ≡ true
+        → list.new.items ≡ list.old.items ++ filter_map id_in argument.now.values) }
 {
     if has_only(argument, b"zero") {
         Ok(true)
@@ -197,7 +201,8 @@ fn read_list_or_zero(list: &mut Vec<u64>, argument: &Argument) -> Result<bool, N
 // not.
 fn read_list<T: Listed>(list: &mut Vec<T>, argument: &Argument) -> Result<bool, NoMemory>
     ensures all { IfOk result (λ all. all ≡ all_read T.reads argument.now.values) }
-    ensures list { IfOk result (λ all. all ≡ true → list.new.items ≡ list.old.items ++ filter_map T.reads argument.now.values) }
+    ensures list { IfOk result (λ all. all ≡ true
+        → list.new.items ≡ list.old.items ++ filter_map T.reads argument.now.values) }
 {
     let mut values = argument.values();
     while let Some(value) = values.next() {

@@ -8,7 +8,7 @@ use Rattle.dd_file.specs.Rewritten.{Entry, is_directive, without_double_end}
 use Rattle.dd_file.specs.RewriterState.{RewriterState, HasWritten}
 use Rattle.dd_file.specs.declared.item.Item.{Item}
 use Rattle.dd_file.specs.declared.fault.FileFault.{FileFault}
-use Rattle.dd_file.specs.declared.stage.Stage.TheVariants.{Ready}
+use Rattle.dd_file.specs.declared.expecting.Expecting.TheVariants.{Ready}
 use Rattle.conf_session.specs.SessionState.{SessionState}
 use Rattle.conf_tool.specs.Reports.{session_after_all, answered_entries, answered_text, differs, report, counts_line}
 use Rattle.conf_tool.specs.Outputs.{Output, clean_unless, check_status, undone_unless, worse_of, pair_then, session_after_pair, ends_within, planned_pairs}
@@ -67,7 +67,7 @@ ended output = record { text = without_double_end output.text; outcome = output.
 pub record HasRewritten (session : SessionState) (rewriter : RewriterState) (total : Script Item → Output) (parts : List Item) (before after : Option (List ℕ)) : Type 0 where
   pub text : List ℕ
   pub wrote : HasWritten rewriter.newlines before after text
-  pub ready : rewriter.stage ≡ Ready
+  pub ready : rewriter.expecting ≡ Ready
   pub is : (rest : Script Item) → total (prepended parts rest) ≡ ended (with_prefix text (rewrite_left session rest))
 
 -- what is left of the output of `undo`, by the session: all of it, since `undo` writes at the end
@@ -77,7 +77,7 @@ undo_left session count rest = undone_unless (session_after_all session rest.ite
 -- `undo` has run these parts, and has written nothing
 pub record HasRun (session : SessionState) (rewriter : RewriterState) (count : ℕ) (total : Script Item → Output) (parts : List Item) (before after : Option (List ℕ)) : Type 0 where
   pub unwritten : Keeps before after
-  pub ready : rewriter.stage ≡ Ready
+  pub ready : rewriter.expecting ≡ Ready
   pub nothing : (buffered : Option (List ℕ)) → HasWritten rewriter.newlines buffered buffered []
   pub is : (rest : Script Item) → total (prepended parts rest) ≡ undo_left session count rest
 

@@ -10,16 +10,17 @@ use Rattle.conf_plan.specs.declared.strategy.Strategy.{Strategy}
 use Rattle.conf_plan.specs.declared.strategy.Strategy.TheVariants.{Shortest, LearnersFirst, OneAtATime}
 use Rattle.conf_session.specs.Parameter.{id_in}
 use Rattle.plan_input.specs.ShortToken.{short_token}
+use Rattle.plan_output.specs.declared.output.Output.TheVariants.{Steps, Table, Json}
 use Rattle.conf_tool.specs.IdList.{ids_listed, hexadecimal_listed}
 use Rattle.conf_tool.specs.Ranges.{IsInRange}
 use Rattle.conf_tool.specs.declared.argument_fault.ArgumentFault.{ArgumentFault}
 use Rattle.conf_tool.specs.declared.argument_fault.ArgumentFault.TheVariants.{Clap, BadIds, HexadecimalId, FromAlone, ToAlone, FileBesidePair, IdBesidePair, EmptyFrom, NoMemory}
 use Rattle.conf_tool.specs.declared.invocation.Invocation.{Invocation}
 use Rattle.conf_tool.specs.declared.mode.Mode.{Mode}
-use Rattle.conf_tool.specs.declared.pair_texts.PairTexts.{PairTexts}
+use Rattle.conf_tool.specs.declared.pair_arguments.PairArguments.{PairArguments}
 use Rattle.conf_tool.specs.declared.mode.Mode.TheVariants.{Lines, Check, Rewrite, Undo, Plan}
 use Rattle.conf_tool.specs.declared.plan_options.PlanOutput.{PlanOutput}
-use Rattle.conf_tool.specs.declared.plan_options.PlanOutput.TheVariants.{Steps, Script, Table, Json}
+use Rattle.conf_tool.specs.declared.plan_options.PlanOutput.TheVariants.{Script, Text as TextOutput}
 
 -- the mode of a name; `lines` unless another mode has the name
 abbrev pub mode_named : Text → Mode
@@ -54,9 +55,10 @@ strategy_named (Some name) =
 
 -- the form of output that a name denotes: steps if none is given
 abbrev pub output_named : Option Text → PlanOutput
-output_named None = Steps
+output_named None = TextOutput Steps
 output_named (Some name) =
-    if bytes_eq name (codes "script") then Script else (if bytes_eq name (codes "table") then Table else (if bytes_eq name (codes "json") then Json else Steps))
+    if bytes_eq name (codes "script") then Script
+    else TextOutput (if bytes_eq name (codes "table") then Table else (if bytes_eq name (codes "json") then Json else Steps))
 
 -- the ids that are down: Some None if the option is left out, None if its text is not a list of ids
 abbrev pub ids_down : Option Text → Option (Option Ids)
@@ -73,7 +75,7 @@ pair_of file (Some from) None = None
 pair_of file None (Some to) = None
 
 -- the two texts of a pair
-abbrev pub texts_of : PairTexts → Text × Text
+abbrev pub texts_of : PairArguments → Text × Text
 texts_of pair = (pair.from.now, pair.to.now)
 
 -- the pair that a parsed subcommand gives

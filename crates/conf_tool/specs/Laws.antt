@@ -14,7 +14,7 @@ use Rattle.conf_change.specs.Configuration.{Configuration, has_voter, is_member}
 use Rattle.conf_change.specs.declared.step.Step.{Step}
 use Rattle.conf_plan.specs.Best.{IsBest}
 use Rattle.conf_plan.specs.OneChangeEach.{one_change_each, LeadsChangeByChange}
-use Rattle.conf_plan.specs.PathBy.{has_path, KeepsPromises}
+use Rattle.conf_plan.specs.PathBy.{has_path, ids_down, KeepsPromises}
 use Rattle.conf_plan.specs.PlanSteps.{HasU64Ids, IsPlan}
 use Rattle.conf_session.specs.SessionState.{SessionState, new_session, current}
 use Rattle.conf_session.specs.Commands.{answer, after_answers}
@@ -26,7 +26,6 @@ use Rattle.conf_tool.specs.Pairs.{NumberedLine, numbered, configuration_lines, s
 use Rattle.conf_tool.specs.declared.pair.Pair.{Pair}
 use Rattle.conf_tool.specs.declared.plan_input_fault.PlanInputFault.{PlanInputFault}
 use Rattle.conf_tool.specs.PlanScript.{default_session}
-use Rattle.plan_output.specs.Steps.{ids_down}
 use Rattle.conf_tool.specs.PlanAnswer.{path_text, path_between, plan_text_between, session_between}
 use Rattle.conf_tool.specs.declared.plan_options.PlanOptions.{PlanOptions}
 use Rattle.conf_tool.specs.declared.plan_options.PlanOutput.TheVariants.{Script as ScriptOutput}

@@ -13,13 +13,14 @@ use Rattle.conf_change.specs.declared.step.Step.{Step}
 use Rattle.conf_session.specs.SessionState.{SessionState, new_session}
 use Rattle.conf_tool.specs.Reports.{session_after_all, answered_entries, differs, report, counts_text}
 use Rattle.conf_session.specs.Undo.{undo_plan_of}
+use Rattle.plan_output.specs.declared.output.Output.TheVariants.{Steps, Table, Json}
 use Rattle.conf_tool.specs.UndoScript.{undo_items}
 use Rattle.conf_tool.specs.declared.mode.Mode.{Mode}
 use Rattle.conf_tool.specs.declared.mode.Mode.TheVariants.{Lines, Check, Rewrite, Undo, Plan}
 use Rattle.conf_tool.specs.declared.options.Options.{Options}
 use Rattle.conf_tool.specs.declared.plan_options.PlanOptions.{PlanOptions}
 use Rattle.conf_tool.specs.declared.plan_options.PlanOutput.{PlanOutput}
-use Rattle.conf_tool.specs.declared.plan_options.PlanOutput.TheVariants.{Steps, Script as ScriptOutput, Table, Json}
+use Rattle.conf_tool.specs.declared.plan_options.PlanOutput.TheVariants.{Script as ScriptOutput, Text as TextOutput}
 use Rattle.conf_tool.specs.declared.status.Status.{Status}
 use Rattle.conf_tool.specs.declared.status.Status.TheVariants.{Clean, Different}
 use Rattle.conf_session.specs.declared.undo_fault.UndoFault.{UndoFault}
@@ -108,10 +109,10 @@ ends outcome = record { text = []; outcome = outcome }
 
 -- the text between the replies to two pairs, by the form of the output
 abbrev pub separator : PlanOutput → List ℕ
-separator Steps = newline
 separator ScriptOutput = newline
-separator Table = newline
-separator Json = []
+separator (TextOutput Steps) = newline
+separator (TextOutput Table) = newline
+separator (TextOutput Json) = []
 
 -- the reply to the pair with this number, counted from 1, in this session, with the separator before it
 abbrev pub pair_text : PlanOptions → SessionState → ℕ → Pair → List ℕ

@@ -10,7 +10,6 @@ use Rattle.plan_input.specs.Input.{current_in, target_in}
 use Rattle.plan_input.specs.MemberList.{is_member_list}
 use Rattle.plan_input.specs.Stranger.{stranger_of}
 use Rattle.plan_input.specs.declared.text_fault.TextFault.{TextFault}
-use Rattle.plan_output.specs.Steps.{ids_down}
 use Rattle.conf_tool.specs.declared.origin.Origin.{Origin}
 use Rattle.conf_tool.specs.declared.origin.Origin.TheVariants.{Line, From, To}
 use Rattle.conf_tool.specs.declared.pair.Current.{Current}
@@ -82,7 +81,7 @@ of_members origin (Some id) pair = Err (not_member origin id)
 -- ids that are down, of which the least one that is a member of neither configuration is reported.
 abbrev pub paired : PlanOptions → Origin → Current → Result Configuration PlanInputFault → Result Pair PlanInputFault
 paired options origin current (Ok target) =
-    of_members origin (stranger_of (ids_down options.down) current.config target)
+    of_members origin (stranger_of options.down current.config target)
     (record { current = current.config; target = target; strategy = current.strategy })
 paired options origin current (Err fault) = Err fault
 

@@ -3,19 +3,20 @@ use Rattle.std.specs.Prelude.{ℕ, List, ◌++◌, Option, Some, None, Result, O
 use Rattle.quorum_sets.specs.Ids.{Ids}
 use Rattle.conf_change.specs.Configuration.{Configuration, has_voter}
 use Rattle.conf_change.specs.declared.step.Step.{Step}
-use Rattle.conf_plan.specs.PathBy.{has_path, path_by}
+use Rattle.conf_plan.specs.PathBy.{has_path, ids_down, path_by}
 use Rattle.ascii_text.specs.Lines.{newline}
-use Rattle.plan_output.specs.Json.{json_text, value_line, no_plan_json}
+use Rattle.plan_output.specs.Json.{value_line, no_plan_json}
+use Rattle.plan_output.specs.Output as output
 use Rattle.plan_output.specs.Stages.{stalls}
-use Rattle.plan_output.specs.Steps.{ids_down, stall_note, steps_text}
-use Rattle.plan_output.specs.Table.{table_text}
+use Rattle.plan_output.specs.Steps.{stall_note}
+use Rattle.plan_output.specs.declared.output.Output.TheVariants.{Steps, Table, Json}
 use Rattle.conf_session.specs.SessionState.{SessionState}
 use Rattle.conf_tool.specs.PlanScript.{script_items, script_text}
 use Rattle.conf_tool.specs.Reports.{session_after_all}
 use Rattle.conf_tool.specs.declared.pair.Pair.{Pair}
 use Rattle.conf_tool.specs.declared.plan_options.PlanOptions.{PlanOptions}
 use Rattle.conf_tool.specs.declared.plan_options.PlanOutput.{PlanOutput}
-use Rattle.conf_tool.specs.declared.plan_options.PlanOutput.TheVariants.{Steps, Script, Table, Json}
+use Rattle.conf_tool.specs.declared.plan_options.PlanOutput.TheVariants.{Script, Text}
 use Rattle.conf_tool.specs.declared.status.Status.{Status}
 use Rattle.conf_tool.specs.declared.status.Status.TheVariants.{Clean, Different}
 
@@ -23,10 +24,8 @@ use Rattle.conf_tool.specs.declared.status.Status.TheVariants.{Clean, Different}
 -- The text of a path in this form, for the pair with this number and with these ids down. A script has the actual
 -- output of this session.
 abbrev pub text_as : PlanOutput → SessionState → ℕ → Option Ids → Configuration → List Step → List ℕ
-text_as Steps session number down now steps = steps_text down now steps
 text_as Script session number down now steps = script_text session (stall_note down now steps) now steps
-text_as Table session number down now steps = table_text now steps down
-text_as Json session number down now steps = json_text number now steps down
+text_as (Text form) session number down now steps = output.text_as form number down now steps
 
 -- the text of a path in the form that the options name
 abbrev pub path_text : PlanOptions → SessionState → ℕ → Configuration → List Step → List ℕ
@@ -34,10 +33,8 @@ path_text options session number now steps = text_as options.output session numb
 
 -- the session after that text: it runs the script, if the output is one
 abbrev pub session_as : PlanOutput → SessionState → Option Ids → Configuration → List Step → SessionState
-session_as Steps session down now steps = session
 session_as Script session down now steps = session_after_all session (script_items (stall_note down now steps) now steps)
-session_as Table session down now steps = session
-session_as Json session down now steps = session
+session_as (Text form) session down now steps = session
 
 -- the status of a path: different if ids are down and the path stalls then
 abbrev pub path_status : Option Ids → Configuration → List Step → Status
@@ -51,10 +48,10 @@ no_plan_comment why = codes "# no plan: " ++ why ++ newline
 
 -- the reply to the pair with this number if it has no plan: the reason, in the form of the output
 abbrev pub no_plan_text : PlanOutput → ℕ → List ℕ → List ℕ
-no_plan_text Steps number why = no_plan_comment why
 no_plan_text Script number why = no_plan_comment why
-no_plan_text Table number why = no_plan_comment why
-no_plan_text Json number why = value_line (no_plan_json number why)
+no_plan_text (Text Steps) number why = no_plan_comment why
+no_plan_text (Text Table) number why = no_plan_comment why
+no_plan_text (Text Json) number why = value_line (no_plan_json number why)
 
 -- ---- a pair
 -- the path of a pair by its strategy, made while the ids of the options are down, or why there is none

@@ -52,7 +52,7 @@ mode_command names Plan = command_with (codes "plan") (plan_options names)
 
 -- the modes, in the order in which the help lists them
 abbrev pub modes : List Mode
-modes = Lines ∷ Check ∷ Rewrite ∷ Undo ∷ Plan ∷ []
+modes = Plan ∷ Lines ∷ Check ∷ Rewrite ∷ Undo ∷ []
 
 -- the program without its modes, where a mode has to be named, and its version can be asked for
 abbrev pub without_modes : App

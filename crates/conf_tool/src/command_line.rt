@@ -10,7 +10,7 @@ use crate::id_list::{hexadecimal_listed, ids_listed, read_id};
 use crate::invocation::Invocation;
 use crate::mode::Mode;
 use crate::options::Options;
-use crate::pair_texts::PairTexts;
+use crate::pair_arguments::PairArguments;
 use crate::plan_options::{PlanOptions, PlanOutput};
 use crate::program::{OptionNames, program};
 use clap::ArgMatches;
@@ -18,6 +18,7 @@ use conf_change::Floor;
 use conf_plan::Strategy;
 use conf_session::SessionIds;
 use plan_input::ShortToken;
+use plan_output::Output;
 use quorum_sets::MemberSet;
 use std::alloc::Global;
 use std::convert::AsStr;
@@ -48,8 +49,10 @@ fn read_arguments<'a, S: AsStr>(
     arguments: &'a [S],
     names: OptionNames<'a>,
 ) -> Result<Invocation<'a>, ArgumentFault<'a>>
-    ensures refused { MatchResult result (λ _. fault_of (the_program names.entry) (map S.text arguments.entry.now) ≡ []) (IsRefusal (the_program names.entry) (map S.text arguments.entry.now)) }
-    ensures asked { IfOk result (IsInvocation (subcommand_of (the_program names.entry) (map S.text arguments.entry.now))) }
+    ensures refused { MatchResult result (λ _. fault_of (the_program names.entry) (map S.text arguments.entry.now) ≡ [])
+        (IsRefusal (the_program names.entry) (map S.text arguments.entry.now)) }
+    ensures asked { IfOk result (IsInvocation (subcommand_of (the_program names.entry)
+        (map S.text arguments.entry.now))) }
 {
     let matches = program(alloc, names)?.try_get_matches_from(arguments)?;
     invocation_of(alloc, &matches)
@@ -102,12 +105,18 @@ fn mode_named(name: &str) -> Mode
 
 // The options of a mode, each with its default if it is left out.
 fn options_of<'a>(alloc: Global, matches: &ArgMatches<'a>) -> Result<Options, ArgumentFault<'a>>
-    ensures history { IfOk result (λ options. IsOptionValue 0 1000 100 (first_of (codes "history") (rows_of (found_of matches.now))) options.history) }
-    ensures steps { IfOk result (λ options. IsOptionValue 1 1000 1 (first_of (codes "steps") (rows_of (found_of matches.now))) options.steps) }
-    ensures floor { IfOk result (λ options. options.floor ≡ floor_named (first_of (codes "next-floor") (rows_of (found_of matches.now)))) }
-    ensures strategy { IfOk result (λ options. options.plan.strategy ≡ strategy_named (first_of (codes "strategy") (rows_of (found_of matches.now)))) }
-    ensures output { IfOk result (λ options. options.plan.output ≡ output_named (first_of (codes "output") (rows_of (found_of matches.now)))) }
-    ensures down { IfOk result (λ options. ids_down (first_of (codes "down") (rows_of (found_of matches.now))) ≡ Some options.plan.down) }
+    ensures history { IfOk result (λ options. IsOptionValue 0 1000 100 (first_of (codes "history")
+        (rows_of (found_of matches.now))) options.history) }
+    ensures steps { IfOk result (λ options. IsOptionValue 1 1000 1 (first_of (codes "steps")
+        (rows_of (found_of matches.now))) options.steps) }
+    ensures floor { IfOk result (λ options. options.floor
+        ≡ floor_named (first_of (codes "next-floor") (rows_of (found_of matches.now)))) }
+    ensures strategy { IfOk result (λ options. options.plan.strategy
+        ≡ strategy_named (first_of (codes "strategy") (rows_of (found_of matches.now)))) }
+    ensures output { IfOk result (λ options. options.plan.output
+        ≡ output_named (first_of (codes "output") (rows_of (found_of matches.now)))) }
+    ensures down { IfOk result (λ options. ids_down (first_of (codes "down") (rows_of (found_of matches.now)))
+        ≡ Some options.plan.down) }
     ensures range { IfOk result IsInRange }
     ensures fault { IfErr result (λ fault. (file from to : Option Text) →
         IsValueFaultOf file (first_of (codes "down") (rows_of (found_of matches.now))) from to fault) }
@@ -137,9 +146,12 @@ fn pair_of<'a>(
     down: Option<&'a str>,
     from: Option<&'a str>,
     to: Option<&'a str>,
-) -> Result<Option<PairTexts<'a>>, ArgumentFault<'a>>
-    ensures pair { IfOk result (λ pair. pair_of (option_map (λ text. text.now) file.entry) (option_map (λ text. text.now) from.entry) (option_map (λ text. text.now) to.entry) ≡ Some (option_map texts_of pair)) }
-    ensures fault { IfErr result (IsValueFaultOf (option_map (λ text. text.now) file.entry) (option_map (λ text. text.now) down.entry)
+) -> Result<Option<PairArguments<'a>>, ArgumentFault<'a>>
+    ensures pair { IfOk result (λ pair. pair_of (option_map (λ text. text.now) file.entry)
+        (option_map (λ text. text.now) from.entry) (option_map (λ text. text.now) to.entry)
+        ≡ Some (option_map texts_of pair)) }
+    ensures fault { IfErr result (IsValueFaultOf (option_map (λ text. text.now) file.entry)
+        (option_map (λ text. text.now) down.entry)
         (option_map (λ text. text.now) from.entry) (option_map (λ text. text.now) to.entry)) }
 {
     match (from, to) {
@@ -150,7 +162,7 @@ fn pair_of<'a>(
             Some(file) => Err(file_beside_pair(file, down)),
             None => match from {
                 "" => Err(ArgumentFault::EmptyFrom),
-                _ => Ok(Some(PairTexts { from, to })),
+                _ => Ok(Some(PairArguments { from, to })),
             },
         },
     }
@@ -212,9 +224,9 @@ fn output_named(name: Option<&str>) -> PlanOutput
 {
     match name {
         Some("script") => PlanOutput::Script,
-        Some("table") => PlanOutput::Table,
-        Some("json") => PlanOutput::Json,
-        _ => PlanOutput::Steps,
+        Some("table") => PlanOutput::Text(Output::Table),
+        Some("json") => PlanOutput::Text(Output::Json),
+        _ => PlanOutput::Text(Output::Steps),
     }
 }
 

@@ -23,12 +23,20 @@ pub(crate) struct OptionHelp {
     pub(crate) long: Option<&'static str>,
 }
 
+/// What the program is.
+pub(crate) const ABOUT: &str =
+    "confscript plans the membership changes of an etcd or Raft cluster and shows
+how many servers may fail at each step, with code that is proved correct.";
+
 /// The help of the program.
 pub(crate) const PROGRAM: &str = "Examples:
+  confscript plan --from 'voters=(1 2 3)' --to 'r3 v4' --down 3 --output table
+  (etcdctl member list -w json; echo r9372538179322589801) | confscript plan
   printf 'v1\\nv2\\nl3\\n' | confscript lines
   confscript check script.txt
   confscript undo --steps 2 script.txt
-  confscript plan --from 'voters=(1 2 3)' --to 'r1 v4'
+
+On an etcd cluster, confscript-etcd carries a plan out.
 
 Exit statuses:
   0  done

@@ -1,7 +1,7 @@
 //! What the arguments ask for.
 use crate::mode::Mode;
 use crate::options::Options;
-use crate::pair_texts::PairTexts;
+use crate::pair_arguments::PairArguments;
 
 /// A mode with its options, and what it reads: the pair on the command line if there is one, or else the file, which is
 /// standard input if it is left out or `-`.
@@ -9,6 +9,6 @@ use crate::pair_texts::PairTexts;
 pub struct Invocation<'a> {
     pub mode: Mode,
     pub options: Options,
-    pub pair: Option<PairTexts<'a>>,
+    pub pair: Option<PairArguments<'a>>,
     pub file: Option<&'a str>,
 }

@@ -19,7 +19,8 @@ pub(crate) fn answer_line(
     line: &[u8],
     text: &mut Vec<u8>,
 ) -> Result<(), NoMemory>
-    ensures text { OnOk result (text.new.items ≡ text.old.items ++ ((line_reply changer.old.tracker.config line.now).text ++ newline)) }
+    ensures text { OnOk result (text.new.items
+        ≡ text.old.items ++ ((line_reply changer.old.tracker.config line.now).text ++ newline)) }
     ensures after { OnOk result (changer.new.tracker.config ≡ (line_reply changer.old.tracker.config line.now).after) }
 {
     reply(changer, line, text)?;
@@ -29,7 +30,8 @@ pub(crate) fn answer_line(
 
 // Makes the change on a line, and appends the reply without its newline.
 fn reply(changer: &mut Changer<SessionIds>, line: &[u8], text: &mut Vec<u8>) -> Result<(), NoMemory>
-    ensures text { OnOk result (text.new.items ≡ text.old.items ++ (line_reply changer.old.tracker.config line.now).text) }
+    ensures text { OnOk result (text.new.items
+        ≡ text.old.items ++ (line_reply changer.old.tracker.config line.now).text) }
     ensures after { OnOk result (changer.new.tracker.config ≡ (line_reply changer.old.tracker.config line.now).after) }
 {
     match only_token(line) {
@@ -63,8 +65,10 @@ fn answer_token(
     token: &[u8],
     text: &mut Vec<u8>,
 ) -> Result<(), NoMemory>
-    ensures text { OnOk result (text.new.items ≡ text.old.items ++ (reply_to_token changer.old.tracker.config token.now).text) }
-    ensures after { OnOk result (changer.new.tracker.config ≡ (reply_to_token changer.old.tracker.config token.now).after) }
+    ensures text { OnOk result (text.new.items
+        ≡ text.old.items ++ (reply_to_token changer.old.tracker.config token.now).text) }
+    ensures after { OnOk result (changer.new.tracker.config
+        ≡ (reply_to_token changer.old.tracker.config token.now).after) }
 {
     match read_change(token) {
         Ok(change) => make_change(changer, change, text),
@@ -78,8 +82,10 @@ fn make_change(
     change: Change,
     text: &mut Vec<u8>,
 ) -> Result<(), NoMemory>
-    ensures text { OnOk result (text.new.items ≡ text.old.items ++ (reply_to_changes changer.old.tracker.config (Ok (change ∷ []))).text) }
-    ensures after { OnOk result (changer.new.tracker.config ≡ (reply_to_changes changer.old.tracker.config (Ok (change ∷ []))).after) }
+    ensures text { OnOk result (text.new.items
+        ≡ text.old.items ++ (reply_to_changes changer.old.tracker.config (Ok (change ∷ []))).text) }
+    ensures after { OnOk result (changer.new.tracker.config
+        ≡ (reply_to_changes changer.old.tracker.config (Ok (change ∷ []))).after) }
 {
     match changer.simple_one(change) {
         Ok(()) => write_config(text, changer.tracker().config()),

@@ -1,7 +1,8 @@
 //! The options of the modes.
 ghost use Rattle.std.specs.Prelude.{◌≡◌, None};
 ghost use Rattle.conf_change.specs.declared.floor.Floor.TheVariants.{One};
-ghost use Rattle.conf_tool.specs.declared.plan_options.PlanOutput.TheVariants.{Steps};
+ghost use Rattle.plan_output.specs.declared.output.Output.TheVariants.{Steps};
+ghost use Rattle.conf_tool.specs.declared.plan_options.PlanOutput.TheVariants.{Text};
 
 use crate::plan_options::PlanOptions;
 use conf_change::Floor;
@@ -21,7 +22,7 @@ pub struct Options {
 
 impl Default for Options {
     ghost is_default = { λ options. (options.history ≡ 100) × (options.steps ≡ 1) × (options.floor ≡ One)
-        × (options.plan.strategy ≡ None) × (options.plan.output ≡ Steps) × (options.plan.down ≡ None) };
+        × (options.plan.strategy ≡ None) × (options.plan.output ≡ Text Steps) × (options.plan.down ≡ None) };
 
     /// The defaults: 100 configurations are kept, one change is undone, the smallest initial next index is 1, and a
     /// plan is printed as steps, by the strategy that is decided for its pair.

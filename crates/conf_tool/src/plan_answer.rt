@@ -1,9 +1,13 @@
 //! What the mode `plan` answers: the plan between two configurations, or why there is none.
-ghost use Rattle.std.specs.Prelude.{◌≡◌, ◌↔◌, true, false, Err, option_map, IfOk, OnOk, IsOkUnless};
-ghost use Rattle.conf_change.specs.Configuration.{has_voter, is_valid};
-ghost use Rattle.conf_plan.specs.PathBy.{has_path, path_by};
-ghost use Rattle.plan_output.specs.Steps.{ids_down, stall_note};
+ghost use Rattle.std.specs.Prelude.{◌≡◌, true, option_copied, option_map, IfOk, OnOk, IsOkUnless};
+ghost use Rattle.conf_change.specs.Configuration.{is_valid};
+ghost use Rattle.plan_output.specs.Output.{text_as};
+ghost use Rattle.plan_output.specs.Stages.{stalls_with};
+ghost use Rattle.plan_output.specs.Steps.{stall_note};
 ghost use Rattle.conf_tool.specs.PlanAnswer.{no_plan_comment, no_plan_text, path_status, path_text, plan_text_between, plan_status, session_as, session_between};
+ghost use Rattle.conf_tool.specs.PlanScript as spec;
+ghost use Rattle.conf_tool.specs.PlanScript.{script_items};
+ghost use Rattle.conf_tool.specs.Reports.{session_after_all};
 ghost use Rattle.conf_tool.specs.declared.tool_fault.ToolFault.TheVariants.{NoMemory as OutOfMemory};
 
 use crate::pair::Pair;
@@ -14,8 +18,8 @@ use crate::tool_fault::ToolFault;
 use conf_change::Config;
 use conf_plan::{NoPath, Path, plan_by};
 use conf_session::{Session, SessionIds};
-use plan_output::{add_json_lines, add_no_plan_line, add_steps, add_table, stall_note};
-use quorum_sets::{MemberSet, NoMemory};
+use plan_output::{Output, add_no_plan_line, add_path, stall_note};
+use quorum_sets::NoMemory;
 use std::alloc::Global;
 
 /// The text of the plan between two configurations, or why there is none, and the status with it. The number is that of
@@ -34,7 +38,8 @@ pub(crate) fn plan_answer(
     ensures status { IfOk result (λ answer. answer.1 ≡ plan_status options.now pair.now) }
     ensures memory { IsOkUnless result OutOfMemory }
 {
-    match path_between(alloc, options, pair) {
+    let down = options.down.as_ref();
+    match plan_by(alloc, pair.strategy, &pair.current, &pair.target, down) {
         Ok(path) => path_answer(alloc, options, session, number, &pair.current, &path),
         Err(NoPath::NoVoterNow) => no_plan(
             alloc,
@@ -50,31 +55,6 @@ pub(crate) fn plan_answer(
     }
 }
 
-// The path of a pair by its strategy, made while the ids of the options are down.
-fn path_between(alloc: Global, options: &PlanOptions, pair: &Pair) -> Result<Path, NoPath>
-    requires valid_now { is_valid pair.now.current ≡ true }
-    requires valid_target { is_valid pair.now.target ≡ true }
-    ensures path { IfOk result (λ path.
-        path ≡ path_by pair.now.strategy (ids_down options.now.down) pair.now.current pair.now.target) }
-    ensures no_voter_now { (result ≡ Err NoPath.NoVoterNow) ↔ (has_voter pair.now.current ≡ false) }
-    ensures no_voter_target { (result ≡ Err NoPath.NoVoterTarget) ↔
-        ((has_voter pair.now.current ≡ true) × (has_voter pair.now.target ≡ false)) }
-    ensures joint_target { (result ≡ Err NoPath.JointTarget) ↔
-        ((has_voter pair.now.current ≡ true) × (has_voter pair.now.target ≡ true) ×
-        (has_path pair.now.strategy pair.now.current pair.now.target ≡ false)) }
-{
-    match &options.down {
-        Some(down) => plan_by(alloc, pair.strategy, &pair.current, &pair.target, down),
-        None => plan_by(
-            alloc,
-            pair.strategy,
-            &pair.current,
-            &pair.target,
-            &SessionIds::empty(alloc),
-        ),
-    }
-}
-
 // The text of a path from a configuration, and the status with it.
 fn path_answer(
     alloc: Global,
@@ -85,13 +65,13 @@ fn path_answer(
     path: &Path,
 ) -> Result<(Vec<u8>, Status), ToolFault>
     ensures text { IfOk result (λ answer. answer.0.items ≡ path_text options.now session.old number now.now path.now) }
-    ensures session { OnOk result (session.new ≡ session_as options.now.output session.old options.now.down now.now path.now) }
+    ensures session { OnOk result (session.new
+        ≡ session_as options.now.output session.old options.now.down now.now path.now) }
     ensures status { IfOk result (λ answer. answer.1 ≡ path_status options.now.down now.now path.now) }
     ensures memory { IsOkUnless result OutOfMemory }
 {
-    let note = path_note(alloc, options, now, path)?;
-    let text = path_text(alloc, options, session, number, now, path, note.as_ref())?;
-    let status = if note.is_some() {
+    let (text, stalls) = path_text(alloc, options, session, number, now, path)?;
+    let status = if stalls {
         Status::Different
     } else {
         Status::Clean
@@ -99,19 +79,7 @@ fn path_answer(
     Ok((text, status))
 }
 
-// The note that a path stalls with the ids that are down, if it does.
-fn path_note(
-    alloc: Global,
-    options: &PlanOptions,
-    now: &Config<SessionIds>,
-    path: &Path,
-) -> Result<Option<Vec<u8>>, NoMemory>
-    ensures { IfOk result (λ note. option_map (λ note. note.items) note ≡ stall_note options.now.down now.now path.now) }
-{
-    stall_note(alloc, now, path, options.down.as_ref())
-}
-
-// The text of a path from a configuration, with the note that it stalls.
+// The text of a path from a configuration, and whether it stalls with the ids that are down.
 fn path_text(
     alloc: Global,
     options: &PlanOptions,
@@ -119,21 +87,56 @@ fn path_text(
     number: u64,
     now: &Config<SessionIds>,
     path: &Path,
-    note: Option<&Vec<u8>>,
-) -> Result<Vec<u8>, NoMemory>
-    requires note { option_map (λ note. note.now.items) note ≡ stall_note options.now.down now.now path.now }
-    ensures text { IfOk result (λ text. text.items ≡ path_text options.now session.old number now.now path.now) }
-    ensures session { OnOk result (session.new ≡ session_as options.now.output session.old options.now.down now.now path.now) }
+) -> Result<(Vec<u8>, bool), NoMemory>
+    ensures text { IfOk result (λ answer. answer.0.items ≡ path_text options.now session.old number now.now path.now) }
+    ensures session { OnOk result (session.new
+        ≡ session_as options.now.output session.old options.now.down now.now path.now) }
+    ensures stalls { IfOk result (λ answer. answer.1 ≡ stalls_with options.now.down now.now path.now) }
 {
-    let mut text = Vec::new(alloc);
     let down = options.down.as_ref();
     match options.output {
-        PlanOutput::Steps => add_steps(&mut text, note, path)?,
-        PlanOutput::Script => return script_text(alloc, session, note, now, path),
-        PlanOutput::Table => add_table(alloc, &mut text, now, path, down)?,
-        PlanOutput::Json => add_json_lines(alloc, &mut text, number, now, path, down)?,
+        PlanOutput::Script => noted_script(alloc, session, now, path, down),
+        PlanOutput::Text(output) => printed_path(alloc, output, number, now, path, down),
     }
-    Ok(text)
+}
+
+// The script of a path, with the note that it stalls, and whether it does.
+fn noted_script(
+    alloc: Global,
+    session: &mut Session,
+    now: &Config<SessionIds>,
+    path: &Path,
+    down: Option<&SessionIds>,
+) -> Result<(Vec<u8>, bool), NoMemory>
+    ensures text { IfOk result (λ answer. answer.0.items ≡ spec.script_text session.old
+        (stall_note (option_map (λ set. set) (option_copied down.entry)) now.now path.now) now.now path.now) }
+    ensures session { OnOk result (session.new ≡ session_after_all session.old (script_items
+        (stall_note (option_map (λ set. set) (option_copied down.entry)) now.now path.now) now.now path.now)) }
+    ensures stalls { IfOk result (λ answer. answer.1
+        ≡ stalls_with (option_map (λ set. set) (option_copied down.entry)) now.now path.now) }
+{
+    let note = stall_note(alloc, now, path, down)?;
+    let text = script_text(alloc, session, note.as_ref(), now, path)?;
+    Ok((text, note.is_some()))
+}
+
+// The text of a path in an output, and whether it stalls.
+fn printed_path(
+    alloc: Global,
+    output: Output,
+    number: u64,
+    now: &Config<SessionIds>,
+    path: &Path,
+    down: Option<&SessionIds>,
+) -> Result<(Vec<u8>, bool), NoMemory>
+    ensures text { IfOk result (λ answer. answer.0.items
+        ≡ text_as output number (option_map (λ set. set) (option_copied down.entry)) now.now path.now) }
+    ensures stalls { IfOk result (λ answer. answer.1
+        ≡ stalls_with (option_map (λ set. set) (option_copied down.entry)) now.now path.now) }
+{
+    let mut text = Vec::new(alloc);
+    let stalls = add_path(alloc, &mut text, output, number, now, path, down)?;
+    Ok((text, stalls))
 }
 
 // The answer to the pair with this number if it has no plan.
@@ -161,8 +164,10 @@ fn no_plan_text(
     ensures { IfOk result (λ text. text.items ≡ no_plan_text output number why.now) }
 {
     match output {
-        PlanOutput::Steps | PlanOutput::Script | PlanOutput::Table => no_plan_comment(alloc, why),
-        PlanOutput::Json => {
+        PlanOutput::Script | PlanOutput::Text(Output::Steps | Output::Table) => {
+            no_plan_comment(alloc, why)
+        }
+        PlanOutput::Text(Output::Json) => {
             let mut text = Vec::new(alloc);
             add_no_plan_line(alloc, &mut text, number, why)?;
             Ok(text)

@@ -4,8 +4,8 @@ ghost use Rattle.clap.specs.Words.{app_of, rule_of};
 ghost use Rattle.conf_tool.specs.Program.{program, without_modes, mode_command, command_with, option_of, script_options, undo_options, plan_options};
 
 use crate::help::{
-    CHECK, DOWN, FROM, HISTORY, LINES, ModeHelp, NEXT_FLOOR, OUTPUT, OptionHelp, PLAN, PROGRAM,
-    REWRITE, STEPS, STRATEGY, TO, UNDO,
+    ABOUT, CHECK, DOWN, FROM, HISTORY, LINES, ModeHelp, NEXT_FLOOR, OUTPUT, OptionHelp, PLAN,
+    PROGRAM, REWRITE, STEPS, STRATEGY, TO, UNDO,
 };
 use crate::mode::Mode;
 use clap::builder::ValueParser;
@@ -36,11 +36,11 @@ pub(crate) fn program<'a>(alloc: Global, names: OptionNames<'a>) -> Result<Comma
 {
     let mut program = without_modes(alloc);
     for mode in [
+        Mode::Plan,
         Mode::Lines,
         Mode::Check,
         Mode::Rewrite,
         Mode::Undo,
-        Mode::Plan,
     ] {
         program = program.subcommand(mode_command(alloc, mode, names)?)?;
     }
@@ -52,7 +52,7 @@ fn without_modes<'a>(alloc: Global) -> Command<'a>
     ensures { app_of result ≡ without_modes }
 {
     Command::new(alloc, "confscript")
-        .about("Simulates membership changes of etcd's raft library")
+        .about(ABOUT)
         .after_long_help(PROGRAM)
         .version(VERSION)
         .subcommand_required(true)
@@ -140,7 +140,8 @@ fn command_with<'a>(
     mode: ModeHelp,
     options: &[ModeOption<'a>],
 ) -> Result<Command<'a>, AllocError>
-    ensures { IfOk result (λ command. app_of command ≡ record { top = command_with mode.name.now (map option_of options.now); subs = [] }) }
+    ensures { IfOk result (λ command. app_of command
+        ≡ record { top = command_with mode.name.now (map option_of options.now); subs = [] }) }
 {
     let file = Arg::new(alloc, "FILE").help(
         "The file to read; standard input if it is left out or -",

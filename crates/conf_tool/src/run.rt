@@ -9,9 +9,9 @@ ghost use Rattle.conf_tool.specs.declared.mode.Mode.{Mode as ModeName};
 
 mod check;
 mod clean_unless;
+mod handler;
+mod input;
 mod lines;
-mod part_by_part;
-mod parts;
 mod plan;
 pub(crate) mod plan_script;
 mod rewrite;
@@ -19,14 +19,14 @@ mod step_items;
 mod undo;
 
 use self::check::Checking;
+use self::handler::run_by_part;
 use self::lines::LineByLine;
-use self::part_by_part::run_by_part;
 use self::plan::{Planning, answer_texts};
 use self::rewrite::Rewriting;
 use self::undo::Undoing;
 use crate::mode::Mode;
 use crate::options::Options;
-use crate::pair_texts::PairTexts;
+use crate::pair_arguments::PairArguments;
 use crate::plan_options::PlanOptions;
 use crate::status::Status;
 use crate::tool_fault::ToolFault;
@@ -49,7 +49,8 @@ pub fn run<R: Source, W: Sink>(
     requires { IsInRange options }
 
     // What is written is the output, or a prefix of it, for each input that agrees with what was read.
-    ensures output { Answers (output_of mode options) (R.remaining reader.old) (R.remaining reader.new) (W.contents writer.old) (W.contents writer.new) result }
+    ensures output { Answers (output_of mode options) (R.remaining reader.old) (R.remaining reader.new)
+        (W.contents writer.old) (W.contents writer.new) result }
     ensures consumed { LosesPrefix (R.remaining reader.old) (R.remaining reader.new) }
 
     // The reader has failed exactly if it had failed before or `Read` is returned, and likewise the writer and `Write`.
@@ -115,7 +116,8 @@ pub fn run_and_flush<R: Source, W: Sink>(
 
     // A failed read and `NoMemory` take precedence over a failed write.
     ensures read { R.has_failed reader.new ≡ (R.has_failed reader.old || is_read_failure result) }
-    ensures write { ReportsWrite (W.has_failed (buffered_writer writer.old)) (W.has_failed (buffered_writer writer.new)) result }
+    ensures write { ReportsWrite (W.has_failed (buffered_writer writer.old))
+        (W.has_failed (buffered_writer writer.new)) result }
     ensures kinds { CanAnswer mode result }
 {
     let outcome = run(alloc, mode, options, reader, writer);
@@ -128,7 +130,7 @@ pub fn run_and_flush<R: Source, W: Sink>(
 pub fn run_pair_and_flush<W: Sink>(
     alloc: Global,
     options: PlanOptions,
-    texts: PairTexts<'_>,
+    texts: PairArguments<'_>,
     writer: &mut Blocks<W>,
 ) -> Result<Status, ToolFault>
     requires { NothingBuffered writer.old }
@@ -137,7 +139,8 @@ pub fn run_pair_and_flush<W: Sink>(
         Means (planned_texts options texts.entry.from.now texts.entry.to.now) result (W.contents (buffered_writer writer.old)) (W.contents (buffered_writer writer.new)) }
     ensures flushed { W.has_failed (buffered_writer writer.new) ≡ false → NothingBuffered writer.new }
     ensures read { is_read_failure result ≡ false }
-    ensures write { ReportsWrite (W.has_failed (buffered_writer writer.old)) (W.has_failed (buffered_writer writer.new)) result }
+    ensures write { ReportsWrite (W.has_failed (buffered_writer writer.old))
+        (W.has_failed (buffered_writer writer.new)) result }
 {
     let outcome = answer_texts(alloc, &options, texts, writer);
     nothing_waits::<W>();
@@ -149,11 +152,14 @@ fn flush_after<W: Sink>(
     outcome: Result<Status, ToolFault>,
     writer: &mut Blocks<W>,
 ) -> Result<Status, ToolFault>
-    ensures output { (output : Output) (before : Option (List ℕ)) → Means output outcome before (⟦<Blocks<W> as Sink>⟧.contents writer.old) → Means output result before (⟦<Blocks<W> as Sink>⟧.contents writer.new) }
+    ensures output { (output : Output) (before : Option (List ℕ))
+        → Means output outcome before (⟦<Blocks<W> as Sink>⟧.contents writer.old)
+        → Means output result before (⟦<Blocks<W> as Sink>⟧.contents writer.new) }
     ensures whole { is_whole_output result ≡ true → NothingBuffered writer.new }
     ensures flushed { W.has_failed (buffered_writer writer.new) ≡ false → NothingBuffered writer.new }
     ensures read { is_read_failure result ≡ is_read_failure outcome }
-    ensures write { (before : Bool) → W.has_failed (buffered_writer writer.old) ≡ (before || is_write_failure outcome) → ReportsWrite before (W.has_failed (buffered_writer writer.new)) result }
+    ensures write { (before : Bool) → W.has_failed (buffered_writer writer.old) ≡ (before || is_write_failure outcome)
+        → ReportsWrite before (W.has_failed (buffered_writer writer.new)) result }
     ensures kinds { (mode : ModeName) → CanAnswer mode outcome → CanAnswer mode result }
 {
     match writer.flush() {

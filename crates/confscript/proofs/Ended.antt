@@ -13,7 +13,7 @@ use Rattle.conf_tool.specs.ExitStatus.{exit_status_of, ExitsWith, PlansWith}
 use Rattle.conf_tool.specs.Outputs.{Output, output_of, planned_texts}
 use Rattle.conf_tool.specs.Run.{Means, Wrote}
 use Rattle.conf_tool.specs.declared.invocation.Invocation.{Invocation}
-use Rattle.conf_tool.specs.declared.pair_texts.PairTexts.{PairTexts}
+use Rattle.conf_tool.specs.declared.pair_arguments.PairArguments.{PairArguments}
 use Rattle.conf_tool.specs.declared.status.Status.{Status}
 use Rattle.conf_tool.specs.declared.tool_fault.ToolFault.{ToolFault}
 use Rattle.conf_tool.specs.declared.tool_fault.ToolFault.TheVariants.{Script, Configurations, Read, Write, NoMemory}
@@ -147,9 +147,9 @@ run-ends contents output input left before after code nothing loses gathered giv
     given
 
 -- a plan for the pair of the arguments is what they ask for
-pub pair-ends : (files : List ℕ → Option (List ℕ)) (standard before after : Option (List ℕ)) (invocation : Invocation) (texts : PairTexts) (code : ExitCode) → invocation.pair ≡ Some texts →
+pub pair-ends : (files : List ℕ → Option (List ℕ)) (standard before after : Option (List ℕ)) (invocation : Invocation) (texts : PairArguments) (code : ExitCode) → invocation.pair ≡ Some texts →
     EndsAs (planned_texts invocation.options.plan texts.from.now texts.to.now) before after code → EndsFor files standard before after invocation code
 pair-ends files standard before after invocation texts code is ends = record {
-  output = subst (λ (pair : Option PairTexts). IfSome (output_with files standard invocation pair) (λ output. EndsAs output before after code)) (sym is) ends;
+  output = subst (λ (pair : Option PairArguments). IfSome (output_with files standard invocation pair) (λ output. EndsAs output before after code)) (sym is) ends;
   kinds = λ none. absurd (false≢true (ap is_some (sym none ∙ is)));
 }

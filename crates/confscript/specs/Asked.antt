@@ -2,7 +2,7 @@
 use Rattle.std.specs.Prelude.{ℕ, List, Option, Some, None, option_map, bytes_eq, codes, if◌then◌else◌}
 use Rattle.conf_tool.specs.Outputs.{Output, output_of, planned_texts}
 use Rattle.conf_tool.specs.declared.invocation.Invocation.{Invocation}
-use Rattle.conf_tool.specs.declared.pair_texts.PairTexts.{PairTexts}
+use Rattle.conf_tool.specs.declared.pair_arguments.PairArguments.{PairArguments}
 
 -- the bytes of FILE, or those of standard input if FILE is left out or `-`, if they are known
 abbrev pub bytes_named : (List ℕ → Option (List ℕ)) → Option (List ℕ) → Option (List ℕ) → Option (List ℕ)
@@ -15,7 +15,7 @@ output_over files standard invocation =
     option_map (output_of invocation.mode invocation.options) (bytes_named files standard (option_map (λ name. name.now) invocation.file))
 
 -- the output that the arguments ask for: the plan for their pair, if they have one, or else that of the mode
-abbrev pub output_with : (List ℕ → Option (List ℕ)) → Option (List ℕ) → Invocation → Option PairTexts → Option Output
+abbrev pub output_with : (List ℕ → Option (List ℕ)) → Option (List ℕ) → Invocation → Option PairArguments → Option Output
 output_with files standard invocation (Some pair) = Some (planned_texts invocation.options.plan pair.from.now pair.to.now)
 output_with files standard invocation None = output_over files standard invocation
 

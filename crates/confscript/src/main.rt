@@ -33,7 +33,8 @@ use conf_tool::command_line::command_line;
 use conf_tool::exit_status::exit_status;
 use conf_tool::run::{run_and_flush, run_pair_and_flush};
 use conf_tool::{
-    ArgumentFault, Invocation, Origin, PairTexts, PlanInputFault, PlanOptions, Status, ToolFault,
+    ArgumentFault, Invocation, Origin, PairArguments, PlanInputFault, PlanOptions, Status,
+    ToolFault,
 };
 use dd_file::blocks::Blocks;
 use dd_file::device::{FromRead, Sink, Source, ToWrite};
@@ -106,7 +107,8 @@ fn run_arguments<F: InputFiles, R: Source, W: Sink>(
 
     // The mode that they ask for runs over the input that they name, or they are refused.
     ensures ends { EndsForArguments (map ⟦<String as AsStr>⟧.text arguments.now) (F.bytes_of files.now)
-        (R.remaining input.old) (W.contents (buffered_writer output.old)) (W.contents (buffered_writer output.new)) result }
+        (R.remaining input.old) (W.contents (buffered_writer output.old))
+        (W.contents (buffered_writer output.new)) result }
     ensures read { status_of result ≢ 3 → R.has_failed input.new ≡ R.has_failed input.old }
     ensures written { WritesOut W.has_failed output.old output.new result }
 {
@@ -172,13 +174,14 @@ fn run_invocation<F: InputFiles, R: Source, W: Sink>(
 fn plan_to<W: Sink>(
     rt: &HostRuntime,
     options: PlanOptions,
-    texts: PairTexts<'_>,
+    texts: PairArguments<'_>,
     writer: &mut Blocks<W>,
 ) -> ExitCode
     requires empty { NothingBuffered writer.old }
 
     // The exit status is that of the plan from the one text to the other, ..
-    ensures output { PlansWith (planned_texts options texts.entry.from.now texts.entry.to.now) (⟦<Blocks<W> as Sink>⟧.contents writer.old) (⟦<Blocks<W> as Sink>⟧.contents writer.new) result }
+    ensures output { PlansWith (planned_texts options texts.entry.from.now texts.entry.to.now)
+        (⟦<Blocks<W> as Sink>⟧.contents writer.old) (⟦<Blocks<W> as Sink>⟧.contents writer.new) result }
 
     // .. and unless it is 3, the writer below has the whole output.
     ensures given { status_of result ≢ 3 → PlansWith (planned_texts options texts.entry.from.now texts.entry.to.now)
@@ -190,7 +193,11 @@ fn plan_to<W: Sink>(
 }
 
 // Reports an error as `end` does, and if a text is the name of a file, how that file's text is given.
-fn end_pair(rt: &HostRuntime, texts: PairTexts<'_>, outcome: Result<Status, ToolFault>) -> ExitCode
+fn end_pair(
+    rt: &HostRuntime,
+    texts: PairArguments<'_>,
+    outcome: Result<Status, ToolFault>,
+) -> ExitCode
     ensures { status_of result ≡ exit_status_of outcome }
 {
     if let Err(fault) = &outcome {
@@ -205,7 +212,11 @@ fn end_pair(rt: &HostRuntime, texts: PairTexts<'_>, outcome: Result<Status, Tool
 }
 
 // The text of the pair that this error is in, if it is the name of a file.
-fn file_named<'a>(rt: &HostRuntime, texts: PairTexts<'a>, fault: &ToolFault) -> Option<&'a str> {
+fn file_named<'a>(
+    rt: &HostRuntime,
+    texts: PairArguments<'a>,
+    fault: &ToolFault,
+) -> Option<&'a str> {
     let name = match fault {
         ToolFault::Configurations(PlanInputFault::BadText(Origin::From, _)) => texts.from,
         ToolFault::Configurations(PlanInputFault::BadText(Origin::To, _)) => texts.to,
@@ -257,7 +268,8 @@ fn run_to<R: Source, W: Sink>(
     requires empty { NothingBuffered writer.old }
 
     // It is the mode with the options that the arguments ask for, and the exit status is that of its result, ..
-    ensures output { ExitsWith (output_of invocation.entry.mode invocation.entry.options) (R.remaining reader.old) (R.remaining reader.new)
+    ensures output { ExitsWith (output_of invocation.entry.mode invocation.entry.options) (R.remaining reader.old)
+        (R.remaining reader.new)
         (⟦<Blocks<W> as Sink>⟧.contents writer.old) (⟦<Blocks<W> as Sink>⟧.contents writer.new) result }
 
     // .. and unless it is 3, the writer below has the whole output.

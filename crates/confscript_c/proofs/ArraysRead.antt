@@ -5,7 +5,7 @@ use Rattle.std.specs.List.{slice_range}
 use Rattle.std.proofs.Math.Seq.{take-append_seam, drop-append_seam}
 use Rattle.std.proofs.lemmas.Bool.{and_from, le-leb}
 use Rattle.std.proofs.lemmas.List.{append_assoc, drop-drop}
-use Rattle.conf_change.specs.Configuration.{Configuration, has_voter_or_is_empty}
+use Rattle.conf_change.specs.Configuration.{Configuration, has_voter_or_is_empty, member_ids}
 use Rattle.conf_change.specs.ConfState.{ConfStateLists}
 use Rattle.conf_change.specs.Outcome.{Outcome, outcome}
 use Rattle.conf_change.specs.Transition.{step_of}
@@ -15,7 +15,7 @@ use Rattle.conf_change.specs.declared.step.StepKind.{StepKind}
 use Rattle.conf_plan.specs.OnTheWay.{catching_up}
 use Rattle.conf_change.specs.declared.configuration_line.ConfigurationFault.{ConfigurationFault}
 use Rattle.confscript_c.specs.Answer.{status_answer}
-use Rattle.confscript_c.specs.Numbers.{flag_number, array_of, counted, has_form, outgoing_at, learners_at, learners_next_at, fresh_at, lists_in, restored_or_answer, configuration_of, numbers_of, all_members, restored_array, restore_result}
+use Rattle.confscript_c.specs.Numbers.{flag_number, array_of, counted, has_form, outgoing_at, learners_at, learners_next_at, fresh_at, lists_in, valid_or_answer, with_voter_or_answer, configuration_of, numbers_of, restored_array, restore_result}
 use Rattle.confscript_c.specs.Stepped.{array_after, changes_from, step_kind_at, step_result, step_result_of, stepped}
 use Rattle.confscript_c.specs.declared.answer.Answer.{Answer}
 use Rattle.confscript_c.specs.declared.status.Status.TheVariants.{NoVoter, DifferentLengths}
@@ -90,11 +90,11 @@ IsRead-from_configuration_of numbers c e = by_form (has_form numbers) refl e
     by_voter d true voter valid form e = let same : d ≡ c = cc in record { form = form; valid = valid ∙ ap Ok same; voter = ap has_voter_or_is_empty (sym same) ∙ voter }
     by_voter d false voter valid form e = cc
 
-    by_valid : (r : Result Configuration ConfigurationFault) → valid_of (lists_in numbers) ≡ r → has_form numbers ≡ true → restored_or_answer r ≡ Ok c → IsRead numbers c
+    by_valid : (r : Result Configuration ConfigurationFault) → valid_of (lists_in numbers) ≡ r → has_form numbers ≡ true → with_voter_or_answer (valid_or_answer r) ≡ Ok c → IsRead numbers c
     by_valid (Ok d) valid form e = by_voter d (has_voter_or_is_empty d) refl valid form e
     by_valid (Err why) valid form e = cc
 
-    by_form : (b : Bool) → has_form numbers ≡ b → cond b (restored_or_answer (valid_of (lists_in numbers))) (Err (status_answer DifferentLengths 0)) ≡ Ok c → IsRead numbers c
+    by_form : (b : Bool) → has_form numbers ≡ b → with_voter_or_answer (cond b (valid_or_answer (valid_of (lists_in numbers))) (Err (status_answer DifferentLengths 0))) ≡ Ok c → IsRead numbers c
     by_form true form e = by_valid (valid_of (lists_in numbers)) refl form e
     by_form false form e = cc
 
@@ -102,7 +102,7 @@ IsRead-from_configuration_of numbers c e = by_form (has_form numbers) refl e
 pub record IsRestored (numbers out : List ℕ) : Type 0 where
   pub c : Configuration
   pub read : configuration_of numbers ≡ Ok c
-  pub written : out ≡ numbers_of c (all_members c)
+  pub written : out ≡ numbers_of c (member_ids c)
 
 pub IsRestored-from_result : (numbers out : List ℕ) → restore_result numbers ≡ Ok out → IsRestored numbers out
 IsRestored-from_result numbers out e = by_read (configuration_of numbers) refl e

@@ -3,3 +3,8 @@ pub mod PlanLeads
 pub mod ChangesRead
 pub mod ArraysRead
 pub mod PartsApplied
+pub mod StagesWritten
+pub mod StagesStepped
+pub mod StagesOfThePlan
+pub mod PathsFound
+mod WorkedExamples

@@ -7,7 +7,9 @@ pub mod Checked
 pub mod Applied
 pub mod Request
 pub mod PlanTexts
+pub mod Paths
 pub mod Planning
 pub mod Version
 pub mod Numbers
 pub mod Stepped
+pub mod Stages

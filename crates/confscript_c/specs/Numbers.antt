@@ -1,8 +1,8 @@
 -- Configurations in numbers: an array of a flag, five counts, and the ids that they count.
 use Rattle.std.specs.Prelude.{ℕ, ◌+◌, Bool, ◌==◌, ◌&&◌, List, ◌∷◌, ◌++◌, length, nat_eq, nat_le, Result, Ok, Err, if◌then◌else◌}
 use Rattle.std.specs.List.{slice_index, slice_range}
-use Rattle.quorum_sets.specs.Ids.{Ids, ascending, union}
-use Rattle.conf_change.specs.Configuration.{Configuration, has_voter_or_is_empty}
+use Rattle.quorum_sets.specs.Ids.{Ids, ascending}
+use Rattle.conf_change.specs.Configuration.{Configuration, has_voter_or_is_empty, member_ids}
 use Rattle.conf_change.specs.ConfState.{ConfStateLists, lists_of}
 use Rattle.conf_change.specs.Violation.{valid_of}
 use Rattle.conf_change.specs.declared.configuration_line.ConfigurationFault.{ConfigurationFault}
@@ -79,28 +79,33 @@ invalid_answer fault.BadConfState = status_answer DifferentLengths 0
 invalid_answer (fault.NotAConfiguration violation) = violation_answer violation
 invalid_answer fault.NoMemory = no_memory
 
+-- the configuration that a saved one describes, or the answer if it is not valid
+abbrev pub valid_or_answer : Result Configuration ConfigurationFault → Result Configuration Answer
+valid_or_answer (Ok c) = Ok c
+valid_or_answer (Err why) = Err (invalid_answer why)
+
+-- the valid configuration of an array, or the answer if it has none
+abbrev pub valid_configuration_of : List ℕ → Result Configuration Answer
+valid_configuration_of numbers =
+    if has_form numbers then valid_or_answer (valid_of (lists_in numbers)) else Err (status_answer DifferentLengths 0)
+
 -- the configuration, or the answer if it has members but no incoming voter
 abbrev pub with_voter : Configuration → Result Configuration Answer
 with_voter c = if has_voter_or_is_empty c then Ok c else Err (status_answer NoVoter 0)
 
--- the configuration to which a saved one is restored, or the answer if it is not valid or has no voter
-abbrev pub restored_or_answer : Result Configuration ConfigurationFault → Result Configuration Answer
-restored_or_answer (Ok c) = with_voter c
-restored_or_answer (Err why) = Err (invalid_answer why)
+-- a valid configuration, or the answer if there is none or it has no voter
+abbrev pub with_voter_or_answer : Result Configuration Answer → Result Configuration Answer
+with_voter_or_answer (Ok c) = with_voter c
+with_voter_or_answer (Err why) = Err why
 
--- the configuration of an array, or the answer if it has none
+-- the configuration of an array, or the answer if it has no valid one or that has members but no incoming voter
 abbrev pub configuration_of : List ℕ → Result Configuration Answer
-configuration_of numbers =
-    if has_form numbers then restored_or_answer (valid_of (lists_in numbers)) else Err (status_answer DifferentLengths 0)
+configuration_of numbers = with_voter_or_answer (valid_configuration_of numbers)
 
 -- ---- restored
--- all members of a configuration
-abbrev pub all_members : Configuration → Ids
-all_members c = union (union c.incoming c.outgoing) c.learners
-
 -- the array of a configuration all of whose members begin afresh, if there is a configuration
 abbrev pub restored_array : Result Configuration Answer → OutResult
-restored_array (Ok c) = Ok (numbers_of c (all_members c))
+restored_array (Ok c) = Ok (numbers_of c (member_ids c))
 restored_array (Err why) = Err why
 
 -- the result of `confscript_restore`

@@ -56,8 +56,10 @@ fn line_after(alloc: Global, state: &[u8], path: &[u8]) -> Result<Vec<u8>, Answe
 
 // A changer with the configuration of a line. Its progress is fresh, and is not used.
 fn read_changer(alloc: Global, state: &[u8]) -> Result<Changer<InlineIds>, Answer>
-    ensures restored { IfOk result (λ changer. restored_of (read_as 1 (conf_state_in state.now)) ≡ Ok changer.tracker.config) }
-    ensures refused { IfErr result (λ why. (why ≡ no_memory) ⊎ (restored_of (read_as 1 (conf_state_in state.now)) ≡ Err why)) }
+    ensures restored { IfOk result (λ changer. restored_of (read_as 1 (conf_state_in state.now))
+        ≡ Ok changer.tracker.config) }
+    ensures refused { IfErr result (λ why. (why ≡ no_memory)
+        ⊎ (restored_of (read_as 1 (conf_state_in state.now)) ≡ Err why)) }
 {
     let saved = read_saved(alloc, 1, state)?;
     match Changer::restore(alloc, &saved, 0) {
@@ -79,7 +81,8 @@ fn restore_answer(fault: RestoreFault) -> Answer
 // The path that a text denotes.
 fn read_steps(alloc: Global, text: &[u8]) -> Result<Path, Answer>
     ensures path { IfOk result (λ path. path_in text.now ≡ Ok path) }
-    ensures refused { IfErr result (λ why. (why ≡ no_memory) ⊎ MatchResult (path_in text.now) (λ _. ⊥) (λ fault. why ≡ text_fault_answer fault)) }
+    ensures refused { IfErr result (λ why. (why ≡ no_memory)
+        ⊎ MatchResult (path_in text.now) (λ _. ⊥) (λ fault. why ≡ text_fault_answer fault)) }
 {
     match read_path(alloc, text) {
         Ok(path) => Ok(path),
@@ -100,8 +103,10 @@ fn text_fault_answer(fault: PlanTextFault) -> Answer
 
 // Applies the steps of a path, up to the first that is refused.
 fn take(changer: &mut Changer<InlineIds>, path: &Path) -> Result<(), Answer>
-    ensures taken { OnOk result (steps_result 1 changer.old.tracker.config path.now ≡ Ok (conf_state_text (lists_of changer.new.tracker.config))) }
-    ensures refused { IfErr result (λ why. (why ≡ no_memory) ⊎ (steps_result 1 changer.old.tracker.config path.now ≡ Err why)) }
+    ensures taken { OnOk result (steps_result 1 changer.old.tracker.config path.now
+        ≡ Ok (conf_state_text (lists_of changer.new.tracker.config))) }
+    ensures refused { IfErr result (λ why. (why ≡ no_memory)
+        ⊎ (steps_result 1 changer.old.tracker.config path.now ≡ Err why)) }
 {
     match apply_path(changer, path) {
         Ok(()) => Ok(()),

@@ -15,6 +15,7 @@
 //!
 //! ```text
 //! confscript_plan         two texts, a strategy        the steps from the first to the second, a table, or JSON
+//! confscript_stages       two arrays, a strategy       what to propose on the way, and where each proposal leads
 //! confscript_apply        a line, steps                the line after the steps
 //! confscript_check        a line                       the first broken invariant, and the id that breaks it
 //! confscript_committed    an index for each voter      the committed index
@@ -34,11 +35,13 @@ mod checking;
 mod input_lines;
 pub mod laws;
 mod numbers;
+mod paths;
 mod plan_texts;
 mod planning;
 mod quorums;
 mod request;
 mod restoring;
+mod stages;
 mod status;
 mod stepping;
 mod version;
@@ -49,6 +52,7 @@ pub use checking::confscript_check;
 pub use planning::confscript_plan;
 pub use quorums::{confscript_committed, confscript_may_be_down, confscript_vote};
 pub use restoring::confscript_restore;
+pub use stages::confscript_stages;
 pub use status::confscript_status_text;
 pub use stepping::{NumberedChange, confscript_step};
 pub use version::confscript_version;

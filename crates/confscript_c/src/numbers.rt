@@ -7,12 +7,13 @@
 //!
 //! The last count is that of the members that begin afresh. They belong to the step that led to the configuration, so
 //! what comes out of one call goes into the next as it is.
-ghost use Rattle.std.specs.Prelude.{◌≡◌, ◌⊎◌, ◌++◌, true, Ok, Err, IfOk, IfErr, OnOk};
-ghost use Rattle.quorum_sets.specs.Ids.{ascending};
+ghost use Rattle.std.specs.Prelude.{◌≡◌, ◌⊎◌, [], ◌∷◌, ◌++◌, true, Ok, Err, IfOk, IfErr, OnOk};
+ghost use Rattle.quorum_sets.specs.Ids.{ascending, size};
+ghost use Rattle.conf_change.specs.Configuration.{is_valid};
 ghost use Rattle.conf_change.specs.ConfState.{lists_of};
 ghost use Rattle.confscript_c.specs.Answer.{no_memory};
 ghost use Rattle.confscript_c.specs.Numbers as spec;
-ghost use Rattle.confscript_c.specs.Numbers.{has_form, lists_in, violation_answer, configuration_of, flag_number, numbers_of};
+ghost use Rattle.confscript_c.specs.Numbers.{has_form, lists_in, violation_answer, configuration_of, flag_number, numbers_of, valid_configuration_of};
 
 use crate::answer::Answer;
 use crate::status::Status;
@@ -32,11 +33,23 @@ pub(crate) fn configuration_of(alloc: Global, numbers: &[u64]) -> Result<Config<
     ensures configuration { IfOk result (λ c. configuration_of numbers.now ≡ Ok c) }
     ensures refused { IfErr result (λ why. (why ≡ no_memory) ⊎ (configuration_of numbers.now ≡ Err why)) }
 {
+    with_voter(valid_configuration_of(alloc, numbers)?)
+}
+
+/// The configuration of an array. It must be valid; it may have members and no voter.
+pub(crate) fn valid_configuration_of(
+    alloc: Global,
+    numbers: &[u64],
+) -> Result<Config<InlineIds>, Answer>
+    ensures configuration { IfOk result (λ c. valid_configuration_of numbers.now ≡ Ok c) }
+    ensures valid { IfOk result (λ c. is_valid c ≡ true) }
+    ensures refused { IfErr result (λ why. (why ≡ no_memory) ⊎ (valid_configuration_of numbers.now ≡ Err why)) }
+{
     if !has_form(numbers) {
         return Err(Answer::new(Status::DifferentLengths, 0));
     }
     match valid_lists(alloc, &lists_in(numbers)) {
-        Ok(config) => with_voter(config),
+        Ok(config) => Ok(config),
         Err(fault) => Err(invalid_answer(fault)),
     }
 }
@@ -122,22 +135,47 @@ pub(crate) fn numbers_of<S: MemberSet>(
     ensures { IfOk result (λ numbers. numbers.items ≡ numbers_of config.now (S.ids fresh.now)) }
 {
     let mut numbers = SmallVec::new(alloc);
+    append_configuration(&mut numbers, config, fresh)?;
+    Ok(numbers)
+}
+
+/// Appends the array of a configuration with the members that begin afresh.
+pub(crate) fn append_configuration<S: MemberSet>(
+    numbers: &mut Numbers,
+    config: &Config<S>,
+    fresh: &S,
+) -> Result<(), NoMemory>
+    ensures { OnOk result (numbers.new.items ≡ numbers.old.items ++ numbers_of config.now (S.ids fresh.now)) }
+{
+    append_counts(numbers, config, fresh)?;
+    append_ids(numbers, &config.incoming)?;
+    append_ids(numbers, &config.outgoing)?;
+    append_ids(numbers, &config.learners)?;
+    append_ids(numbers, &config.learners_next)?;
+    append_ids(numbers, fresh)
+}
+
+// Appends the flag, and how many ids each part has.
+fn append_counts<S: MemberSet>(
+    numbers: &mut Numbers,
+    config: &Config<S>,
+    fresh: &S,
+) -> Result<(), NoMemory>
+    ensures { OnOk result (numbers.new.items ≡ numbers.old.items ++ flag_number config.now.auto_leave
+        ∷ size config.now.incoming ∷ size config.now.outgoing ∷ size config.now.learners
+        ∷ size config.now.learners_next ∷ size (S.ids fresh.now) ∷ []) }
+{
     numbers.push(flag_number(config.auto_leave))?;
     numbers.push(config.incoming.len() as u64)?;
     numbers.push(config.outgoing.len() as u64)?;
     numbers.push(config.learners.len() as u64)?;
     numbers.push(config.learners_next.len() as u64)?;
     numbers.push(fresh.len() as u64)?;
-    append_ids(&mut numbers, &config.incoming)?;
-    append_ids(&mut numbers, &config.outgoing)?;
-    append_ids(&mut numbers, &config.learners)?;
-    append_ids(&mut numbers, &config.learners_next)?;
-    append_ids(&mut numbers, fresh)?;
-    Ok(numbers)
+    Ok(())
 }
 
-// The number of the flag.
-fn flag_number(auto_leave: bool) -> u64
+/// The number of a flag.
+pub(crate) fn flag_number(auto_leave: bool) -> u64
     ensures { result ≡ flag_number auto_leave }
 {
     if auto_leave { 1 } else { 0 }

@@ -8,7 +8,6 @@
 //! ```
 ghost use Rattle.std.specs.Prelude.{◌≡◌, ◌⊎◌, map, Some, None, IfOk, if◌then◌else◌};
 ghost use Rattle.std.specs.List.{list_all};
-ghost use Rattle.std.specs.List.Sorted.{IsPermutation};
 ghost use Rattle.quorum_sets.specs.Committed.{joint_committed_of};
 ghost use Rattle.quorum_sets.specs.Votes.{Counts, vote_of};
 ghost use Rattle.confscript_c.specs.Answer.{no_memory};
@@ -24,13 +23,11 @@ use quorum_sets::{
 use std::alloc::Global;
 
 /// The committed index of a pair of voter sets, or of one set if `outgoing` is empty, from the index that each voter
-/// has acknowledged, 0 if it is unknown. It is the greatest `u64` if there are no voters. Each array is left with the
-/// same indexes, in any order; the call takes no memory and is never refused (etcd's `quorum`).
+/// has acknowledged, 0 if it is unknown. It is the greatest `u64` if there are no voters. The call takes no memory and is
+/// never refused (etcd's `quorum`).
 #[unsafe(no_mangle)]
-pub extern "C" fn confscript_committed(incoming: &mut [u64], outgoing: &mut [u64]) -> u64
-    ensures index { result ≡ joint_committed_of incoming.old outgoing.old }
-    ensures incoming { IsPermutation incoming.old incoming.new }
-    ensures outgoing { IsPermutation outgoing.old outgoing.new }
+pub extern "C" fn confscript_committed(incoming: &[u64], outgoing: &[u64]) -> u64
+    ensures { result ≡ joint_committed_of incoming.now outgoing.now }
 {
     joint_committed_of(incoming, outgoing)
 }

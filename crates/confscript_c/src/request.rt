@@ -1,4 +1,4 @@
-//! How a plan is made and written, by the numbers that a caller passes:
+//! How a plan is made, and how its text is written, by the numbers that a caller passes:
 //!
 //! ```text
 //! strategy 1, output 2, down 4 5   ->   learners first, JSON lines, made and reported for 4 and 5 down
@@ -10,45 +10,45 @@ ghost use Rattle.confscript_c.specs.Request as spec;
 use crate::answer::Answer;
 use crate::status::Status;
 use conf_plan::Strategy;
+use plan_output::Output;
 use quorum_sets::{InlineIds, MemberSet};
 use std::alloc::Global;
 
-/// What is written of a plan. The texts are those of the program's options `--output steps`, `table` and `json`.
-#[derive(Clone, Copy)]
-pub enum Output {
-    /// One step a line.
-    Steps,
-    /// A row for the current configuration and one for each step, with how many failures it tolerates.
-    Table,
-    /// An object for each step, for programs that embed etcd's raft.
-    Json,
-}
-
-/// How a plan is made and written.
+/// How a plan is made.
 #[derive(Drop)]
 pub struct Request {
     pub strategy: Strategy,
-    pub output: Output,
     /// The ids that are down, if any are given.
     pub down: Option<InlineIds>,
 }
 
-/// The request of the code of a strategy, the code of an output, and the ids that are down. They are looked at in this
-/// order.
-pub(crate) fn request_in(
+/// The request of the code of a strategy, and the ids that are down. They are looked at in this order.
+pub(crate) fn request_in(alloc: Global, strategy: u32, down: &[u64]) -> Result<Request, Answer>
+    ensures request { IfOk result (λ request. spec.request_in strategy down.now ≡ Ok request) }
+    ensures refused { IfErr result (λ why. (why ≡ no_memory) ⊎ (spec.request_in strategy down.now ≡ Err why)) }
+{
+    Ok(Request {
+        strategy: strategy_at(strategy)?,
+        down: down_in(alloc, down)?,
+    })
+}
+
+/// The request of the code of a strategy and the ids that are down, and the output of a code. The output is looked at
+/// after the strategy, and before the ids.
+pub(crate) fn text_request_in(
     alloc: Global,
     strategy: u32,
     output: u32,
     down: &[u64],
-) -> Result<Request, Answer>
-    ensures request { IfOk result (λ request. spec.request_in strategy output down.now ≡ Ok request) }
-    ensures refused { IfErr result (λ why. (why ≡ no_memory) ⊎ (spec.request_in strategy output down.now ≡ Err why)) }
+) -> Result<(Request, Output), Answer>
+    ensures request { IfOk result (λ asked. spec.text_request_in strategy output down.now ≡ Ok asked) }
+    ensures refused { IfErr result (λ why. (why ≡ no_memory)
+        ⊎ (spec.text_request_in strategy output down.now ≡ Err why)) }
 {
-    Ok(Request {
-        strategy: strategy_at(strategy)?,
-        output: output_at(output)?,
-        down: down_in(alloc, down)?,
-    })
+    let strategy = strategy_at(strategy)?;
+    let output = output_at(output)?;
+    let down = down_in(alloc, down)?;
+    Ok((Request { strategy, down }, output))
 }
 
 // The strategy with this code in `enum confscript_strategy`.

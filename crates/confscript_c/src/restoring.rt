@@ -5,14 +5,12 @@
 //! ```
 ghost use Rattle.std.specs.Prelude.{◌≡◌, ◌⊎◌, Ok, Err, IfOk, IfErr};
 ghost use Rattle.confscript_c.specs.Answer.{no_memory};
-ghost use Rattle.confscript_c.specs.Numbers.{restore_result, all_members};
+ghost use Rattle.confscript_c.specs.Numbers.{restore_result};
 ghost use Rattle.confscript_c.specs.Written.{Writes};
 
 use crate::answer::Answer;
 use crate::buffer::write_out;
 use crate::numbers::{Numbers, configuration_of, numbers_of};
-use conf_change::{Config, union};
-use quorum_sets::{MemberSet, NoMemory};
 use std::alloc::Global;
 
 /// Writes a saved configuration with its ids in ascending order and all members beginning afresh. The number is how
@@ -39,14 +37,6 @@ fn restored(alloc: Global, configuration: &[u64]) -> Result<Numbers, Answer>
     ensures refused { IfErr result (λ why. (why ≡ no_memory) ⊎ (restore_result configuration.now ≡ Err why)) }
 {
     let config = configuration_of(alloc, configuration)?;
-    let fresh = all_members(&config)?;
+    let fresh = config.members()?;
     Ok(numbers_of(alloc, &config, &fresh)?)
-}
-
-// All members of a configuration.
-fn all_members<S: MemberSet>(config: &Config<S>) -> Result<S, NoMemory>
-    ensures { IfOk result (λ members. S.ids members ≡ all_members config.now) }
-{
-    let voters = union(&config.incoming, &config.outgoing)?;
-    union(&voters, &config.learners)
 }

@@ -23,7 +23,8 @@ pub enum Status {
     RepeatedId = 4,
     /// A text names no configuration that the call accepts. The number is that of the text: 1 or 2.
     NotAConfiguration = 5,
-    /// A configuration has no incoming voter. The number is that of its text, 1 or 2, or 0 for one in numbers.
+    /// A configuration has no incoming voter. The number is 1 for the current configuration of a plan, 2 for its
+    /// target, and 0 for any other.
     NoVoter = 6,
     /// A line of a plan is not a step. The number is that of the line, from 1.
     BadLine = 7,

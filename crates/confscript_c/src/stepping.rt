@@ -64,7 +64,8 @@ fn stepped(
     changes: &[NumberedChange],
 ) -> Result<Numbers, Answer>
     ensures numbers { IfOk result (λ numbers. step_result configuration.now step changes.now ≡ Ok numbers.items) }
-    ensures refused { IfErr result (λ why. (why ≡ no_memory) ⊎ (step_result configuration.now step changes.now ≡ Err why)) }
+    ensures refused { IfErr result (λ why. (why ≡ no_memory)
+        ⊎ (step_result configuration.now step changes.now ≡ Err why)) }
 {
     let config = configuration_of(alloc, configuration)?;
     let changes = read_changes(alloc, changes)?;
@@ -130,8 +131,11 @@ fn array_after(
     kind: StepKind,
     changes: &[Change],
 ) -> Result<Numbers, Answer>
-    ensures numbers { IfOk result (λ numbers. array_after config.now (step_of kind changes.now) (outcome config.now (step_of kind changes.now)) ≡ Ok numbers.items) }
-    ensures refused { IfErr result (λ why. (why ≡ no_memory) ⊎ (array_after config.now (step_of kind changes.now) (outcome config.now (step_of kind changes.now)) ≡ Err why)) }
+    ensures numbers { IfOk result (λ numbers. array_after config.now (step_of kind changes.now)
+        (outcome config.now (step_of kind changes.now)) ≡ Ok numbers.items) }
+    ensures refused { IfErr result (λ why. (why ≡ no_memory)
+        ⊎ (array_after config.now (step_of kind changes.now) (outcome config.now (step_of kind changes.now))
+        ≡ Err why)) }
 {
     match next_config(config, kind, changes) {
         Ok(after) => {

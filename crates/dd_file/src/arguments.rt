@@ -16,7 +16,7 @@ ghost use Rattle.std.specs.List.{prefix_len};
 ghost use Rattle.dd_file.specs.DirectiveLine.{is_key_byte, is_plain_byte, ends_token, listed_at, values_at, after_key, argument_at};
 
 use crate::values::Values;
-use ascii_text::position::far_position_of;
+use ascii_text::position::find_far_byte;
 use ascii_text::white_space::is_space;
 use std::marker::Model;
 
@@ -82,7 +82,7 @@ fn listed_at(text: &[u8]) -> Option<LeadingValues<'_>>
     ensures values { result ≡ listed_at text.now }
     ensures within { IfSome result (λ found. length found.rest ≤ length text.now) }
 {
-    let (inside, closed) = text.split_at(far_position_of(text, b')'));
+    let (inside, closed) = text.split_at(find_far_byte(text, b')'));
     let (_, rest) = closed.split_first()?;
     Some(LeadingValues {
         values: Values::listed(inside),

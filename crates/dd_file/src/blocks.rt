@@ -51,10 +51,12 @@ impl<W: Sink> Blocks<W> {
     fn flush_block(&mut self) -> Result<(), DeviceFault>
         ensures bytes { Keeps (⟦<Blocks<W> as Sink>⟧.contents self.old) (⟦<Blocks<W> as Sink>⟧.contents self.new) }
         ensures ok { OnOk result (NothingBuffered self.new) }
-        ensures part { AppendsPart (W.contents (buffered_writer self.old)) (W.contents (buffered_writer self.new)) (buffered_output self.old) }
+        ensures part { AppendsPart (W.contents (buffered_writer self.old)) (W.contents (buffered_writer self.new))
+            (buffered_output self.old) }
         ensures room { OnOk result (vec_len self.new.block ≡ 0) }
         ensures again { W.has_failed (buffered_writer self.old) ≡ true → IsErr result × (self.new ≡ self.old) }
-        ensures failed { W.has_failed (buffered_writer self.new) ≡ (W.has_failed (buffered_writer self.old) || is_err result) }
+        ensures failed { W.has_failed (buffered_writer self.new)
+            ≡ (W.has_failed (buffered_writer self.old) || is_err result) }
     {
         if self.writer.failed() {
             return Err(DeviceFault);
@@ -77,8 +79,10 @@ impl<W: Sink> Blocks<W> {
     fn write_part(&mut self, bytes: &[u8]) -> Result<usize, DeviceFault>
         requires { 0 < length bytes.now }
         ensures bound { WritesAtMost result bytes.now }
-        ensures bytes { WriteAppends (⟦<Blocks<W> as Sink>⟧.contents self.old) (⟦<Blocks<W> as Sink>⟧.contents self.new) result bytes.now }
-        ensures failed { W.has_failed (buffered_writer self.new) ≡ (W.has_failed (buffered_writer self.old) || is_failed_write result bytes.now) }
+        ensures bytes { WriteAppends (⟦<Blocks<W> as Sink>⟧.contents self.old)
+            (⟦<Blocks<W> as Sink>⟧.contents self.new) result bytes.now }
+        ensures failed { W.has_failed (buffered_writer self.new)
+            ≡ (W.has_failed (buffered_writer self.old) || is_failed_write result bytes.now) }
     {
         if self.block.len() == BLOCK_BYTES {
             self.flush_block()?;
@@ -96,11 +100,13 @@ impl<W: Sink> Blocks<W> {
         ensures bytes { Keeps (⟦<Blocks<W> as Sink>⟧.contents self.old) (⟦<Blocks<W> as Sink>⟧.contents self.new) }
         ensures ok { OnOk result (NothingBuffered self.new) }
         // The writer got a prefix of the bytes that were buffered.
-        ensures part { AppendsPart (W.contents (buffered_writer self.old)) (W.contents (buffered_writer self.new)) (buffered_output self.old) }
+        ensures part { AppendsPart (W.contents (buffered_writer self.old)) (W.contents (buffered_writer self.new))
+            (buffered_output self.old) }
         // An error is permanent, and the writer is not called again.
         ensures again { W.has_failed (buffered_writer self.old) ≡ true → IsErr result × (self.new ≡ self.old) }
         // The writer has failed exactly when it had failed before, or an error is returned.
-        ensures failed { W.has_failed (buffered_writer self.new) ≡ (W.has_failed (buffered_writer self.old) || is_err result) }
+        ensures failed { W.has_failed (buffered_writer self.new)
+            ≡ (W.has_failed (buffered_writer self.old) || is_err result) }
     {
         match self.flush_block() {
             Ok(()) => Ok(()),

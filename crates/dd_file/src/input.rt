@@ -99,7 +99,8 @@ impl Input {
     pub(crate) fn fill<R: Source>(&mut self, reader: &mut R) -> Result<bool, FileFault>
         requires unended { self.old.is_ended ≡ false }
         ensures same { self.new ≡ record self.old { buffered = self.new.buffered } }
-        ensures filled { IfOk result (FilledBy self.old.buffered self.new.buffered (R.remaining reader.old) (R.remaining reader.new)) }
+        ensures filled { IfOk result (FilledBy self.old.buffered self.new.buffered (R.remaining reader.old)
+            (R.remaining reader.new)) }
         ensures interrupted { IfErr result IsInterruption }
         ensures lost { OnErr result (LosesPrefix (R.remaining reader.old) (R.remaining reader.new)) }
         ensures failed { R.has_failed reader.new ≡ (R.has_failed reader.old || is_read_fault result) }

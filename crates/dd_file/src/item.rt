@@ -224,7 +224,8 @@ impl Item {
         input: &[Vec<u8>],
     ) -> Result<Option<Item>, AllocError>
         ensures { IfOk result (λ item. item ≡
-            option_map (λ command. directive 1 command (line.items ∷ []) (map (λ line. line.items) input.now) []) (command_of line.items)) }
+            option_map (λ command. directive 1 command (line.items ∷ []) (map (λ line. line.items) input.now) [])
+            (command_of line.items)) }
     {
         let Some(command) = parse_command(alloc, line.as_slice())? else {
             return Ok(None);

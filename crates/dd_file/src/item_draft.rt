@@ -69,7 +69,8 @@ impl DraftParts {
     /// Stores a line as a directive line. The line of a comment or a blank is stored as one too.
     fn keep_directive_line(&mut self, line: &[u8]) -> Result<(), AllocError>
         requires { self.old.input ≡ [] }
-        ensures { OnOk result (self.new ≡ record self.old { directive_lines = self.old.directive_lines ++ line.now ∷ [] }) }
+        ensures { OnOk result (self.new
+            ≡ record self.old { directive_lines = self.old.directive_lines ++ line.now ∷ [] }) }
     {
         self.raw_lines.push(line)?;
         self.directive_line_count = self.raw_lines.count();

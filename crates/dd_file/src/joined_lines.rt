@@ -8,7 +8,7 @@ ghost use Rattle.std.specs.Prelude.{◌≡◌, IfOk};
 ghost use Rattle.dd_file.specs.Script.{joined};
 
 use crate::raw_lines::RawLines;
-use ascii_text::lines::without_end;
+use ascii_text::lines::strip_last;
 use ascii_text::white_space::trimmed;
 use std::alloc::{AllocError, Global};
 
@@ -24,7 +24,7 @@ pub(crate) fn joined(alloc: Global, lines: &RawLines) -> Result<Vec<u8>, AllocEr
             unreachable!()
         };
         if i + 1 < count {
-            text.extend_from_slice(without_end(trimmed(line), b'\\'))?;
+            text.extend_from_slice(strip_last(trimmed(line), b'\\'))?;
             text.push(b' ')?;
         } else {
             text.extend_from_slice(trimmed(line))?;

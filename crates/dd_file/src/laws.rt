@@ -85,5 +85,6 @@ pub fn rewritten_in_turn()
 
 /// Once the blocks are flushed, their writer has all bytes that were written to them.
 pub fn nothing_waits<W: Sink>()
-    ensures { (blocks : Blocks W) → NothingBuffered blocks → ⟦<Blocks<W> as Sink>⟧.contents blocks ≡ W.contents (buffered_writer blocks) }
+    ensures { (blocks : Blocks W) → NothingBuffered blocks
+        → ⟦<Blocks<W> as Sink>⟧.contents blocks ≡ W.contents (buffered_writer blocks) }
 {}

@@ -111,7 +111,8 @@ fn read_buffered<P, D: Draft<P> + Drop, R: Source>(
     requires bounded { IsBounded input.old }
     ensures read { IfSome result (λ answer. ReadsOn R.remaining R.has_failed (next_of D.first_item D.numbered longest_input) D.IsFault input.old
         (record input.new { fault = fault_of answer }) reader.now reader.now answer) }
-    ensures unread { result ≡ None → (input.new ≡ input.old) × (is_first_buffered D.first_item input.old.position input.old.buffered ≡ false) }
+    ensures unread { result ≡ None → (input.new ≡ input.old)
+        × (is_first_buffered D.first_item input.old.position input.old.buffered ≡ false) }
 {
     let _ = reader;
     let first = input.count() + 1;

@@ -19,11 +19,11 @@ ghost use Rattle.dd_file.specs.RewriterState.{CanKeep, IsOutputNext, HasWritten,
 ghost use Rattle.dd_file.specs.Rewritten.{kept_text, output_text, opening, closing, has_blank_line, is_output, is_directive, newlines_at_end};
 
 use crate::device::Sink;
+use crate::expecting::Expecting;
 use crate::fault::WriteFault;
 use crate::item::Item;
-use crate::stage::Stage;
 use crate::writing::write_all;
-use ascii_text::lines::{next_full_line, without_end};
+use ascii_text::lines::{next_full_line, strip_last};
 use ascii_text::white_space::is_blank;
 use std::marker::Model;
 
@@ -59,8 +59,10 @@ fn last_newline(newlines: u8) -> &'static [u8]
 
 /// Writes the pending newline. There is one if the text so far ends in a newline.
 fn write_pending_newline<W: Sink>(writer: &mut W, newlines: u8) -> Result<(), WriteFault>
-    ensures ok { OnOk result (Appends (W.contents writer.old) (W.contents writer.new) (if newlines == 0 then [] else newline)) }
-    ensures err { OnErr result (AppendsPart (W.contents writer.old) (W.contents writer.new) (if newlines == 0 then [] else newline)) }
+    ensures ok { OnOk result (Appends (W.contents writer.old) (W.contents writer.new)
+        (if newlines == 0 then [] else newline)) }
+    ensures err { OnErr result (AppendsPart (W.contents writer.old) (W.contents writer.new)
+        (if newlines == 0 then [] else newline)) }
     ensures failed { OnErr result (W.has_failed writer.new ≡ true) }
     ensures sound { OnOk result (W.has_failed writer.new ≡ W.has_failed writer.old) }
 {
@@ -73,7 +75,8 @@ fn write_pending_newline<W: Sink>(writer: &mut W, newlines: u8) -> Result<(), Wr
 /// Writes more text after a text that ends in this many newlines; a newline at its end stays pending. Returns how many
 /// newlines the whole text ends in.
 fn write_text<W: Sink>(writer: &mut W, newlines: u8, text: &[u8]) -> Result<u8, WriteFault>
-    ensures ok { IfOk result (λ count. Continues newlines count (W.contents writer.old) (W.contents writer.new) text.now) }
+    ensures ok { IfOk result (λ count. Continues newlines count (W.contents writer.old)
+        (W.contents writer.new) text.now) }
     ensures err { OnErr result (BreaksOff newlines (W.contents writer.old) (W.contents writer.new) text.now) }
     ensures failed { OnErr result (W.has_failed writer.new ≡ true) }
     ensures sound { OnOk result (W.has_failed writer.new ≡ W.has_failed writer.old) }
@@ -82,7 +85,7 @@ fn write_text<W: Sink>(writer: &mut W, newlines: u8, text: &[u8]) -> Result<u8, 
         return Ok(newlines);
     }
     write_pending_newline(writer, newlines)?;
-    write_all(writer, without_end(text, b'\n'))?;
+    write_all(writer, strip_last(text, b'\n'))?;
     Ok(count_newlines(newlines, text))
 }
 
@@ -130,15 +133,17 @@ fn write_output<W: Sink>(
     double: bool,
 ) -> Result<u8, WriteFault>
     requires { double ≡ has_blank_line text.now }
-    ensures ok { IfOk result (λ count. Continues newlines count (W.contents writer.old) (W.contents writer.new) (output_text text.now)) }
-    ensures err { OnErr result (BreaksOff newlines (W.contents writer.old) (W.contents writer.new) (output_text text.now)) }
+    ensures ok { IfOk result (λ count. Continues newlines count (W.contents writer.old) (W.contents writer.new)
+        (output_text text.now)) }
+    ensures err { OnErr result (BreaksOff newlines (W.contents writer.old) (W.contents writer.new)
+        (output_text text.now)) }
     ensures failed { OnErr result (W.has_failed writer.new ≡ true) }
     ensures sound { OnOk result (W.has_failed writer.new ≡ W.has_failed writer.old) }
 {
     let suffix = after_output(double);
     write_all(writer, before_output(newlines, double))?;
     write_all(writer, text)?;
-    write_all(writer, without_end(suffix, b'\n'))?;
+    write_all(writer, strip_last(suffix, b'\n'))?;
     // The separator before the output ends in one newline.
     Ok(count_newlines(count_newlines(1, text), suffix))
 }
@@ -147,7 +152,7 @@ fn write_output<W: Sink>(
 /// each call fails (datadriven's `-rewrite`).
 #[derive(Drop)]
 pub struct Rewriter {
-    stage: Stage,
+    expecting: Expecting,
     newlines: u8,
 }
 
@@ -156,39 +161,40 @@ impl Model for Rewriter {
 
     ghost Value = { RewriterState };
 
-    ghost view = { λ a. record { stage = a.stage; newlines = a.newlines } };
+    ghost view = { λ a. record { expecting = a.expecting; newlines = a.newlines } };
 }
 
 impl Rewriter {
     /// A rewriter at the beginning of its script, with nothing written.
     pub fn new() -> Rewriter
-        ensures stage { result.stage ≡ Stage.Ready }
+        ensures expecting { result.expecting ≡ Expecting.Ready }
         ensures nothing { (start : Option (List ℕ)) → HasWritten result.newlines start start [] }
     {
         Rewriter {
-            stage: Stage::Ready,
+            expecting: Expecting::Ready,
             newlines: 0,
         }
     }
 
-    /// Records the result of a write: the number of newlines and the stage if it succeeded; if not, the rewriter fails
+    /// Records the result of a write: the number of newlines and what is expected next if it succeeded; if not, the rewriter fails
     /// permanently.
     fn finish_call(
         &mut self,
         written: Result<u8, WriteFault>,
-        stage: Stage,
+        expecting: Expecting,
     ) -> Result<(), WriteFault>
-        ensures ok { IfOk written (λ count. IsOk result × (self.new ≡ record { stage = stage; newlines = count })) }
-        ensures err { OnErr written (IsErr result × (self.new ≡ record self.old { stage = Stage.Failed })) }
+        ensures ok { IfOk written (λ count. IsOk result
+            × (self.new ≡ record { expecting = expecting; newlines = count })) }
+        ensures err { OnErr written (IsErr result × (self.new ≡ record self.old { expecting = Expecting.Failed })) }
     {
         match written {
             Ok(newlines) => {
                 self.newlines = newlines;
-                self.stage = stage;
+                self.expecting = expecting;
                 Ok(())
             }
             Err(fault) => {
-                self.stage = Stage::Failed;
+                self.expecting = Expecting::Failed;
                 Err(fault)
             }
         }
@@ -198,15 +204,15 @@ impl Rewriter {
     /// by `found` or `found_without_blanks`. It fails if a write fails, or has failed before (datadriven).
     pub fn keep<W: Sink>(&mut self, writer: &mut W, item: &Item) -> Result<(), WriteFault>
         requires { CanKeep self.old }
-        ensures { WritesMore W.contents W.has_failed self.old self.new writer.old writer.new (if is_directive item.now then Stage.NeedsOutput else Stage.Ready) (kept_text item.now) result }
+        ensures { WritesMore W.contents W.has_failed self.old self.new writer.old writer.new (if is_directive item.now then Expecting.NeedsOutput else Expecting.Ready) (kept_text item.now) result }
     {
-        if self.stage == Stage::Failed {
+        if self.expecting == Expecting::Failed {
             return Err(WriteFault);
         }
         let next = if item.is_directive() {
-            Stage::NeedsOutput
+            Expecting::NeedsOutput
         } else {
-            Stage::Ready
+            Expecting::Ready
         };
         let written = write_text(writer, self.newlines, item.raw_text());
         self.finish_call(written, next)
@@ -216,15 +222,15 @@ impl Rewriter {
     /// It fails if a write fails, or has failed before (datadriven).
     pub fn found<W: Sink>(&mut self, writer: &mut W, text: &[u8]) -> Result<(), WriteFault>
         requires output_next { IsOutputNext self.old }
-        requires output { self.old.stage ≡ Stage.NeedsOutput → is_output text.now ≡ true }
-        ensures { WritesMore W.contents W.has_failed self.old self.new writer.old writer.new Stage.Ready (output_text text.now) result }
+        requires output { self.old.expecting ≡ Expecting.NeedsOutput → is_output text.now ≡ true }
+        ensures { WritesMore W.contents W.has_failed self.old self.new writer.old writer.new Expecting.Ready (output_text text.now) result }
     {
-        if self.stage == Stage::Failed {
+        if self.expecting == Expecting::Failed {
             return Err(WriteFault);
         }
         let double = needs_double(text);
         let written = write_output(writer, self.newlines, text, double);
-        self.finish_call(written, Stage::Ready)
+        self.finish_call(written, Expecting::Ready)
     }
 
     /// Does what `found` does for an output that has no blank line, without searching it for one. It fails if a write
@@ -235,15 +241,15 @@ impl Rewriter {
         text: &[u8],
     ) -> Result<(), WriteFault>
         requires output_next { IsOutputNext self.old }
-        requires output { self.old.stage ≡ Stage.NeedsOutput → is_output text.now ≡ true }
+        requires output { self.old.expecting ≡ Expecting.NeedsOutput → is_output text.now ≡ true }
         requires full { has_blank_line text.now ≡ false }
-        ensures { WritesMore W.contents W.has_failed self.old self.new writer.old writer.new Stage.Ready (output_text text.now) result }
+        ensures { WritesMore W.contents W.has_failed self.old self.new writer.old writer.new Expecting.Ready (output_text text.now) result }
     {
-        if self.stage == Stage::Failed {
+        if self.expecting == Expecting::Failed {
             return Err(WriteFault);
         }
         let written = write_output(writer, self.newlines, text, false);
-        self.finish_call(written, Stage::Ready)
+        self.finish_call(written, Expecting::Ready)
     }
 
     /// Ends the script: writes the pending newline, unless the text ends in two. It fails if a write fails, or has
@@ -252,16 +258,16 @@ impl Rewriter {
         requires { CanKeep self.old }
         ensures { WritesEnd W.contents W.has_failed self.old self.new writer.old writer.new result }
     {
-        if self.stage == Stage::Failed {
+        if self.expecting == Expecting::Failed {
             return Err(WriteFault);
         }
         match write_all(writer, last_newline(self.newlines)) {
             Ok(()) => {
-                self.stage = Stage::Over;
+                self.expecting = Expecting::Over;
                 Ok(())
             }
             Err(fault) => {
-                self.stage = Stage::Failed;
+                self.expecting = Expecting::Failed;
                 Err(fault)
             }
         }

@@ -34,7 +34,8 @@ impl Scan {
 /// The first full line, if it ends in a newline. The first `searched` bytes have none.
 pub(crate) fn whole_line_from(bytes: &[u8], searched: usize) -> Option<&[u8]>
     requires { HasNoNewline searched bytes.now }
-    ensures line { MatchOption result (HasNoNewline (length bytes.now) bytes.now) (λ line. BeginsWithLine line.now bytes.now) }
+    ensures line { MatchOption result (HasNoNewline (length bytes.now) bytes.now)
+        (λ line. BeginsWithLine line.now bytes.now) }
     ensures searched { IfSome result (λ line. searched < length line.now) }
 {
     let len = searched + first_line_len(bytes.split_at(searched).1);

@@ -28,7 +28,8 @@ fn write_once<W: Sink>(writer: &mut W, bytes: &[u8]) -> usize
 fn write_rest<W: Sink>(writer: &mut W, bytes: &[u8], first_count: usize) -> usize
     requires { first_count ≤ length bytes.now }
     ensures bound { result ≤ length bytes.now }
-    ensures bytes { (start : Option (List ℕ)) → Appends start (W.contents writer.old) (take first_count bytes.now) → Appends start (W.contents writer.new) (take result bytes.now) }
+    ensures bytes { (start : Option (List ℕ)) → Appends start (W.contents writer.old) (take first_count bytes.now)
+        → Appends start (W.contents writer.new) (take result bytes.now) }
     ensures failed { W.has_failed writer.new ≡ (W.has_failed writer.old || nat_lt result (length bytes.now)) }
 {
     let mut written = first_count;

@@ -1,5 +1,5 @@
 -- An id that is down and is not a member.
-use Rattle.std.specs.Prelude.{ℕ, Bool, not, ◌||◌, Option, find}
+use Rattle.std.specs.Prelude.{ℕ, Bool, not, ◌||◌, Option, find, option_and_then}
 use Rattle.quorum_sets.specs.Ids.{Ids, ascending}
 use Rattle.conf_change.specs.Configuration.{Configuration, is_member}
 
@@ -8,5 +8,9 @@ abbrev pub is_stranger : Configuration → Configuration → ℕ → Bool
 is_stranger now target id = not (is_member now id || is_member target id)
 
 -- the least id of these that is a member of neither configuration
-abbrev pub stranger_of : Ids → Configuration → Configuration → Option ℕ
-stranger_of down now target = find (is_stranger now target) (ascending down)
+abbrev pub first_stranger : Ids → Configuration → Configuration → Option ℕ
+first_stranger down now target = find (is_stranger now target) (ascending down)
+
+-- the least id that is down, if ids are given that are, and a member of neither configuration
+abbrev pub stranger_of : Option Ids → Configuration → Configuration → Option ℕ
+stranger_of down now target = option_and_then (λ ids. first_stranger ids now target) down

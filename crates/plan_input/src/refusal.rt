@@ -9,7 +9,6 @@ ghost use Rattle.std.specs.Prelude.{◌≡◌, ◌<◌, length};
 ghost use Rattle.std.specs.List.{list_any};
 ghost use Rattle.plan_input.specs.Refusal.{first_refusal, list_refusal, refusal, refusal_at, removes};
 
-use crate::stranger::is_member;
 use crate::text_fault::TextFault;
 use conf_change::{Change, Config, Kind};
 use quorum_sets::MemberSet;
@@ -55,7 +54,7 @@ fn refusal_at<S: MemberSet>(
 fn refusal<S: MemberSet>(now: &Config<S>, before: &[Change], change: Change) -> Option<TextFault>
     ensures { result ≡ refusal now.now before.now change }
 {
-    let is_member = is_member(now, change.id);
+    let is_member = now.is_member(change.id);
     match change.kind {
         Kind::Remove if !is_member => Some(TextFault::NotAMember(change.id)),
         Kind::Voter | Kind::Learner if is_member && is_removed(before, change.id) => {

@@ -9,7 +9,7 @@ use Rattle.conf_change.specs.declared.step.Step.{Step}
 use Rattle.serde_json.specs.Written.{has_float, members_have_float}
 use Rattle.raft_json.specs.Proposal.{proposed_changes, transition_of}
 use Rattle.raft_json.proofs.Offered.{has_float-conf_change_json, has_float-conf_state_json, has_float-ids_json}
-use Rattle.plan_output.specs.Stages.{StageState, first_stage, stage_after, stage_may_be_down, until_then, may_be_down_besides}
+use Rattle.plan_output.specs.Stages.{StageState, first_stage, stage_after, stage_may_be_down, while_catching_up, may_be_down_besides}
 use Rattle.plan_output.specs.Json.{count_json, step_keys, step_json, steps_json, value_line, no_steps_json, each_json}
 
 -- ---- an object of a step has no float
@@ -22,7 +22,7 @@ plain_keys-no_float plan count number before step after =
       has_float-conf_change_json (transition_of step) (proposed_changes before.config step),
       has_float-conf_state_json (lists_of after.config),
       has_float-count_json (stage_may_be_down after),
-      has_float-count_json (until_then after),
+      has_float-count_json (while_catching_up after),
     ) refl
 
 step_keys-no_float : (down : Option Ids) (flag : Option Bool) (plan count number : ℕ) (before : StageState) (step : Step) (after : StageState)

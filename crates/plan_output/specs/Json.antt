@@ -11,7 +11,7 @@ use Rattle.raft_json.specs.IdsJson.{ids_json}
 use Rattle.raft_json.specs.ConfStateJson.{conf_state_json}
 use Rattle.raft_json.specs.ConfChangeJson.{conf_change_json}
 use Rattle.raft_json.specs.Proposal.{proposed_changes, transition_of}
-use Rattle.plan_output.specs.Stages.{StageState, first_stage, stage_after, stage_may_be_down, until_then, may_be_down_besides, stalls}
+use Rattle.plan_output.specs.Stages.{StageState, first_stage, stage_after, stage_may_be_down, while_catching_up, may_be_down_besides, stalls}
 
 -- a number, or null if there is none
 abbrev pub count_json : Option ℕ → Data
@@ -46,7 +46,7 @@ step_keys down stalls plan count number_of before step after =
     (with_stalls stalls
     (member (codes "step") (number (unsigned number_of))
     (member (codes "steps") (number (unsigned count))
-    (member (codes "until_then") (count_json (until_then after)) no_members)))))))))
+    (member (codes "until_then") (count_json (while_catching_up after)) no_members)))))))))
 
 -- the object of a step, which leads from the stage before it to the one after
 abbrev pub step_json : Option Ids → Option Bool → ℕ → ℕ → ℕ → StageState → Step → StageState → Data

@@ -4,4 +4,5 @@ pub mod Grid
 pub mod Names
 pub mod Table
 pub mod Json
+pub mod Output
 pub mod CarriedOut

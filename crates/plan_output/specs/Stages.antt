@@ -1,5 +1,5 @@
 -- The configurations along a path, and how many failures the cluster tolerates at each of them (own).
-use Rattle.std.specs.Prelude.{◌≡◌, ℕ, Bool, List, [], ◌∷◌, Option, refl}
+use Rattle.std.specs.Prelude.{◌≡◌, ℕ, Bool, false, List, [], ◌∷◌, Option, Some, None, refl}
 use Rattle.std.specs.Coded.{Coded, coded×, code_by}
 use Rattle.std.specs.List.{list_any}
 use Rattle.std.specs.Option.{is_none}
@@ -64,8 +64,8 @@ stage_may_be_down stage = tolerance.may_be_down (voters_of stage.config) no_ids
 
 -- how many ids may be down until the members that have to catch up have done so; these do not count, be they down or
 -- not
-abbrev pub until_then : StageState → Option ℕ
-until_then stage = tolerance.may_be_down (voters_of stage.config) stage.catching_up
+abbrev pub while_catching_up : StageState → Option ℕ
+while_catching_up stage = tolerance.may_be_down (voters_of stage.config) stage.catching_up
 
 -- how many ids may be down besides these, while the members that have to catch up do not count either
 abbrev pub may_be_down_besides : StageState → Ids → Option ℕ
@@ -79,3 +79,12 @@ some_stalls all down = list_any (λ stage. is_none (may_be_down_besides stage do
 -- is committed by the configuration before it, so the cluster gets to the end, and serves there, only if none stalls.
 abbrev pub stalls : Configuration → List Step → Ids → Bool
 stalls now steps down = some_stalls (stages now steps) down
+
+-- whether ids are given that are down, and one of these stages stalls then
+abbrev pub stalls_at : Option Ids → List StageState → Bool
+stalls_at None all = false
+stalls_at (Some down) all = some_stalls all down
+
+-- whether ids are given that are down, and a path stalls then
+abbrev pub stalls_with : Option Ids → Configuration → List Step → Bool
+stalls_with down now steps = stalls_at down (stages now steps)

@@ -1,18 +1,13 @@
 -- The lines of a path, with a note before them if the path stalls with the ids that are down (own).
 use Rattle.std.specs.Prelude.{ℕ, List, [], ◌++◌, codes, Option, Some, None, if◌then◌else◌}
 use Rattle.ascii_text.specs.Lines.{newline}
-use Rattle.quorum_sets.specs.Ids.{Ids, no_ids, ascending}
+use Rattle.quorum_sets.specs.Ids.{Ids, ascending}
 use Rattle.quorum_sets.specs.Tolerance.{commits_without}
 use Rattle.conf_change.specs.Configuration.{Configuration, voters_of}
 use Rattle.conf_change.specs.Text.{spaced_numbers}
 use Rattle.conf_change.specs.declared.step.Step.{Step}
 use Rattle.conf_plan.specs.PlanText.{plan_text}
 use Rattle.plan_output.specs.Stages.{stalls}
-
--- the ids that are down: none if none are given
-abbrev pub ids_down : Option Ids → Ids
-ids_down None = no_ids
-ids_down (Some down) = down
 
 -- that a path from this configuration stalls while these ids are down: `stalls with 4 5 down`, or `no quorum with 4 5
 -- down: no step can be made` if the voters of the configuration that are not down are not a quorum

@@ -9,7 +9,7 @@ use Rattle.conf_change.specs.Text.{text_if}
 use Rattle.conf_change.specs.declared.step.Step.{Step}
 use Rattle.plan_output.specs.Grid.{grid_text}
 use Rattle.plan_output.specs.Names.{denoted_text, name_by, named_line, names_text, numbered_of}
-use Rattle.plan_output.specs.Stages.{StageState, stages, stage_may_be_down, until_then, may_be_down_besides}
+use Rattle.plan_output.specs.Stages.{StageState, stages, stage_may_be_down, while_catching_up, may_be_down_besides}
 
 -- ---- the cells of a row
 -- The mark of an id: `V` for a voter, of both sets in a joint configuration; `+` for an incoming voter alone; `-` for
@@ -47,7 +47,7 @@ down_text None = codes "stalls"
 
 -- how many ids may be down until the members have caught up; empty if none has to
 abbrev pub until_text : StageState → List ℕ
-until_text stage = text_if (not (is_empty stage.catching_up)) (down_text (until_then stage))
+until_text stage = text_if (not (is_empty stage.catching_up)) (down_text (while_catching_up stage))
 
 -- the last cell, if ids are given that are down: how many may be down besides these
 abbrev pub besides_cells : Option Ids → StageState → List (List ℕ)

@@ -201,7 +201,7 @@ pub(crate) fn until_text<S: MemberSet>(alloc: Global, stage: &Stage<S>) -> Resul
     if stage.catching_up().len() == 0 {
         return Ok(Vec::new(alloc));
     }
-    down_text(alloc, stage.until_then())
+    down_text(alloc, stage.while_catching_up())
 }
 
 // The heading of the last column: `besides 4 6`.

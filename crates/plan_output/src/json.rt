@@ -14,6 +14,8 @@
 //! A simple step of several changes is as many lines of one change each, in the order of its list. As one proposal,
 //! etcd's raft would make them through a joint configuration that it leaves by itself, in which etcd 3.4.23 panics if
 //! entries are applied meanwhile.
+//!
+//! What names no source here is own.
 ghost use Rattle.std.specs.Prelude.{◌≡◌, ◌++◌, false, None, Some, IfOk, OnOk, OnErr, flat_map, option_copied, option_map};
 ghost use Rattle.quorum_sets.specs.Ids.{ascending};
 ghost use Rattle.serde_json.specs.View.{view, members_view};
@@ -21,6 +23,7 @@ ghost use Rattle.serde_json.specs.Written.{has_float};
 ghost use Rattle.raft_json.specs.IdsJson.{ids_json};
 ghost use Rattle.plan_output.specs.Json as spec;
 ghost use Rattle.plan_output.specs.Stages as stage_spec;
+ghost use Rattle.plan_output.specs.Stages.{stalls_with};
 ghost use Rattle.plan_output.specs.Json.{each_json, json_text, value_line, no_plan_json, no_steps_json, step_json};
 
 use crate::stage::{Stage, stalls};
@@ -45,31 +48,36 @@ struct Number {
     stalls: Option<bool>,
 }
 
-/// Appends an object for each change that is proposed, each on its own line: for each step of a path one, and for each
-/// change of a simple step one. It has what is proposed to etcd, the configuration after it, and how many failures that
-/// tolerates. With `down` it also has these ids, how many may be down besides them, while the members that have to catch
-/// up do not count either, and whether the path stalls. A path without a step is one line, `{"plan":1,"steps":0}`, or
-/// with `down` `{"down":[4],"plan":1,"stalls":false,"steps":0}`, where `stalls` is `true` if the configuration stalls.
-/// `plan` is the number of the path, as the caller counts. On `NoMemory` the text is unchanged (own).
-pub fn add_json_lines<S: MemberSet>(
+// Appends an object for each change that is proposed, each on its own line: for each step of a path one, and for each
+// change of a simple step one. It has what is proposed to etcd, the configuration after it, and how many failures that
+// tolerates. With `down` it also has these ids, how many may be down besides them, while the members that have to catch
+// up do not count either, and whether the path stalls. A path without a step is one line, `{"plan":1,"steps":0}`, or
+// with `down` `{"down":[4],"plan":1,"stalls":false,"steps":0}`, where `stalls` is `true` if the configuration stalls.
+// `plan` is the number of the path, as the caller counts. Returns whether the path stalls with the ids that are down.
+// On `NoMemory` the text is unchanged.
+pub(crate) fn add_json_lines<S: MemberSet>(
     alloc: Global,
     text: &mut Vec<u8>,
     plan: u64,
     now: &Config<S>,
     path: &Path,
     down: Option<&S>,
-) -> Result<(), NoMemory>
-    ensures ok { OnOk result (text.new.items ≡ text.old.items ++ json_text plan now.now path.now (option_map S.ids (option_copied down.entry))) }
+) -> Result<bool, NoMemory>
+    ensures ok { OnOk result (text.new.items
+        ≡ text.old.items ++ json_text plan now.now path.now (option_map S.ids (option_copied down.entry))) }
+    ensures stalls { IfOk result (λ stalls. stalls
+        ≡ stalls_with (option_map S.ids (option_copied down.entry)) now.now path.now) }
     ensures err { OnErr result (text.new.items ≡ text.old.items) }
 {
     let stalls = stalls_if_down(alloc, now, path, down)?;
     let each = path.one_change_each(alloc)?;
     let lines = lines_of(alloc, plan, now, &each, down, stalls)?;
-    append(text, lines.as_slice())
+    append(text, lines.as_slice())?;
+    Ok(stalls.unwrap_or(false))
 }
 
 /// Appends the object of two configurations without a plan, such as `{"no_plan":"the target is joint","plan":1}`, on
-/// its own line. `plan` is their number, as the caller counts. On `NoMemory` the text is unchanged (own).
+/// its own line. `plan` is their number, as the caller counts. On `NoMemory` the text is unchanged.
 pub fn add_no_plan_line(
     alloc: Global,
     text: &mut Vec<u8>,
@@ -106,7 +114,8 @@ fn lines_of<S: MemberSet>(
     down: Option<&S>,
     stalls: Option<bool>,
 ) -> Result<Vec<u8>, NoMemory>
-    ensures { IfOk result (λ lines. lines.items ≡ flat_map value_line (each_json (option_map S.ids (option_copied down.entry)) stalls plan now.now path.now)) }
+    ensures { IfOk result (λ lines. lines.items
+        ≡ flat_map value_line (each_json (option_map S.ids (option_copied down.entry)) stalls plan now.now path.now)) }
 {
     let mut lines = Vec::new(alloc);
     if path.len() == 0 {
@@ -137,7 +146,8 @@ fn stalls_if_down<S: MemberSet>(
     path: &Path,
     down: Option<&S>,
 ) -> Result<Option<bool>, NoMemory>
-    ensures { IfOk result (λ answer. answer ≡ option_map (stage_spec.stalls now.now path.now) (option_map S.ids (option_copied down.entry))) }
+    ensures { IfOk result (λ answer. answer
+        ≡ option_map (stage_spec.stalls now.now path.now) (option_map S.ids (option_copied down.entry))) }
 {
     match down {
         Some(down) => Ok(Some(stalls(alloc, now, path, down)?)),
@@ -256,7 +266,7 @@ fn step_keys<S: MemberSet>(
         &mut members,
         alloc,
         "until_then",
-        count_value(after.until_then()),
+        count_value(after.while_catching_up()),
     )?;
     Ok(members)
 }

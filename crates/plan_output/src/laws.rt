@@ -20,7 +20,8 @@ use conf_plan::laws::{one_change_each_leads, paths_keep_promises, run_stays_vali
 /// configuration of one stage and gives that of the next. The last one is the target. JSON has an object for each stage
 /// after the first one of the run of one change each.
 pub fn stages_are_on_the_way()
-    ensures { (now target : Configuration) (steps : List Step) → IsRun now steps target → AreOnTheWay (stages now steps) steps target }
+    ensures { (now target : Configuration) (steps : List Step) → IsRun now steps target
+        → AreOnTheWay (stages now steps) steps target }
 {}
 
 /// The JSON lines of a path by a strategy lead etcd's raft to the target. Each line is a value here; the text of the value
@@ -29,8 +30,10 @@ pub fn stages_are_on_the_way()
 /// only a line that names a configuration with auto-leave leads through one. The last line names the target. `made` are
 /// the ids that are down as the path is made, and `down` those of which the lines report, if there are any.
 pub fn json_lines_lead_to_the_target()
-    ensures { (strategy : Strategy) (made : Ids) (down : Option Ids) (plan : ℕ) (now target : Configuration) → IsValidWithVoter now → IsValidWithVoter target
-        → has_path strategy now target ≡ true → LinesLead now now (path_json plan now (path_by strategy made now target) down) target }
+    ensures { (strategy : Strategy) (made : Ids) (down : Option Ids) (plan : ℕ) (now target : Configuration)
+        → IsValidWithVoter now → IsValidWithVoter target
+        → has_path strategy now target ≡ true
+        → LinesLead now now (path_json plan now (path_by strategy made now target) down) target }
 {
     conf_state_describes();
     restored_is_described();

@@ -19,10 +19,10 @@
 //! Ongaro's dissertation).
 //!
 //! [`stages`] returns the configurations on the way, and [`stalls`] whether nothing commits in one of them.
-//! [`add_steps`] appends the lines of the steps, and [`add_table`] the table. [`add_json_lines`] appends an object for
-//! each step, with the change to propose to etcd's raft for it, where a simple step of several changes is as many steps
-//! of one. Carried out one after another, they lead to the target ([`laws::json_lines_lead_to_the_target`]). The table,
-//! the marks and the keys of the objects are own.
+//! [`add_path`] appends the path in an [`Output`]: the lines of its steps, the table, or JSON lines. These have an
+//! object for each step, with the change to propose to etcd's raft for it, where a simple step of several changes is as
+//! many steps of one. Carried out one after another, they lead to the target
+//! ([`laws::json_lines_lead_to_the_target`]). The table, the marks and the keys of the objects are own.
 #![tactic(auto)]
 
 mod cells;
@@ -30,11 +30,12 @@ mod grid;
 mod json;
 pub mod laws;
 mod names;
+mod output;
 mod stage;
 mod steps;
 mod table;
 
-pub use json::{add_json_lines, add_no_plan_line};
+pub use json::add_no_plan_line;
+pub use output::{Output, add_path};
 pub use stage::{Stage, stages, stalls};
-pub use steps::{add_steps, stall_note};
-pub use table::add_table;
+pub use steps::stall_note;

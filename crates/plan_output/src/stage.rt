@@ -8,7 +8,9 @@
 //! may be down 1                          may be down 1                       may be down 1
 //!                                        4 and 5 catch up: stalls until then
 //! ```
-ghost use Rattle.std.specs.Prelude.{◌≡◌, IfOk};
+//!
+//! What names no source here is own.
+ghost use Rattle.std.specs.Prelude.{◌≡◌, option_copied, option_map, IfOk};
 ghost use Rattle.quorum_sets.specs.Ids.{no_ids, union};
 ghost use Rattle.quorum_sets.specs.Tolerance as tolerance;
 ghost use Rattle.quorum_sets.specs.Tolerance.{IsMostDown};
@@ -23,7 +25,7 @@ use std::alloc::Global;
 use std::marker::Model;
 
 /// A configuration on the way, and its members that have to catch up there: the step that led to it reset their
-/// progress, or made them members, so they begin with an empty log (own).
+/// progress, or made them members, so they begin with an empty log.
 #[derive(Drop)]
 pub struct Stage<S: MemberSet> {
     config: Config<S>,
@@ -78,7 +80,7 @@ impl<S: MemberSet> Stage<S> {
     }
 
     /// How many ids may be down, whichever they are, once all members have caught up: 1 of `(1 2 3)`, 2 of
-    /// `(1 2 3 4 5)`. `None` if the configuration has no incoming voter (own).
+    /// `(1 2 3 4 5)`. `None` if the configuration has no incoming voter.
     pub fn may_be_down(&self) -> Option<usize>
         ensures most { IsMostDown (voters_of self.now.config) no_ids result }
         ensures counted { result ≡ spec.stage_may_be_down self.now }
@@ -88,19 +90,20 @@ impl<S: MemberSet> Stage<S> {
     }
 
     /// How many ids may be down until the members that have to catch up have done so; these do not count, be they down
-    /// or not. `None` if the others are not a quorum even with none down: the stage stalls until then (own).
-    pub fn until_then(&self) -> Option<usize>
+    /// or not. `None` if the others are not a quorum even with none down: the stage stalls until then.
+    pub fn while_catching_up(&self) -> Option<usize>
         ensures most { IsMostDown (voters_of self.now.config) self.now.catching_up result }
-        ensures counted { result ≡ spec.until_then self.now }
+        ensures counted { result ≡ spec.while_catching_up self.now }
     {
         self.most_down(self.catching_up())
     }
 
     /// How many ids may be down besides these, while the members that have to catch up do not count either. `None` if
     /// the others are not a quorum even if all of them are up: the stage stalls. With 3 down that is 0 of `(1 2 3)`,
-    /// and `None` of `(1 3)`. An id that is not a member changes nothing (own).
+    /// and `None` of `(1 3)`. An id that is not a member changes nothing.
     pub fn may_be_down_besides(&self, down: &S) -> Result<Option<usize>, NoMemory>
-        ensures most { IfOk result (λ most. IsMostDown (voters_of self.now.config) (union (S.ids down.now) self.now.catching_up) most) }
+        ensures most { IfOk result (λ most. IsMostDown (voters_of self.now.config)
+            (union (S.ids down.now) self.now.catching_up) most) }
         ensures counted { IfOk result (λ most. most ≡ spec.may_be_down_besides self.now (S.ids down.now)) }
     {
         let away = union(down, self.catching_up())?;
@@ -117,7 +120,7 @@ impl<S: MemberSet> Stage<S> {
     }
 }
 
-/// The stages of a path: the configuration with which it begins, and the one after each step (own).
+/// The stages of a path: the configuration with which it begins, and the one after each step.
 pub fn stages<S: MemberSet>(
     alloc: Global,
     now: &Config<S>,
@@ -149,7 +152,7 @@ fn after_step<S: MemberSet>(before: &Config<S>, step: &Step) -> Result<Config<S>
 
 /// Whether a path stalls with these ids down: in the configuration with which it begins, or in one after a step, no
 /// number of ids may be down besides these, while the members that have to catch up do not count either. With 2 down,
-/// `(1 2 3)` commits and `(1 2)` stalls (own).
+/// `(1 2 3)` commits and `(1 2)` stalls.
 pub fn stalls<S: MemberSet>(
     alloc: Global,
     now: &Config<S>,
@@ -159,6 +162,20 @@ pub fn stalls<S: MemberSet>(
     ensures { IfOk result (λ answer. answer ≡ spec.stalls now.now path.now (S.ids down.now)) }
 {
     some_stalls(stages(alloc, now, path)?.as_slice(), down)
+}
+
+// Whether ids are given that are down, and one of these stages stalls then.
+pub(crate) fn stalls_at<S: MemberSet>(
+    stages: &[Stage<S>],
+    down: Option<&S>,
+) -> Result<bool, NoMemory>
+    ensures { IfOk result (λ answer. answer
+        ≡ spec.stalls_at (option_map S.ids (option_copied down.entry)) stages.now) }
+{
+    match down {
+        Some(down) => some_stalls(stages, down),
+        None => Ok(false),
+    }
 }
 
 // Whether one of these stages stalls with these ids down.

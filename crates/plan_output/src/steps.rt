@@ -5,17 +5,21 @@
 //! simple r4
 //! simple r5
 //! ```
-ghost use Rattle.std.specs.Prelude.{◌≡◌, ◌++◌, Ok, option_copied, option_map, IfOk, OnOk};
+//!
+//! What names no source here is own.
+ghost use Rattle.std.specs.Prelude.{◌≡◌, ◌++◌, Ok, option_copied, option_map, IfOk, OnOk, OnErr};
 ghost use Rattle.quorum_sets.specs.Ids.{ascending};
 ghost use Rattle.conf_change.specs.Text.{spaced_numbers};
 ghost use Rattle.conf_plan.specs.PlanCode.{path_in};
 ghost use Rattle.conf_plan.specs.PlanText.{plan_text};
 ghost use Rattle.plan_output.specs.Steps as spec;
-ghost use Rattle.plan_output.specs.Steps.{note_line};
+ghost use Rattle.plan_output.specs.Stages.{stalls_with};
+ghost use Rattle.plan_output.specs.Steps.{note_line, steps_text};
 
 use crate::cells::names_text;
 use crate::names::Names;
 use crate::stage::stalls;
+use ascii_text::append::append;
 use conf_change::Config;
 use conf_plan::{Path, print_path};
 use quorum_sets::{MemberSet, NoMemory, commits_without};
@@ -23,14 +27,15 @@ use std::alloc::Global;
 
 /// The note that a path stalls with the ids that are down, such as `stalls with 4 5 down`. It is `no quorum with 4 5 down:
 /// no step can be made` if the configuration with which the path begins has no quorum then. `None` if the path does not
-/// stall, or if no ids are given (own).
+/// stall, or if no ids are given.
 pub fn stall_note<S: MemberSet>(
     alloc: Global,
     now: &Config<S>,
     path: &Path,
     down: Option<&S>,
 ) -> Result<Option<Vec<u8>>, NoMemory>
-    ensures { IfOk result (λ note. option_map (λ note. note.items) note ≡ spec.stall_note (option_map S.ids (option_copied down.entry)) now.now path.now) }
+    ensures { IfOk result (λ note. option_map (λ note. note.items) note
+        ≡ spec.stall_note (option_map S.ids (option_copied down.entry)) now.now path.now) }
 {
     match down {
         Some(down) if stalls(alloc, now, path, down)? => Ok(Some(stall_text(alloc, now, down)?)),
@@ -70,19 +75,44 @@ fn around_ids<S: MemberSet>(
     Ok(text)
 }
 
-/// Appends the lines of a path, and before them a note as a comment, if there is one. `conf_plan::read_path` reads the
-/// lines as the same steps. On `NoMemory` the contents of the text are unspecified (own).
-pub fn add_steps(text: &mut Vec<u8>, note: Option<&Vec<u8>>, path: &Path) -> Result<(), NoMemory>
-    ensures ok { OnOk result (text.new.items ≡ text.old.items ++ note_line (option_map (λ note. note.now.items) note.entry) ++ plan_text path.now) }
+// Appends the lines of a path, and before them as a comment the note that it stalls, if it does with the ids that are
+// down. Returns whether it stalls. On `NoMemory` the text is unchanged.
+pub(crate) fn add_steps<S: MemberSet>(
+    alloc: Global,
+    text: &mut Vec<u8>,
+    now: &Config<S>,
+    path: &Path,
+    down: Option<&S>,
+) -> Result<bool, NoMemory>
+    ensures ok { OnOk result (text.new.items
+        ≡ text.old.items ++ steps_text (option_map S.ids (option_copied down.entry)) now.now path.now) }
+    ensures reads_back { OnOk result (path_in (plan_text path.now) ≡ Ok path.now) }
+    ensures stalls { IfOk result (λ stalls. stalls
+        ≡ stalls_with (option_map S.ids (option_copied down.entry)) now.now path.now) }
+    ensures err { OnErr result (text.new.items ≡ text.old.items) }
+{
+    let note = stall_note(alloc, now, path, down)?;
+    let lines = lines_of(alloc, note.as_ref(), path)?;
+    append(text, lines.as_slice())?;
+    Ok(note.is_some())
+}
+
+// The lines of a path, and before them a note as a comment, if there is one.
+fn lines_of(alloc: Global, note: Option<&Vec<u8>>, path: &Path) -> Result<Vec<u8>, NoMemory>
+    ensures lines { IfOk result (λ lines. lines.items
+        ≡ note_line (option_map (λ note. note.now.items) note.entry) ++ plan_text path.now) }
     ensures reads_back { OnOk result (path_in (plan_text path.now) ≡ Ok path.now) }
 {
-    write_note(text, note)?;
-    print_path(text, path)
+    let mut lines = Vec::new(alloc);
+    write_note(&mut lines, note)?;
+    print_path(&mut lines, path)?;
+    Ok(lines)
 }
 
 // Appends a note as a comment line, if there is one.
 fn write_note(text: &mut Vec<u8>, note: Option<&Vec<u8>>) -> Result<(), NoMemory>
-    ensures { OnOk result (text.new.items ≡ text.old.items ++ note_line (option_map (λ note. note.now.items) note.entry)) }
+    ensures { OnOk result (text.new.items
+        ≡ text.old.items ++ note_line (option_map (λ note. note.now.items) note.entry)) }
 {
     if let Some(note) = note {
         text.extend_from_slice(b"# ")?;

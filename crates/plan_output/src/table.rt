@@ -11,8 +11,8 @@
 //! If an id has more than six digits, the table calls its ids by numbers ([`Names`]).
 ghost use Rattle.std.specs.Prelude.{◌≡◌, ◌++◌, option_copied, option_map, IfOk, OnOk, OnErr};
 ghost use Rattle.quorum_sets.specs.Ids.{ascending};
-ghost use Rattle.quorum_sets.specs.Ids.{union as set_union};
 ghost use Rattle.plan_output.specs.Names.{name_by};
+ghost use Rattle.plan_output.specs.Stages.{stalls_with};
 ghost use Rattle.plan_output.specs.Table as spec;
 ghost use Rattle.plan_output.specs.Table.{table_text};
 
@@ -21,32 +21,37 @@ use crate::cells::{
 };
 use crate::grid::{Row, grid_text};
 use crate::names::{Names, denoted_text};
-use crate::stage::{Stage, stages};
+use crate::stage::{Stage, stages, stalls_at};
 use ascii_text::append::append;
 use conf_change::Config;
 use conf_plan::Path;
 use quorum_sets::{MemberSet, NoMemory, union};
 use std::alloc::Global;
 
-/// Appends the table of a path: a row for the configuration with which it begins, and one for each step with the
-/// configuration after it. A row shows who votes and learns there, the majority, how many may be down, who has to catch
-/// up, and how many may be down until then. With `down`, the last column shows how many may be down besides these,
-/// while the members that have to catch up do not count either. Each line ends with a newline. If an id of a column has
-/// more than six digits, these ids are called `#1`, `#2` and so on; an empty line and a line for each of them follow. On
-/// `NoMemory` the text is unchanged (own).
-pub fn add_table<S: MemberSet>(
+// Appends the table of a path: a row for the configuration with which it begins, and one for each step with the
+// configuration after it. A row shows who votes and learns there, the majority, how many may be down, who has to catch
+// up, and how many may be down until then. With `down`, the last column shows how many may be down besides these,
+// while the members that have to catch up do not count either. Each line ends with a newline. If an id of a column has
+// more than six digits, these ids are called `#1`, `#2` and so on; an empty line and a line for each of them follow.
+// Returns whether the path stalls with the ids that are down. On `NoMemory` the text is unchanged (own).
+pub(crate) fn add_table<S: MemberSet>(
     alloc: Global,
     text: &mut Vec<u8>,
     now: &Config<S>,
     path: &Path,
     down: Option<&S>,
-) -> Result<(), NoMemory>
-    ensures ok { OnOk result (text.new.items ≡ text.old.items ++ table_text now.now path.now (option_map S.ids (option_copied down.entry))) }
+) -> Result<bool, NoMemory>
+    ensures ok { OnOk result (text.new.items
+        ≡ text.old.items ++ table_text now.now path.now (option_map S.ids (option_copied down.entry))) }
+    ensures stalls { IfOk result (λ stalls. stalls
+        ≡ stalls_with (option_map S.ids (option_copied down.entry)) now.now path.now) }
     ensures err { OnErr result (text.new.items ≡ text.old.items) }
 {
     let stages = stages(alloc, now, path)?;
+    let stalls = stalls_at(stages.as_slice(), down)?;
     let table = table_of(alloc, stages.as_slice(), path, down)?;
-    append(text, table.as_slice())
+    append(text, table.as_slice())?;
+    Ok(stalls)
 }
 
 // The table of these stages. It is made apart from the text, so that all of it is appended or nothing.
@@ -97,17 +102,9 @@ fn ids_on_the_way<S: MemberSet>(alloc: Global, stages: &[Stage<S>]) -> Result<S,
 {
     let mut ids = S::empty(alloc);
     for stage in stages {
-        ids = union(&ids, &members(stage.config())?)?;
+        ids = union(&ids, &stage.config().members()?)?;
     }
     Ok(ids)
-}
-
-// The members of a configuration: its voters and its learners. A next learner is an outgoing voter.
-fn members<S: MemberSet>(config: &Config<S>) -> Result<S, NoMemory>
-    ensures { IfOk result (λ ids. S.ids ids ≡ set_union (set_union config.now.incoming config.now.outgoing) config.now.learners) }
-{
-    let voters = union(&config.incoming, &config.outgoing)?;
-    union(&voters, &config.learners)
 }
 
 // The headings of the columns; the second one is the names of the ids.
@@ -155,7 +152,8 @@ fn row<S: MemberSet>(
     stage: &Stage<S>,
 ) -> Result<Row, NoMemory>
     ensures { IfOk result (λ row. row
-        ≡ spec.row (name_by names.now) (ascending (S.ids ids.now)) (option_map S.ids (option_copied down.entry)) name.items
+        ≡ spec.row (name_by names.now) (ascending (S.ids ids.now))
+        (option_map S.ids (option_copied down.entry)) name.items
         stage.now) }
 {
     let mut row = Row::new(alloc);

@@ -2,6 +2,7 @@ pub mod Ids
 pub mod AscendingLists
 pub mod Voters
 pub mod Counting
+pub mod Edits
 pub mod Committed
 pub mod Votes
 pub mod Chart

@@ -20,7 +20,7 @@ use crate::lists::add_ids;
 use crate::member_set::MemberSet;
 use crate::unions::union;
 use ascii_text::NoMemory;
-use ascii_text::append::{append, append_number, append_times, keep_whole};
+use ascii_text::append::{append, append_number, append_times, undo_if_failed};
 use itoa::Buffer;
 use smallvec::SmallVec;
 use std::alloc::Global;
@@ -33,14 +33,15 @@ pub fn chart<S: MemberSet, A: AckSource>(
     set: &S,
     acks: &A,
 ) -> Result<(), NoMemory>
-    ensures ok { OnOk result (text.new.items ≡ text.old.items ++ chart_text (ascending (S.ids set.now)) (A.acks acks.now)) }
+    ensures ok { OnOk result (text.new.items
+        ≡ text.old.items ++ chart_text (ascending (S.ids set.now)) (A.acks acks.now)) }
     ensures err { OnErr result (text.new.items ≡ text.old.items) }
 {
     let mut ids = SmallVec::new(*text.allocator());
     add_ids(&mut ids, set)?;
     let len = text.len();
     let appended = append_chart(text, ids.as_slice(), acks);
-    keep_whole(text, len, appended)
+    undo_if_failed(text, len, appended)
 }
 
 /// Appends the chart of the voters of a joint configuration, as [`chart`] does. An id in both sets has one line.
@@ -50,7 +51,9 @@ pub fn joint_chart<S: MemberSet, A: AckSource>(
     outgoing: &S,
     acks: &A,
 ) -> Result<(), NoMemory>
-    ensures ok { OnOk result (text.new.items ≡ text.old.items ++ chart_text (ascending (spec.union (S.ids incoming.now) (S.ids outgoing.now))) (A.acks acks.now)) }
+    ensures ok { OnOk result (text.new.items
+        ≡ text.old.items ++ chart_text (ascending (spec.union (S.ids incoming.now) (S.ids outgoing.now)))
+        (A.acks acks.now)) }
     ensures err { OnErr result (text.new.items ≡ text.old.items) }
 {
     let both = union(incoming, outgoing)?;
@@ -92,7 +95,8 @@ fn append_rows<A: AckSource>(
     ranking: &[(u64, u64)],
 ) -> Result<(), NoMemory>
     requires { IsRanking ids.now (A.acks acks.now) ranking.now }
-    ensures ok { OnOk result (text.new.items ≡ text.old.items ++ flat_map (chart_row ids.now (A.acks acks.now)) ids.now) }
+    ensures ok { OnOk result (text.new.items
+        ≡ text.old.items ++ flat_map (chart_row ids.now (A.acks acks.now)) ids.now) }
     ensures extends { Extends text.old.items text.new.items }
 {
     for id in ids {

@@ -1,7 +1,7 @@
 //! The committed index: how far a majority has acknowledged the log.
 //!
-//! A server that has acknowledged an index has every entry up to it. So sort the n acknowledged indexes: the committed
-//! one is the (n/2 + 1)-th from the top, since a majority has acknowledged it or a greater one.
+//! A server that has acknowledged an index has every entry up to it. So of the n acknowledged indexes, sorted, the
+//! committed one is the (n/2 + 1)-th from the top, since a majority has acknowledged it or a greater one.
 //!
 //! ```text
 //! id       1 2 3 4 5
@@ -9,9 +9,8 @@
 //! sorted   4 4 6 7 9    6 is committed, since 5, 3 and 1 have it
 //! ```
 ghost use Rattle.std.specs.Prelude.{◌≡◌, ◌*◌, ◌<◌, ◌≤◌, length, nat_le, nat_lt, count_by, [], IfOk, IsOk, OnOk};
-ghost use Rattle.std.specs.List.Sorted.{IsPermutation};
 ghost use Rattle.quorum_sets.specs.Ids.{size};
-ghost use Rattle.quorum_sets.specs.Voters.{pair};
+ghost use Rattle.quorum_sets.specs.Voters.{most, pair};
 ghost use Rattle.quorum_sets.specs.Committed.{acked_indexes, greatest_index, IsCommitted, IsJointCommitted, committed_index, joint_committed_index, committed_of, joint_committed_of};
 
 use crate::acknowledgement::AckSource;
@@ -35,7 +34,7 @@ pub fn committed<S: MemberSet, A: AckSource>(
 {
     let mut indexes = SmallVec::new(alloc);
     gather(&mut indexes, set, acks)?;
-    Ok(committed_of(indexes.as_mut_slice()))
+    Ok(sorted_committed(indexes.as_mut_slice()))
 }
 
 /// The committed index of a joint configuration: the smaller of the indexes that its two sets have committed, since a
@@ -46,7 +45,8 @@ pub fn joint_committed<S: MemberSet, A: AckSource>(
     outgoing: &S,
     acks: &A,
 ) -> Result<u64, NoMemory>
-    ensures counted { IfOk result (IsJointCommitted (pair (S.ids incoming.now) (S.ids outgoing.now)) (A.acks acks.now)) }
+    ensures counted { IfOk result (IsJointCommitted (pair (S.ids incoming.now) (S.ids outgoing.now))
+        (A.acks acks.now)) }
     ensures index { IfOk result (λ k.
         k ≡ joint_committed_index (pair (S.ids incoming.now) (S.ids outgoing.now)) (A.acks acks.now)) }
     ensures no_memory { size (S.ids incoming.now) ≤ 8 → size (S.ids outgoing.now) ≤ 8 → IsOk result }
@@ -76,16 +76,13 @@ fn gather<S: MemberSet, A: AckSource>(
     Ok(())
 }
 
-/// The committed index of voters, from the index that each of them has acknowledged, 0 if it is unknown. Nothing is
-/// looked up and nothing allocated: the indexes are sorted in place. Of n voters the committed index is the one at
-/// position n - (n/2 + 1), since n/2 + 1 of them are at least as great (`MajorityConfig.CommittedIndex` of etcd's
-/// package `quorum`). It is the greatest `u64` if there are no voters.
-pub fn committed_of(indexes: &mut [u64]) -> u64
+// The committed index of indexes that may be reordered. They are sorted, and the one at position n - (n/2 + 1) of n is it,
+// since n/2 + 1 of them are at least as great.
+fn sorted_committed(indexes: &mut [u64]) -> u64
     ensures index { result ≡ committed_of indexes.old }
     ensures of_none { length indexes.old ≡ 0 → result ≡ greatest_index }
     ensures reached { 0 < length indexes.old → length indexes.old < 2 * count_by (nat_le result) indexes.old }
     ensures not_passed { 0 < length indexes.old → 2 * count_by (nat_lt result) indexes.old ≤ length indexes.old }
-    ensures reordered { IsPermutation indexes.old indexes.new }
 {
     indexes.sort_unstable();
     let n = indexes.len();
@@ -96,12 +93,42 @@ pub fn committed_of(indexes: &mut [u64]) -> u64
     }
 }
 
+/// The committed index of voters, from the index that each of them has acknowledged, 0 if it is unknown. Nothing is
+/// looked up, allocated or reordered: each index is compared with all (`MajorityConfig.CommittedIndex` of etcd's package
+/// `quorum`). It is the greatest `u64` if there are no voters.
+pub fn committed_of(indexes: &[u64]) -> u64
+    ensures index { result ≡ committed_of indexes.now }
+    ensures of_none { length indexes.now ≡ 0 → result ≡ greatest_index }
+    ensures reached { 0 < length indexes.now → length indexes.now < 2 * count_by (nat_le result) indexes.now }
+    ensures not_passed { 0 < length indexes.now → 2 * count_by (nat_lt result) indexes.now ≤ length indexes.now }
+{
+    if indexes.is_empty() {
+        return u64::MAX;
+    }
+    let mut committed = 0;
+    for index in indexes {
+        if most_reach(indexes, *index) {
+            committed = committed.max(*index);
+        }
+    }
+    committed
+}
+
+// Whether more than half of the indexes are at least this one.
+fn most_reach(indexes: &[u64], least: u64) -> bool
+    ensures { result ≡ most (nat_le least) indexes.now }
+{
+    let mut count = 0;
+    for index in indexes {
+        count += usize::from(*index >= least);
+    }
+    count > indexes.len() / 2
+}
+
 /// The committed index of a joint configuration, as [`committed_of`] takes that of each voter set
 /// (`JointConfig.CommittedIndex` of etcd's package `quorum`).
-pub fn joint_committed_of(incoming: &mut [u64], outgoing: &mut [u64]) -> u64
-    ensures index { result ≡ joint_committed_of incoming.old outgoing.old }
-    ensures incoming { IsPermutation incoming.old incoming.new }
-    ensures outgoing { IsPermutation outgoing.old outgoing.new }
+pub fn joint_committed_of(incoming: &[u64], outgoing: &[u64]) -> u64
+    ensures { result ≡ joint_committed_of incoming.now outgoing.now }
 {
     committed_of(incoming).min(committed_of(outgoing))
 }

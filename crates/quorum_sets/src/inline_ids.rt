@@ -4,6 +4,7 @@ ghost use Rattle.quorum_sets.specs.Ids.{no_ids, has, with_id, size, ids_of};
 ghost use Rattle.quorum_sets.specs.AscendingLists.{IsAscending, IsAtPosition, IsInsertionPoint};
 
 use crate::member_set::MemberSet;
+use crate::merging::{IdEdit, merge};
 use ascii_text::NoMemory;
 use smallvec::SmallVec;
 use std::alloc::Global;
@@ -77,6 +78,15 @@ impl MemberSet for InlineIds {
         Ok(())
     }
 
+    fn try_clone_edited<C, E: IdEdit<C>>(
+        &mut self,
+        other: &InlineIds,
+        edits: &[(u64, E)],
+        set: &C,
+    ) -> Result<(), NoMemory> {
+        merge(&mut self.list, other.list.as_slice(), edits, set)
+    }
+
     fn insert(&mut self, id: u64) -> Result<bool, NoMemory>
         ensures changed { IfOk result (λ changed. changed ≡ not (has self.old id)) }
         ensures ok { OnOk result (self.new ≡ with_id self.old id) }
@@ -137,7 +147,8 @@ fn make_ascending(list: &mut SmallVec<u64, 8>)
 // is `Ok(1)` for 3 and `Err(2)` for 4.
 fn position_of(list: &[u64], id: u64) -> Result<usize, usize>
     requires { IsAscending list.now }
-    ensures { MatchResult result (λ position. IsAtPosition list.now id position) (λ position. IsInsertionPoint list.now id position) }
+    ensures { MatchResult result (λ position. IsAtPosition list.now id position)
+        (λ position. IsInsertionPoint list.now id position) }
 {
     list.binary_search(&id)
 }

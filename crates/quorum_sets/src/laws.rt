@@ -32,11 +32,15 @@ pub fn committed_by_counting()
 /// Committed indexes and votes do not depend on which voter has which value: a list that has the value of each voter, in
 /// any order, gives the committed index and the result of the vote of the set.
 pub fn values_in_any_order()
-    ensures committed { (indexes : List ℕ) (ids : Ids) (acks : Acks) → AreIndexesOf indexes ids acks → committed_of indexes ≡ committed_index ids acks }
-    ensures joint_committed { (incoming outgoing : List ℕ) (voters : Voters) (acks : Acks) → AreIndexesOf incoming voters.incoming acks → AreIndexesOf outgoing voters.outgoing acks
+    ensures committed { (indexes : List ℕ) (ids : Ids) (acks : Acks) → AreIndexesOf indexes ids acks
+        → committed_of indexes ≡ committed_index ids acks }
+    ensures joint_committed { (incoming outgoing : List ℕ) (voters : Voters) (acks : Acks)
+        → AreIndexesOf incoming voters.incoming acks → AreIndexesOf outgoing voters.outgoing acks
         → joint_committed_of incoming outgoing ≡ joint_committed_index voters acks }
-    ensures vote { (list : List (Option Bool)) (ids : Ids) (votes : Votes) → AreVotesOf list ids votes → vote_of list ≡ vote_result ids votes }
-    ensures joint_vote { (incoming outgoing : List (Option Bool)) (voters : Voters) (votes : Votes) → AreVotesOf incoming voters.incoming votes → AreVotesOf outgoing voters.outgoing votes
+    ensures vote { (list : List (Option Bool)) (ids : Ids) (votes : Votes) → AreVotesOf list ids votes
+        → vote_of list ≡ vote_result ids votes }
+    ensures joint_vote { (incoming outgoing : List (Option Bool)) (voters : Voters) (votes : Votes)
+        → AreVotesOf incoming voters.incoming votes → AreVotesOf outgoing voters.outgoing votes
         → joint_vote_of incoming outgoing ≡ joint_vote_result voters votes }
 {}
 
@@ -62,8 +66,11 @@ pub fn committed_meets_won()
 /// Without incoming voters nothing commits.
 pub fn most_down_by_counting()
     ensures fits { (voters : Voters) (uncounted : Ids) → IsMostDown voters uncounted (may_be_down voters uncounted) }
-    ensures alone { (voters : Voters) (uncounted : Ids) (answer : Option ℕ) → IsMostDown voters uncounted answer → answer ≡ may_be_down voters uncounted }
-    ensures all_count { (voters : Voters) → is_empty voters.incoming ≡ false → may_be_down voters no_ids ≡ Some (least_minority voters) }
-    ensures no_voter { (voters : Voters) (uncounted : Ids) → is_empty voters.incoming ≡ true → may_be_down voters uncounted ≡ None }
+    ensures alone { (voters : Voters) (uncounted : Ids) (answer : Option ℕ) → IsMostDown voters uncounted answer
+        → answer ≡ may_be_down voters uncounted }
+    ensures all_count { (voters : Voters) → is_empty voters.incoming ≡ false
+        → may_be_down voters no_ids ≡ Some (least_minority voters) }
+    ensures no_voter { (voters : Voters) (uncounted : Ids) → is_empty voters.incoming ≡ true
+        → may_be_down voters uncounted ≡ None }
     ensures commits { (voters : Voters) (away : Ids) → commits_without voters away ≡ is_some (may_be_down voters away) }
 {}

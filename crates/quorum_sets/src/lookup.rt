@@ -25,7 +25,8 @@ pub fn contains_from<S: MemberSet>(set: &S, position: &mut usize, id: u64) -> bo
 #[inline(always)]
 fn seek<S: MemberSet>(set: &S, position: &mut usize, id: u64) -> bool
     ensures member { result ≡ true → has (S.ids set.now) id ≡ true }
-    ensures below { result ≡ false → (k : ℕ) → position.new ≤ k → k < size (S.ids set.now) → id < get_or (ascending (S.ids set.now)) k 0 }
+    ensures below { result ≡ false → (k : ℕ) → position.new ≤ k → k < size (S.ids set.now)
+        → id < get_or (ascending (S.ids set.now)) k 0 }
 {
     let len = set.len();
     for at in *position..len {

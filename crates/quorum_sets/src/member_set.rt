@@ -1,7 +1,10 @@
 //! The interface of a set of ids. The rules are stated for it, so they hold however a set is stored.
-ghost use Rattle.std.specs.Prelude.{◌≡◌, not, IfOk, OnOk, OnErr, slice_get};
+ghost use Rattle.std.specs.Prelude.{◌≡◌, ℕ, not, map, IfOk, OnOk, OnErr, slice_get};
 ghost use Rattle.quorum_sets.specs.Ids.{Ids, no_ids, has, with_id, without_id, ascending, size, ids_of};
+ghost use Rattle.quorum_sets.specs.AscendingLists.{IsAscending};
+ghost use Rattle.quorum_sets.specs.Edits.{edited};
 
+use crate::merging::IdEdit;
 use ascii_text::NoMemory;
 use std::alloc::Global;
 
@@ -29,6 +32,18 @@ pub trait MemberSet: Drop {
     fn try_clone_from(&mut self, other: &Self) -> Result<(), NoMemory>
         ensures ok { OnOk result (ids self.new ≡ ids other.now) }
         ensures err { OnErr result (ids self.new ≡ no_ids) };
+
+    /// Overwrites `self` with the ids of another set after edits, which are in ascending order of the ids. On `NoMemory` its
+    /// contents are unspecified.
+    fn try_clone_edited<C, E: IdEdit<C>>(
+        &mut self,
+        other: &Self,
+        edits: &[(u64, E)],
+        set: &C,
+    ) -> Result<(), NoMemory>
+        requires { IsAscending (map (λ e. e.0) edits.now) }
+        ensures { OnOk result ((id : ℕ)
+            → has (ids self.new) id ≡ edited (λ e _. E.is_in e set.now) edits.now id (has (ids other.now) id)) };
 
     /// Adds the id to the set, and returns whether the set changed.
     fn insert(&mut self, id: u64) -> Result<bool, NoMemory>

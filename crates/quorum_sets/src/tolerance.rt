@@ -19,8 +19,10 @@ use crate::member_set::MemberSet;
 /// (1 2 3 4), 3 and 4 uncounted none: 1 and 2 are not a quorum
 /// ```
 pub fn may_be_down<S: MemberSet>(voters: (&S, &S), uncounted: &S) -> Option<usize>
-    ensures most { IsMostDown (pair (S.ids voters.entry.0.now) (S.ids voters.entry.1.now)) (S.ids uncounted.now) result }
-    ensures counted { result ≡ may_be_down (pair (S.ids voters.entry.0.now) (S.ids voters.entry.1.now)) (S.ids uncounted.now) }
+    ensures most { IsMostDown (pair (S.ids voters.entry.0.now) (S.ids voters.entry.1.now))
+        (S.ids uncounted.now) result }
+    ensures counted { result
+        ≡ may_be_down (pair (S.ids voters.entry.0.now) (S.ids voters.entry.1.now)) (S.ids uncounted.now) }
 {
     let (incoming, outgoing) = voters;
     let of_incoming = surplus(incoming, uncounted)?;

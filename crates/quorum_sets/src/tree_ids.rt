@@ -4,6 +4,7 @@ ghost use Rattle.std.specs.Ordering.{nat_cmp};
 ghost use Rattle.std.specs.BTreeSet.{IsOrdered};
 
 use crate::member_set::MemberSet;
+use crate::merging::IdEdit;
 use ascii_text::NoMemory;
 use std::alloc::Global;
 use std::collections::BTreeSet;
@@ -59,6 +60,23 @@ impl MemberSet for TreeIds {
     fn try_clone_from(&mut self, other: &TreeIds) -> Result<(), NoMemory> {
         self.tree.clear();
         self.tree = other.tree.clone()?;
+        Ok(())
+    }
+
+    fn try_clone_edited<C, E: IdEdit<C>>(
+        &mut self,
+        other: &TreeIds,
+        edits: &[(u64, E)],
+        set: &C,
+    ) -> Result<(), NoMemory> {
+        self.try_clone_from(other)?;
+        for (id, edit) in edits {
+            if edit.is_in(set) {
+                self.insert(*id)?;
+            } else {
+                self.remove(*id);
+            }
+        }
         Ok(())
     }
 

@@ -99,7 +99,8 @@ pub fn joint_vote<S: MemberSet, V: VoteSource>(incoming: &S, outgoing: &S, votes
 /// (`JointConfig.VoteResult` of etcd's package `quorum`).
 pub fn joint_result(incoming: VoteResult, outgoing: VoteResult) -> VoteResult
     ensures both { result ≡ both incoming outgoing }
-    ensures listed { (first second : List (Option Bool)) → incoming ≡ vote_of first → outgoing ≡ vote_of second → result ≡ joint_vote_of first second }
+    ensures listed { (first second : List (Option Bool)) → incoming ≡ vote_of first → outgoing ≡ vote_of second
+        → result ≡ joint_vote_of first second }
 {
     match (incoming, outgoing) {
         (VoteResult::VoteWon, other) | (other, VoteResult::VoteWon) => other,

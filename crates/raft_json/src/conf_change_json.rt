@@ -11,22 +11,22 @@ ghost use Rattle.raft_json.specs.ConfChangeJson.{conf_change_json, change_json, 
 ghost use Rattle.raft_json.specs.Proposal as proposal;
 ghost use Rattle.raft_json.specs.Proposal.{proposed_changes};
 
+use crate::proposal::{proposed_update, transition_of};
 use conf_change::{Change, Config, Kind, Step, Transition};
 use quorum_sets::{MemberSet, NoMemory};
 use serde_json::{Map, Value, put};
 use std::alloc::Global;
 
 /// The `raftpb.ConfChangeV2` to propose for a step from a configuration. By it etcd's raft ends in the configuration
-/// after the step, or with auto-leave in the one that leaving that gives (the module `laws`). The transition is Auto for
-/// a simple step and for leaving a joint configuration; for entering one it is JointImplicit with auto-leave, and
-/// JointExplicit without. If a simple or an entering step has no change, an update of the least incoming voter is
-/// proposed, since etcd's leader takes an empty list for leaving.
+/// after the step, or with auto-leave in the one that leaving that gives (the module `laws`). [`transition_of`] and
+/// [`proposed_update`] have its parts.
 pub fn conf_change_value<S: MemberSet>(
     alloc: Global,
     before: &Config<S>,
     step: &Step,
 ) -> Result<Value, NoMemory>
-    ensures { IfOk result (λ v. view v ≡ conf_change_json (proposal.transition_of step.now) (proposed_changes before.now step.now)) }
+    ensures { IfOk result (λ v. view v
+        ≡ conf_change_json (proposal.transition_of step.now) (proposed_changes before.now step.now)) }
 {
     let changes = proposed(alloc, before, step)?;
     let transition = Value::try_from_str(alloc, transition_name(transition_of(step)))?;
@@ -40,13 +40,9 @@ pub fn conf_change_value<S: MemberSet>(
 fn proposed<S: MemberSet>(alloc: Global, before: &Config<S>, step: &Step) -> Result<Value, NoMemory>
     ensures { IfOk result (λ v. view v ≡ changes_json (proposed_changes before.now step.now)) }
 {
-    match (step, before.incoming.at(0)) {
-        (Step::Simple(changes) | Step::EnterJoint(_, changes), Some(id))
-            if changes.as_slice().is_empty() => {
-            let kind = Kind::Update;
-            changes_value(alloc, &[Change { kind, id }])
-        }
-        _ => changes_value(alloc, step.changes()),
+    match proposed_update(before, step) {
+        Some(update) => changes_value(alloc, &[update]),
+        None => changes_value(alloc, step.changes()),
     }
 }
 
@@ -68,17 +64,6 @@ fn change_value(alloc: Global, change: Change) -> Result<Value, NoMemory>
     put(&mut members, alloc, "node_id", Value::from(change.id))?;
     put(&mut members, alloc, "type", kind)?;
     Ok(Value::Object(members))
-}
-
-// The transition to propose for a step.
-fn transition_of(step: &Step) -> Transition
-    ensures { result ≡ proposal.transition_of step.now }
-{
-    match step {
-        Step::Simple(_) | Step::LeaveJoint => Transition::Auto,
-        Step::EnterJoint(true, _) => Transition::Implicit,
-        Step::EnterJoint(false, _) => Transition::Explicit,
-    }
 }
 
 // The name of a transition in Go (`raftpb.ConfChangeTransition`).

@@ -22,7 +22,8 @@ pub fn conf_state_json_reads_back()
 /// The JSON of a list of changes with its transition is read back as the same changes and transition, by Go's names,
 /// which the definition of reading has on its own.
 pub fn conf_change_json_reads_back()
-    ensures { (transition : Transition) (changes : List Change) → conf_change_of_json (conf_change_json transition changes) ≡ Some (transition, changes) }
+    ensures { (transition : Transition) (changes : List Change)
+        → conf_change_of_json (conf_change_json transition changes) ≡ Some (transition, changes) }
 {}
 
 /// What etcd takes for the proposal of an accepted step. For leaving and for a simple step of one change, it is the same
@@ -31,14 +32,20 @@ pub fn conf_change_json_reads_back()
 /// automatically, which ends where the step does; for this, the configuration before the step must be valid and have a
 /// voter. The proposal for an accepted step other than leaving has a change, so etcd does not take it for leaving.
 pub fn proposed_step_leads_alike()
-    ensures simple { (before after : Configuration) (changes : List Change) → is_valid before ≡ true → has_voter before ≡ true
-        → outcome before (Simple changes) ≡ Ok after → final_outcome before (proposed_step before (Simple changes)) ≡ Ok after }
-    ensures one { (before : Configuration) (change : Change) → proposed_step before (Simple (change ∷ [])) ≡ Simple (change ∷ []) }
-    ensures enter { (before after : Configuration) (auto_leave : Bool) (changes : List Change) → outcome before (EnterJoint auto_leave changes) ≡ Ok after
+    ensures simple { (before after : Configuration) (changes : List Change) → is_valid before ≡ true
+        → has_voter before ≡ true
+        → outcome before (Simple changes) ≡ Ok after
+        → final_outcome before (proposed_step before (Simple changes)) ≡ Ok after }
+    ensures one { (before : Configuration) (change : Change)
+        → proposed_step before (Simple (change ∷ [])) ≡ Simple (change ∷ []) }
+    ensures enter { (before after : Configuration) (auto_leave : Bool) (changes : List Change)
+        → outcome before (EnterJoint auto_leave changes) ≡ Ok after
         → outcome before (proposed_step before (EnterJoint auto_leave changes)) ≡ Ok after }
     ensures leave { (before : Configuration) → proposed_step before LeaveJoint ≡ LeaveJoint }
-    ensures simple_named { (before after : Configuration) (changes : List Change) → outcome before (Simple changes) ≡ Ok after → 0 < length (proposed_changes before (Simple changes)) }
-    ensures enter_named { (before after : Configuration) (auto_leave : Bool) (changes : List Change) → outcome before (EnterJoint auto_leave changes) ≡ Ok after
+    ensures simple_named { (before after : Configuration) (changes : List Change)
+        → outcome before (Simple changes) ≡ Ok after → 0 < length (proposed_changes before (Simple changes)) }
+    ensures enter_named { (before after : Configuration) (auto_leave : Bool) (changes : List Change)
+        → outcome before (EnterJoint auto_leave changes) ≡ Ok after
         → 0 < length (proposed_changes before (EnterJoint auto_leave changes)) }
 {}
 
@@ -46,6 +53,7 @@ pub fn proposed_step_leads_alike()
 /// for it ends in the configuration after the step, or with auto-leave in the one that leaving that gives. The
 /// configuration before the step must be valid and have a voter.
 pub fn etcd_carries_out_the_step()
-    ensures { (before after : Configuration) (step : Step) → is_valid before ≡ true → has_voter before ≡ true → outcome before step ≡ Ok after
+    ensures { (before after : Configuration) (step : Step) → is_valid before ≡ true → has_voter before ≡ true
+        → outcome before step ≡ Ok after
         → carried_out before (proposal_of before step) ≡ result_ok (after_auto_leave (Ok after)) }
 {}

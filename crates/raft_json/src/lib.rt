@@ -43,9 +43,11 @@ pub mod conf_state_json;
 mod ids_json;
 pub mod laws;
 mod member_list_json;
+pub mod proposal;
 pub mod saved_json;
 
 pub use conf_change_json::conf_change_value;
 pub use conf_state_json::{JsonFault, conf_state_value};
 pub use ids_json::ids_value;
+pub use proposal::{proposed_update, transition_of};
 pub use saved_json::read_saved_json;

@@ -1,4 +1,4 @@
--- A cluster that begins without incoming voters: nobody is ever elected.
+-- A cluster that begins without incoming voters: no leader is ever elected.
 use Rattle.std.proofs.Common.{◌≡◌, ℕ, ◌<◌, ◌||◌, true, false, List, [], ◌∷◌, length, refl, sym, ap, subst, inl, inr, arith}
 use Rattle.std.proofs.lemmas.Bool.{and_parts}
 use Rattle.quorum_sets.specs.Ids.{Ids, no_ids, has, is_empty, majority_passes}

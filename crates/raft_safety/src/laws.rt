@@ -15,19 +15,25 @@ ghost use Rattle.raft_safety.specs.Claims.{ElectionSafety, LeaderCompleteness, L
 /// has one leader, a leader has what was committed in earlier terms, and no two servers commit different entries at an
 /// index, at the same moment or one later.
 pub fn no_two_servers_commit_different_entries()
-    ensures election_safety { (first : Configuration) (actions : List Action) → AreAllowed first new_cluster actions → ElectionSafety (after_actions new_cluster actions) }
-    ensures leader_completeness { (first : Configuration) (actions : List Action) → AreAllowed first new_cluster actions → LeaderCompleteness (after_actions new_cluster actions) }
-    ensures log_matching { (first : Configuration) (actions : List Action) → AreAllowed first new_cluster actions → LogMatching (after_actions new_cluster actions) }
-    ensures stored { (first : Configuration) (actions : List Action) → AreAllowed first new_cluster actions → CommittedIsStored (after_actions new_cluster actions) }
-    ensures state_machine_safety { (first : Configuration) (early late : List Action) → AreAllowed first new_cluster (early ++ late)
+    ensures election_safety { (first : Configuration) (actions : List Action) → AreAllowed first new_cluster actions
+        → ElectionSafety (after_actions new_cluster actions) }
+    ensures leader_completeness { (first : Configuration) (actions : List Action) → AreAllowed first new_cluster actions
+        → LeaderCompleteness (after_actions new_cluster actions) }
+    ensures log_matching { (first : Configuration) (actions : List Action) → AreAllowed first new_cluster actions
+        → LogMatching (after_actions new_cluster actions) }
+    ensures stored { (first : Configuration) (actions : List Action) → AreAllowed first new_cluster actions
+        → CommittedIsStored (after_actions new_cluster actions) }
+    ensures state_machine_safety { (first : Configuration) (early late : List Action)
+        → AreAllowed first new_cluster (early ++ late)
         → StateMachineSafety (after_actions new_cluster early) (after_actions new_cluster (early ++ late)) }
     ensures one_log { (first : Configuration) (early late : List Action) → AreAllowed first new_cluster (early ++ late)
         → CommitOneLog (after_actions new_cluster early) (after_actions new_cluster (early ++ late)) }
 {}
 
-/// A cluster that begins without incoming voters elects nobody, whatever its servers do; so nothing is ever committed.
+/// A cluster that begins without incoming voters elects no leader, whatever its servers do; so nothing is ever committed.
 pub fn no_leader_without_voters()
-    ensures { (first : Configuration) (actions : List Action) → first.incoming ≡ no_ids → AreAllowed first new_cluster actions
+    ensures { (first : Configuration) (actions : List Action) → first.incoming ≡ no_ids
+        → AreAllowed first new_cluster actions
         → (term leader : ℕ) → ¬ Leads (after_actions new_cluster actions) term leader }
 {}
 
@@ -36,20 +42,30 @@ pub fn no_leader_without_voters()
 /// leader, a leader has what was committed in earlier terms, no two servers commit different entries at an index, and
 /// no two that lead or campaign have applied different ones.
 pub fn servers_that_keep_etcds_rules_commit_the_same()
-    ensures election_safety { (first : Configuration) (actions : List EtcdAction) → AreAllowedByEtcd first new_etcd_cluster actions
+    ensures election_safety { (first : Configuration) (actions : List EtcdAction)
+        → AreAllowedByEtcd first new_etcd_cluster actions
         → ElectionSafety (after_etcd_actions new_etcd_cluster actions).cluster }
-    ensures leader_completeness { (first : Configuration) (actions : List EtcdAction) → AreAllowedByEtcd first new_etcd_cluster actions
+    ensures leader_completeness { (first : Configuration) (actions : List EtcdAction)
+        → AreAllowedByEtcd first new_etcd_cluster actions
         → LeaderCompleteness (after_etcd_actions new_etcd_cluster actions).cluster }
-    ensures log_matching { (first : Configuration) (actions : List EtcdAction) → AreAllowedByEtcd first new_etcd_cluster actions
+    ensures log_matching { (first : Configuration) (actions : List EtcdAction)
+        → AreAllowedByEtcd first new_etcd_cluster actions
         → LogMatching (after_etcd_actions new_etcd_cluster actions).cluster }
-    ensures stored { (first : Configuration) (actions : List EtcdAction) → AreAllowedByEtcd first new_etcd_cluster actions
+    ensures stored { (first : Configuration) (actions : List EtcdAction)
+        → AreAllowedByEtcd first new_etcd_cluster actions
         → CommittedIsStored (after_etcd_actions new_etcd_cluster actions).cluster }
-    ensures state_machine_safety { (first : Configuration) (early late : List EtcdAction) → AreAllowedByEtcd first new_etcd_cluster (early ++ late)
+    ensures state_machine_safety { (first : Configuration) (early late : List EtcdAction)
+        → AreAllowedByEtcd first new_etcd_cluster (early ++ late)
         → StateMachineSafety (after_etcd_actions new_etcd_cluster early).cluster (after_etcd_actions new_etcd_cluster (early ++ late)).cluster }
-    ensures one_log { (first : Configuration) (early late : List EtcdAction) → AreAllowedByEtcd first new_etcd_cluster (early ++ late)
-        → CommitOneLog (after_etcd_actions new_etcd_cluster early).cluster (after_etcd_actions new_etcd_cluster (early ++ late)).cluster }
-    ensures applied { (first : Configuration) (actions : List EtcdAction) → AreAllowedByEtcd first new_etcd_cluster actions
+    ensures one_log { (first : Configuration) (early late : List EtcdAction)
+        → AreAllowedByEtcd first new_etcd_cluster (early ++ late)
+        → CommitOneLog (after_etcd_actions new_etcd_cluster early).cluster (after_etcd_actions new_etcd_cluster (early
+        ++ late)).cluster }
+    ensures applied { (first : Configuration) (actions : List EtcdAction)
+        → AreAllowedByEtcd first new_etcd_cluster actions
         → AppliedIsCommitted (after_etcd_actions new_etcd_cluster actions) }
-    ensures one_applied_log { (first : Configuration) (early late : List EtcdAction) → AreAllowedByEtcd first new_etcd_cluster (early ++ late)
-        → ApplyOneLog (after_etcd_actions new_etcd_cluster early) (after_etcd_actions new_etcd_cluster (early ++ late)) }
+    ensures one_applied_log { (first : Configuration) (early late : List EtcdAction)
+        → AreAllowedByEtcd first new_etcd_cluster (early ++ late)
+        → ApplyOneLog (after_etcd_actions new_etcd_cluster early)
+        (after_etcd_actions new_etcd_cluster (early ++ late)) }
 {}

@@ -24,7 +24,7 @@
 //!
 //! In etcd, unlike in Ongaro's dissertation, a configuration is in force when its entry is applied, not when it is
 //! appended. So one server may count by the newest configuration while another still counts by the oldest, and quorums of
-//! these need not share anybody. Raft's own argument only asks that the quorum that elects a leader and the quorum that
+//! these need not share a member. Raft's own argument only asks that the quorum that elects a leader and the quorum that
 //! committed an entry share a server. How do they, then?
 //!
 //! Count the changes of the voters in a log. Two logs, one the beginning of the other, whose counts differ by at most one

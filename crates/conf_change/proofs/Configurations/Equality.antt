@@ -11,9 +11,6 @@ use Rattle.quorum_sets.proofs.Offered.{count_by-none, has-ascending, has-same_id
 use Rattle.conf_change.specs.Configuration.{Configuration, is_same_set, is_same}
 
 -- ---- a count of 0
-no_one : (b : Bool) → ◌≡◌ {A = ℕ} (cond b 1 0) 0 → b ≡ false
-no_one b e = grind arith
-
 none_counted : (test : ℕ → Bool) (xs : List ℕ) → count_by test xs ≡ 0 → (q : ℕ) → list_any (λ x. q == x) xs ≡ true → test q ≡ false
 none_counted test [] none q here = cc
 none_counted test (x ∷ xs) none q here = grind (arith, nat_tests, sum_by-cons (λ y. cond (test y) 1 0) x xs, none_counted test xs, eqb-true q x)

@@ -16,7 +16,7 @@ use Rattle.conf_change.specs.declared.config.Invariant.{Invariant}
 use Rattle.conf_change.specs.declared.config.Invariant.TheVariants.{ZeroId, NextNotOutgoing, NextAndIncoming, LearnerAndVoter, NotJointButNext, NotJointButAutoLeave}
 use Rattle.conf_change.specs.declared.violation.Violation.{Violation}
 use Rattle.conf_change.specs.declared.violation.Violation.TheVariants.{ListedTwice}
-use Rattle.conf_change.proofs.SetWalks.FirstThat.{list_all-find}
+use Rattle.conf_change.proofs.SetWalks.FindId.{list_all-find}
 use Rattle.conf_change.proofs.Configurations.DescribedByLists.{Describes-from_names_each_once, described-from_Describes}
 
 -- ---- a list without an id that passes a test

@@ -1,10 +1,10 @@
 -- What a list of changes makes of each id.
-use Rattle.std.proofs.Common.{◌≡◌, ℕ, Bool, true, false, cond, ◌&&◌, ◌||◌, ◌==◌, List, [], ◌∷◌, ◌++◌, map, reverse, refl, sym, ap, ◌∙◌, ◌≢◌, ◌+◌, ◌<◌, length, take, get_or, arith}
+use Rattle.std.proofs.Common.{◌≡◌, ℕ, Bool, true, false, cond, ◌&&◌, ◌||◌, ◌==◌, List, [], ◌∷◌, ◌++◌, map, reverse, refl, sym, ap, ◌∙◌, ◌≢◌, arith}
 use Rattle.std.specs.Prelude.{Option, Some, None, find, option_map, is_some}
 use Rattle.std.proofs.Math.Bool.{or-false}
 use Rattle.std.proofs.lemmas.Bool.{or_right}
 use Rattle.std.proofs.lemmas.Bool.Decides.{nat_tests}
-use Rattle.std.proofs.lemmas.List.{reverse-append, take_more}
+use Rattle.std.proofs.lemmas.List.{reverse-append}
 use Rattle.std.proofs.lemmas.List.Folds.{list_any-append}
 use Rattle.std.specs.List.{list_any}
 use Rattle.quorum_sets.specs.Ids.{Ids, has, ascending, ids_where, with_id, without_id}
@@ -42,6 +42,12 @@ is_some-find p (x ∷ xs) = grind (arith, is_some-find p xs)
 any_reverse : (p : Change → Bool) (xs : List Change) → list_any p (reverse xs) ≡ list_any p xs
 any_reverse p [] = refl
 any_reverse p (x ∷ xs) = ap (list_any p) (reverse-append (x ∷ []) xs) ∙ list_any-append p (reverse xs) (x ∷ []) ∙ grind (arith, any_reverse p xs)
+
+pub is_some-last_effective : (xs : List Change) (id : ℕ) → is_some (last_effective xs id) ≡ list_any (names id) xs
+is_some-last_effective xs id = some_if (find (names id) (reverse xs)) ∙ is_some-find (names id) (reverse xs) ∙ any_reverse (names id) xs
+  where
+    some_if : (o : Option Change) → is_some (option_map (λ change. change.kind) o) ≡ is_some o
+    some_if o = grind arith
 
 -- where a change has a say on the id, the id is among the named ones
 named_among : (id : ℕ) (xs : List Change) → list_any (names id) xs ≡ true → list_any (λ m. id == m) (map (λ change. change.id) xs) ≡ true
@@ -120,23 +126,6 @@ set_made : (decide : ℕ → Option Kind → Bool → Bool) → ((id : ℕ) (was
 set_made decide same kind s t id apart e made q =
     rw made (grind (arith, nat_tests, has-put_to (decide id (Some kind) (has s id)) s id q, same q (has s q), last_effective-only kind q id apart e))
 
--- where the id is put where the change states, and nothing else is altered
-pub result_of-change : (kind : Kind) (c d : Configuration) (id : ℕ) (out : Bool) → id ≢ 0 → is_update kind ≡ false → has c.outgoing id ≡ out
-    → d.incoming ≡ put_to (is_incoming_after (Some kind) (has c.incoming id)) c.incoming id
-    → d.outgoing ≡ c.outgoing
-    → d.learners ≡ put_to (is_learner_after (Some kind) out (has c.learners id)) c.learners id
-    → d.learners_next ≡ put_to (is_next_after (Some kind) out (has c.learners_next id)) c.learners_next id
-    → d.auto_leave ≡ c.auto_leave → d ≡ result_of c (only kind id)
-result_of-change kind c d id out apart e is_outgoing incoming outgoing learners next auto_leave =
-    let learners_put = learners ∙ ap (λ b. put_to (is_learner_after (Some kind) b (has c.learners id)) c.learners id) (sym is_outgoing) in
-    let next_put = next ∙ ap (λ b. put_to (is_next_after (Some kind) b (has c.learners_next id)) c.learners_next id) (sym is_outgoing) in
-    configuration-by_members d (result_of c (only kind id))
-    (λ q. set_made (λ _ o was. is_incoming_after o was) (λ _ _. refl) kind c.incoming d.incoming id apart e incoming q ∙ sym (has-incoming_after c (only kind id) q))
-    outgoing
-    (λ q. set_made (λ x o was. is_learner_after o (has c.outgoing x) was) (λ _ _. refl) kind c.learners d.learners id apart e learners_put q ∙ sym (has-learners_after c (only kind id) q))
-    (λ q. set_made (λ x o was. is_next_after o (has c.outgoing x) was) (λ _ _. refl) kind c.learners_next d.learners_next id apart e next_put q ∙ sym (has-next_after c (only kind id) q))
-    auto_leave
-
 pub incoming_of-change : (kind : Kind) (c : Configuration) (id : ℕ) → id ≢ 0 → is_update kind ≡ false
     → put_to (is_incoming_after (Some kind) (has c.incoming id)) c.incoming id ≡ (result_of c (only kind id)).incoming
 incoming_of-change kind c id apart e =
@@ -178,10 +167,3 @@ result_of-push c xs x =
     (λ q. grind (arith, has-learners_after now (x ∷ []) q, has-learners_after c xs q, has-learners_after c all q, last_effective-push xs x q, last_effective-one x q))
     (λ q. grind (arith, has-next_after now (x ∷ []) q, has-next_after c xs q, has-next_after c all q, last_effective-push xs x q, last_effective-one x q))
     refl
-
--- one more change of a list
-pub result_of-one_more : (c now after : Configuration) (changes : List Change) (k : ℕ) (d : Change) → k < length changes → now ≡ result_of c (take k changes)
-    → after ≡ result_of now (get_or changes k d ∷ []) → after ≡ result_of c (take (k + 1) changes)
-result_of-one_more c now after changes k d within so_far is =
-    is ∙ ap (λ b. result_of b (get_or changes k d ∷ [])) so_far ∙ result_of-push c (take k changes) (get_or changes k d)
-    ∙ ap (result_of c) (sym (take_more changes k d within))

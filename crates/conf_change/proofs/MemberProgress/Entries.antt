@@ -1,25 +1,23 @@
 -- The entries of a map that is made of entries in ascending order.
 use Rattle.std.proofs.Common.{◌≡◌, ℕ, zero, suc, ◌+◌, ◌-◌, ◌<◌, ◌≤◌, inl, inr, Bool, true, false, cond, ◌&&◌, ◌==◌, T, List, [], ◌∷◌, ◌++◌, length, map, take, drop, get_or, set, slice_get, Bor, refl, sym, ap, subst, ◌∙◌, arith, eq-eqb, eqb-true, add-one}
-use Rattle.std.specs.Prelude.{Option, Some, None, Result, Ok, Err, MatchResult, is_some, option_map, unwrap_or}
+use Rattle.std.specs.Prelude.{Option, Some, None, Result, Ok, Err, MatchResult, is_some}
 use Rattle.std.specs.Option.{option_copied}
 use Rattle.std.specs.Slice.{IsItemAt}
 use Rattle.std.specs.List.Sorted.{IsBinarySearchResult, IsSearchInRange}
 use Rattle.std.specs.FinMap.{find}
-use Rattle.std.specs.List.{insert, remove}
+use Rattle.std.specs.List.{insert}
 use Rattle.std.specs.Ordering.{ordering_index}
 use Rattle.std.specs.Cmp.{unsigned_tied}
 use Rattle.std.proofs.lemmas.Bool.{ne_eqb, cases_lt, cases_order}
-use Rattle.std.proofs.lemmas.Bool.Decides.{nat_tests}
-use Rattle.std.proofs.lemmas.Option.{slice_get_past, slice_get-get_or, slice_get_within, get_or_from_slice_get}
+use Rattle.std.proofs.lemmas.Option.{slice_get_past, slice_get-get_or}
 use Rattle.std.proofs.lemmas.List.{length-map, length-drop, get_or_default, get_or-map, get_or-drop, map-append, map-set, set-get_or, set_split, take-map, take-append-drop, drop-map, drop_more}
 use Rattle.std.proofs.lemmas.List.Folds.{list_any_none}
 use Rattle.std.proofs.lemmas.List.Sorted.{searched}
 use Rattle.std.proofs.lemmas.Result.{MatchResult-weaker}
 use Rattle.quorum_sets.specs.AscendingLists.{IsAscending, IsAtPosition, IsInsertionPoint}
-use Rattle.quorum_sets.proofs.Offered.{ascends-insert, ascends-remove}
-use Rattle.conf_change.specs.Progress.{with_mark}
+use Rattle.quorum_sets.proofs.Offered.{ascends-insert}
 use Rattle.conf_change.specs.declared.progress.Progress.{Progress}
-use Rattle.conf_change.proofs.MemberProgress.Picked.{keys-find}
+use Rattle.conf_change.proofs.MemberProgress.Filtered.{keys-find}
 use Rattle.std.specs.declared.cmp.Ordering.{Ordering}
 use Rattle.std.specs.declared.cmp.Ordering.TheVariants.{Less}
 use Rattle.std.specs.Ordering.{nat_cmp, is_lt}
@@ -182,16 +180,6 @@ find-insert es id i v goes q =
     let within = goes.within in
     find-from es ((id, v) ∷ drop i es) i id q (Some v) (omega arith) goes.below (ap (λ b. cond b (Some v) (find nat_cmp q (drop i es))) (unsigned_tied q id))
 
-find-remove : {X : Type 0} (es : List (ℕ × X)) (id i : ℕ) (d : ℕ × X) → IsAscending (keys es) → IsAtPosition (keys es) id i
-    → (q : ℕ) → find nat_cmp q (remove es i) ≡ cond (q == id) None (find nat_cmp q es)
-find-remove {X} es id i d up at q =
-    let s = standing es id i d up at in
-    find-from es (drop (suc i) es) i id q None (omega (arith, s.within)) s.below
-    (none s.later ∙ over (q == id) None (Some (get_or es i d).1) (find nat_cmp q (drop (suc i) es)) ∙ ap (cond (q == id) None) (sym (s.here q)))
-  where
-    none : None ≡ find nat_cmp id (drop (suc i) es) → find nat_cmp q (drop (suc i) es) ≡ cond (q == id) None (find nat_cmp q (drop (suc i) es))
-    none e = grind (arith, nat_tests)
-
 pub keys-set : {X : Type 0} (es : List (ℕ × X)) (id i : ℕ) (v : X) → IsAtPosition (keys es) id i → keys (set es i (id, v)) ≡ keys es
 keys-set es id i v at = map-set (λ m. m.0) es i (id, v) ∙ ap (set (keys es) i) (sym at.there) ∙ set-get_or (keys es) i 0
 
@@ -200,12 +188,6 @@ ascends-put es id i v up goes =
     let moved : keys (insert es i (id, v)) ≡ insert (keys es) i id =
     map-append (λ m. m.0) (take i es) ((id, v) ∷ drop i es) ∙ (λ j. sym (take-map (λ m. m.0) i es) j ++ id ∷ sym (drop-map (λ m. m.0) i es) j) in
     subst IsAscending (sym moved) (ascends-insert (keys es) i id up goes)
-
-pub ascends-taken : {X : Type 0} (es : List (ℕ × X)) (id i : ℕ) → IsAscending (keys es) → IsAtPosition (keys es) id i → IsAscending (keys (remove es i))
-ascends-taken es id i up at =
-    let moved : keys (remove es i) ≡ remove (keys es) i =
-    map-append (λ m. m.0) (take i es) (drop (suc i) es) ∙ (λ j. sym (take-map (λ m. m.0) i es) j ++ sym (drop-map (λ m. m.0) (suc i) es) j) in
-    subst IsAscending (sym moved) (ascends-remove (keys es) i up at.within)
 
 -- ---- the progress of members
 abbrev Members : Type 0
@@ -217,14 +199,6 @@ progress_in es q = finite.get (finite.from_entries {R = nat_cmp} es) q
 found : (es : Members) (q : ℕ) → progress_in es q ≡ find nat_cmp q es
 found es q = finite.get-from_entries nat_cmp_total es q
 
-pub get-seen : (es : Members) (id i : ℕ) (p : Progress) → IsAscending (keys es) → slice_get es i ≡ Some (id, p) → Some p ≡ progress_in es id
-get-seen es id i p up here =
-    let long = length-keys es in
-    let within = slice_get_within es i (id, p) here in
-    let is = get_or_from_slice_get es i (id, p) (id, p) here in
-    ap (λ m. Some m.1) (sym is)
-    ∙ sym (found es id ∙ find-standing es id i (id, p) up (record { within = omega arith; there = get_or-map (λ m. m.0) es i (id, p) 0 within ∙ ap (λ m. m.0) is }))
-
 pub get-standing : (es : Members) (id i : ℕ) (d : ℕ × Progress) → IsAscending (keys es) → IsAtPosition (keys es) id i → Some (get_or es i d).1 ≡ progress_in es id
 get-standing es id i d up at = sym (found es id ∙ find-standing es id i d up at)
 
@@ -234,28 +208,3 @@ get-missing es id i goes = find-missing es id i goes ∙ sym (found es id)
 pub get-set : (es : Members) (id i : ℕ) (p : Progress) → IsAscending (keys es) → IsAtPosition (keys es) id i
     → (q : ℕ) → progress_in (set es i (id, p)) q ≡ cond (q == id) (Some p) (progress_in es q)
 get-set es id i p up at q = found (set es i (id, p)) q ∙ find-set es id i p up at q ∙ ap (cond (q == id) (Some p)) (sym (found es q))
-
-pub get-marked : (es : Members) (id i : ℕ) (learner : Bool) (d : ℕ × Progress) → IsAscending (keys es) → IsAtPosition (keys es) id i
-    → (q : ℕ) → progress_in (set es i (id, with_mark learner (get_or es i d).1)) q ≡ cond (q == id) (option_map (with_mark learner) (progress_in es id)) (progress_in es q)
-get-marked es id i learner d up at q =
-    get-set es id i (with_mark learner (get_or es i d).1) up at q
-    ∙ ap (λ o. cond (q == id) (option_map (with_mark learner) o) (progress_in es q)) (get-standing es id i d up at)
-
--- what a member keeps that is in the list
-pub with_mark-standing : (es : Members) (id i : ℕ) (learner : Bool) (fresh : Progress) → IsAscending (keys es) → IsAtPosition (keys es) id i
-    → option_map (with_mark learner) (progress_in es id) ≡ Some (with_mark learner (unwrap_or (progress_in es id) fresh))
-with_mark-standing es id i learner fresh up at = rw (sym (get-standing es id i (0, fresh) up at)) refl
-
-pub get-put : (es : Members) (id i : ℕ) (fresh : Progress) (learner : Bool) → IsInsertionPoint (keys es) id i
-    → (q : ℕ) → progress_in (insert es i (id, with_mark learner fresh)) q ≡ cond (q == id) (Some (with_mark learner (unwrap_or (progress_in es id) fresh))) (progress_in es q)
-get-put es id i fresh learner goes q =
-    let none = get-missing es id i goes in
-    found (insert es i (id, with_mark learner fresh)) q ∙ find-insert es id i (with_mark learner fresh) goes q
-    ∙ (λ j. cond (q == id) (Some (with_mark learner (unwrap_or (none j) fresh))) (sym (found es q) j))
-
-pub get-taken : (es : Members) (id i : ℕ) → IsAscending (keys es) → IsAtPosition (keys es) id i → (q : ℕ) → progress_in (remove es i) q ≡ cond (q == id) None (progress_in es q)
-get-taken es id i up at q =
-    found (remove es i) q ∙ find-remove es id i (0, record { matched = 0; next = 0; learner = false }) up at q ∙ ap (cond (q == id) None) (sym (found es q))
-
-pub get-absent : (es : Members) (id i : ℕ) → IsInsertionPoint (keys es) id i → (q : ℕ) → progress_in es q ≡ cond (q == id) None (progress_in es q)
-get-absent es id i goes q = grind (arith, nat_tests, get-missing es id i goes)

@@ -5,7 +5,7 @@ use Rattle.std.proofs.lemmas.List.Folds.{list_any_more}
 use Rattle.quorum_sets.specs.Ids.{Ids, has, ascending, ids_where, union}
 use Rattle.quorum_sets.proofs.Offered.{has-ascending, has-ids_where, has-same_ids, has-union}
 use Rattle.conf_change.specs.Change.{is_removal, removes}
-use Rattle.conf_change.specs.Configuration.{Configuration, is_member, members}
+use Rattle.conf_change.specs.Configuration.{Configuration, is_member, member_ids, members}
 use Rattle.conf_change.specs.Progress.{keeps_progress}
 use Rattle.conf_change.specs.Step.{changes_of}
 use Rattle.conf_change.specs.declared.change.Change.{Change}
@@ -14,11 +14,11 @@ use Rattle.conf_change.proofs.Offered.{any-members}
 use Rattle.conf_plan.specs.OnTheWay.{catching_up}
 
 -- a member after the step that was none before, or whose position a new one takes
-pub catching_up-picked : (before after : Configuration) (step : Step) (voters all removed picked : Ids) → voters ≡ union after.incoming after.outgoing → all ≡ union voters after.learners
+pub catching_up-filtered : (before after : Configuration) (step : Step) (all removed filtered : Ids) → all ≡ member_ids after
     → ((q : ℕ) → has removed q ≡ removes (changes_of step) q)
-    → picked ≡ ids_where (λ id. not (is_member before id) || (has removed id && not (has after.outgoing id))) (ascending all)
-    → picked ≡ catching_up before step after
-catching_up-picked before after step voters all removed picked voters_are all_are is_removed is =
+    → filtered ≡ ids_where (λ id. not (is_member before id) || (has removed id && not (has after.outgoing id))) (ascending all)
+    → filtered ≡ catching_up before step after
+catching_up-filtered before after step all removed filtered all_are is_removed is =
     is ∙ has-same_ids _ _ (λ q.
     grind (
       arith,
@@ -27,8 +27,7 @@ catching_up-picked before after step voters all removed picked voters_are all_ar
       any-members after q,
       has-ascending all q,
       all_are,
-      has-union voters after.learners q,
-      voters_are,
+      has-union (union after.incoming after.outgoing) after.learners q,
       has-union after.incoming after.outgoing q,
       is_removed q,
     ))

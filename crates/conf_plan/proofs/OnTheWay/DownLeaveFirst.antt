@@ -1,5 +1,5 @@
 -- On the path that changes one member at a time, an id becomes a member after the voters that are down have left.
-use Rattle.std.proofs.Common.{◌≡◌, ℕ, ◌+◌, Bool, true, false, cond, not, ◌&&◌, ◌||◌, ◌==◌, List, [], ◌∷◌, ◌++◌, arith}
+use Rattle.std.proofs.Common.{◌≡◌, ℕ, Bool, true, false, not, ◌&&◌, ◌||◌, List, [], ◌∷◌, ◌++◌, arith}
 use Rattle.std.specs.List.{All}
 use Rattle.std.proofs.lemmas.List.Elements.{All-head, All-tail}
 use Rattle.quorum_sets.specs.Ids.{Ids, has}
@@ -7,7 +7,7 @@ use Rattle.quorum_sets.proofs.Offered.{has-no_ids}
 use Rattle.conf_change.specs.Configuration.{Configuration}
 use Rattle.conf_plan.specs.OneAtATime.{joining, retiring, leaving_learners, new_learners, in_turn, order}
 use Rattle.conf_plan.proofs.FindingMoves.AscendingIds.{times, times-cons}
-use Rattle.conf_plan.proofs.OnTheWay.OrderOfIds.{All-where, AreOnce, AreOnce-order, between, has-mixed, times-append, times-where}
+use Rattle.conf_plan.proofs.OnTheWay.OrderOfIds.{All-where, AreOnce-order, between, has-mixed, times-append, times-where}
 
 -- no id that is away is a voter, unless it is a voter of the target
 abbrev pub IsCalm : Ids → Configuration → Configuration → Type 0

@@ -1,11 +1,11 @@
 -- On the path that changes one member at a time, few ids are learners at a time: learners leave and are promoted before others come.
-use Rattle.std.proofs.Common.{◌≡◌, ℕ, ◌+◌, ◌≤◌, Bool, true, false, cond, not, ◌&&◌, ◌||◌, ◌==◌, inl, inr, List, [], ◌∷◌, ◌++◌, length, refl, sym, ap, subst, ◌∙◌, arith, eqb-true, eq-eqb}
+use Rattle.std.proofs.Common.{◌≡◌, ℕ, ◌+◌, ◌≤◌, Bool, true, false, cond, not, ◌&&◌, ◌||◌, inl, inr, List, [], ◌∷◌, ◌++◌, refl, sym, ap, subst, ◌∙◌, arith, eqb-true, eq-eqb}
 use Rattle.std.specs.List.{All}
 use Rattle.std.proofs.lemmas.Bool.{and_parts}
 use Rattle.std.proofs.lemmas.List.{append-nil}
 use Rattle.std.proofs.lemmas.List.Elements.{All-cons, All-head, All-tail, All-weaker}
 use Rattle.std.proofs.lemmas.List.Sums.{count_by-le-length}
-use Rattle.quorum_sets.specs.Ids.{Ids, has, with_id, ascending, size, union, ids_where}
+use Rattle.quorum_sets.specs.Ids.{Ids, has, with_id, ascending, size, ids_where}
 use Rattle.quorum_sets.proofs.Offered.{count_of-common, has-same_ids, has-union, has-with_id, size-with_id}
 use Rattle.conf_change.specs.Configuration.{Configuration, ValidByMember}
 use Rattle.conf_plan.specs.OnTheWay.{learners_at_first, learners_that_stay, HasFewLearners}

@@ -1,6 +1,5 @@
 -- On the way that changes one member at a time, the voters that are up outnumber those that are down by as many as at one of the ends.
 use Rattle.std.proofs.Common.{◌≡◌, ℕ, ◌+◌, ◌<◌, ◌≤◌, Bool, true, false, cond, not, ◌&&◌, ◌||◌, ◌⊎◌, inl, inr, List, [], ◌∷◌, ◌++◌, length, refl, sym, ap, subst, ◌∙◌, arith, eq-eqb}
-use Rattle.std.specs.Cmp.{nat_eq_equiv}
 use Rattle.std.specs.List.{All}
 use Rattle.std.specs.Ordering.{nat_cmp}
 use Rattle.std.specs.Prelude.{filter}
@@ -8,11 +7,10 @@ use Rattle.std.proofs.lemmas.Bool.{both_ways, cond_both, cond-true, and_parts, a
 use Rattle.std.proofs.lemmas.List.Elements.{All-append, All-head, All-tail, All-weaker}
 use Rattle.std.proofs.lemmas.List.Kept.{IsStrictlySortedBy-filter}
 use Rattle.std.proofs.lemmas.List.Sums.{count_by-le-length, length-filter}
-use Rattle.std.proofs.lemmas.Map.Views.{All-from_any}
 use Rattle.quorum_sets.specs.Ids.{Ids, no_ids, has, with_id, ascending, size, count_of, union, ids_where, is_empty, majority_passes}
 use Rattle.quorum_sets.specs.Tolerance.{Tolerates, commits_without}
 use Rattle.quorum_sets.specs.Voters.{Voters, majority}
-use Rattle.quorum_sets.proofs.Offered.{Tolerates-from_counts, ascending-ids_of, ascending-is_sorted, ascending-no_ids, commits_without-majority_passes, count_of-rest, counted-all, counts-from_Tolerates, has-ascending, has-no_ids, has-same_ids, has-union, has-with_id, size-with_id}
+use Rattle.quorum_sets.proofs.Offered.{Tolerates-from_counts, ascending-ids_of, ascending-is_sorted, ascending-no_ids, commits_without-majority_passes, count_of-rest, counted-all, counts-from_Tolerates, has-no_ids, has-same_ids, has-union, has-with_id, size-with_id}
 use Rattle.conf_change.specs.Configuration.{Configuration, voters_of}
 use Rattle.conf_change.proofs.Offered.{is_empty-no_ids}
 use Rattle.conf_plan.specs.OnTheWay.{IsAsTolerant}

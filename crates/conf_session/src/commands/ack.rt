@@ -21,7 +21,8 @@ pub(super) fn run(
     id: u64,
     index: u64,
 ) -> Result<Reply, NoMemory>
-    ensures { IfOk result (λ reply. (next : ChangerState) → reply_in changer.now next reply ≡ spec.reply_to_ack changer.now id index) }
+    ensures { IfOk result (λ reply. (next : ChangerState)
+        → reply_in changer.now next reply ≡ spec.reply_to_ack changer.now id index) }
 {
     match changer.ack_answer(id, index) {
         Ok(progress) => {

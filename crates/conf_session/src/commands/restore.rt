@@ -21,7 +21,8 @@ pub(super) fn run(
     next: &mut Changer<SessionIds>,
     saved: &ConfState,
 ) -> Result<Reply, NoMemory>
-    ensures { IfOk result (λ reply. reply_in changer.now next.new reply ≡ spec.restore_reply changer.now (restored saved.now)) }
+    ensures { IfOk result (λ reply. reply_in changer.now next.new reply
+        ≡ spec.restore_reply changer.now (restored saved.now)) }
 {
     laws::restored_is_described();
     match Changer::restore_with_floor(alloc, saved, changer.last_index(), changer.floor()) {

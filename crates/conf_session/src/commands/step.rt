@@ -21,7 +21,8 @@ pub(super) fn run(
     kind: StepKind,
     changes: &[Change],
 ) -> Result<Reply, NoMemory>
-    ensures { IfOk result (λ reply. reply_in changer.now next.new reply ≡ spec.reply_to_step changer.now (step_of kind changes.now)) }
+    ensures { IfOk result (λ reply. reply_in changer.now next.new reply
+        ≡ spec.reply_to_step changer.now (step_of kind changes.now)) }
 {
     match next.become_next(changer, kind, changes) {
         Ok(()) => Ok(Reply::new(

@@ -10,7 +10,7 @@ use Rattle.dd_file.specs.RewriterState.{RewriterState, HasWritten, Continues, Br
 use Rattle.dd_file.specs.DirectiveText.{DirectiveText}
 use Rattle.dd_file.specs.declared.item.Item.{Item}
 use Rattle.dd_file.specs.declared.item.Item.TheVariants.{Directive}
-use Rattle.dd_file.specs.declared.stage.Stage.TheVariants.{Ready}
+use Rattle.dd_file.specs.declared.expecting.Expecting.TheVariants.{Ready}
 use Rattle.dd_file.specs.declared.fault.FileFault.{FileFault}
 use Rattle.dd_file.proofs.Offered.{begun-more}
 use Rattle.conf_change.specs.declared.floor.Floor.{Floor}
@@ -21,7 +21,7 @@ use Rattle.conf_tool.specs.Answered.{script, prepended, with_prefix, ended, rewr
 use Rattle.conf_tool.specs.Run.{Wrote}
 use Rattle.conf_tool.proofs.ModeOutput.FirstParts.{prepended-part, prepended-nothing, with_prefix-append}
 
-pub rewritten-nothing : (history : ℕ) (floor : Floor) (session : SessionState) (rewriter : RewriterState) (buffered : Option (List ℕ)) → session ≡ new_session history floor → rewriter.stage ≡ Ready →
+pub rewritten-nothing : (history : ℕ) (floor : Floor) (session : SessionState) (rewriter : RewriterState) (buffered : Option (List ℕ)) → session ≡ new_session history floor → rewriter.expecting ≡ Ready →
     ((start : Option (List ℕ)) → HasWritten rewriter.newlines start start []) → HasRewritten session rewriter (rewritten_script history floor) [] buffered buffered
 rewritten-nothing history floor session rewriter buffered is_new ready nothing = record {
   text = [];
@@ -45,7 +45,7 @@ total-part s t rewriter item total parts before mid rewritten is rest =
     ∙ ap ended (with_prefix-append rewritten.text (entry_text item (actual_for s item)) (rewrite_left t rest))
 
 pub rewritten-part : (s t : SessionState) (rewriter after : RewriterState) (item : Item) (actual : List ℕ) (total : Script Item → Output) (parts : List Item) (before mid new : Option (List ℕ)) →
-    HasRewritten s rewriter total parts before mid → t ≡ session_after s item → actual ≡ actual_for s item → after.stage ≡ Ready →
+    HasRewritten s rewriter total parts before mid → t ≡ session_after s item → actual ≡ actual_for s item → after.expecting ≡ Ready →
     Continues rewriter.newlines after.newlines mid new (entry_text item actual) → HasRewritten t after total (parts ++ item ∷ []) before new
 rewritten-part s t rewriter after item actual total parts before mid new rewritten is actual_is ready continues = record {
   text = rewritten.text ++ entry_text item (actual_for s item);

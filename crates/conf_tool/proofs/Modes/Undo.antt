@@ -9,7 +9,7 @@ use Rattle.dd_file.specs.Rewritten.{entry_text, without_double_end}
 use Rattle.dd_file.specs.RewriterState.{RewriterState, HasWritten, Continues, BreaksOff, Finishes, FinishesPart}
 use Rattle.dd_file.specs.declared.item.Item.{Item}
 use Rattle.dd_file.specs.declared.fault.FileFault.{FileFault}
-use Rattle.dd_file.specs.declared.stage.Stage.TheVariants.{Ready}
+use Rattle.dd_file.specs.declared.expecting.Expecting.TheVariants.{Ready}
 use Rattle.dd_file.proofs.Offered.{continues-append, breaks-first, breaks-second}
 use Rattle.conf_change.specs.declared.step.Step.{Step}
 use Rattle.quorum_sets.proofs.Offered.{take-one_more}
@@ -27,7 +27,7 @@ use Rattle.conf_tool.proofs.Modes.Rewrite.{breaks-nothing}
 use Rattle.conf_tool.specs.AnsweredLaws.{keeps-still, kept-appends, kept-written}
 use Rattle.conf_tool.proofs.ModeOutput.FirstParts.{appends-nothing, prepended-part, prepended-nothing}
 
-pub ran-nothing : (history : ℕ) (floor : Floor) (count : ℕ) (session : SessionState) (rewriter : RewriterState) (buffered : Option (List ℕ)) → session ≡ new_session history floor → rewriter.stage ≡ Ready →
+pub ran-nothing : (history : ℕ) (floor : Floor) (count : ℕ) (session : SessionState) (rewriter : RewriterState) (buffered : Option (List ℕ)) → session ≡ new_session history floor → rewriter.expecting ≡ Ready →
     ((start : Option (List ℕ)) → HasWritten rewriter.newlines start start []) → HasRun session rewriter count (undone_script history floor count) [] buffered buffered
 ran-nothing history floor count session rewriter buffered is_new ready nothing = record {
   unwritten = keeps-still buffered;

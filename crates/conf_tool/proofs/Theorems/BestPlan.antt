@@ -4,11 +4,10 @@ use Rattle.std.specs.Prelude.{None, Result, Ok}
 use Rattle.std.proofs.lemmas.List.{append-nil}
 use Rattle.conf_change.specs.Configuration.{Configuration, has_voter}
 use Rattle.conf_plan.specs.Best.{IsBest}
-use Rattle.conf_plan.specs.PathBy.{has_path, path_by}
+use Rattle.conf_plan.specs.PathBy.{has_path, path_by, ids_down}
 use Rattle.conf_plan.specs.Planned.{planned}
 use Rattle.conf_plan.specs.Run.{IsValidWithVoter}
 use Rattle.conf_session.specs.SessionState.{SessionState}
-use Rattle.plan_output.specs.Steps.{ids_down}
 use Rattle.conf_tool.specs.Laws.{PrintedPlanIsBest, IsBestPlan}
 use Rattle.conf_tool.specs.Outputs.{Output, worse_of, pair_then, session_after_pair, ends_before, planned_pairs}
 use Rattle.conf_tool.specs.PlanAnswer.{path_status, path_text, path_between, reply_text, plan_text_between, status_with, plan_status}

@@ -20,7 +20,7 @@ use Rattle.conf_change.specs.ConfStateLine.{conf_state_text}
 use Rattle.conf_change.specs.Text.{spaced_numbers}
 use Rattle.conf_change.specs.declared.floor.Floor.TheVariants.{One}
 use Rattle.conf_change.specs.declared.step.Step.{Step}
-use Rattle.conf_plan.specs.PathBy.{has_path, path_by}
+use Rattle.conf_plan.specs.PathBy.{has_path, path_by, ids_down}
 use Rattle.conf_session.specs.SessionState.{SessionState}
 use Rattle.conf_session.specs.Commands.{answer}
 use Rattle.conf_session.specs.ReplyLines.{is_line_byte}
@@ -29,7 +29,7 @@ use Rattle.plan_output.specs.Stages.{stalls}
 use Rattle.conf_tool.specs.Laws.{pair_before, pairs_in, pairs_in_texts, texts_from, separated_by}
 use Rattle.conf_tool.specs.Outputs.{ends, pair_then, separator, checked, planned_output, planned_texts}
 use Rattle.conf_tool.specs.Pairs.{pair_of_texts}
-use Rattle.plan_output.specs.Steps.{ids_down, stall_text, stall_note}
+use Rattle.plan_output.specs.Steps.{stall_text, stall_note}
 use Rattle.conf_tool.specs.PlanAnswer.{text_as, no_plan_comment, no_plan_text, path_between, plan_text_between, reply_text, session_as, session_with, session_between}
 use Rattle.conf_tool.specs.PlanScript.{note_items, restore_command, restore_directive, script_items, default_session, script_text}
 use Rattle.conf_tool.specs.Reports.{session_after_all, answered_entries, answered_text}

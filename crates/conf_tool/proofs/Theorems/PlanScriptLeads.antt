@@ -22,7 +22,7 @@ use Rattle.conf_change.specs.ConfStateLine.{conf_state_text, conf_state_in}
 use Rattle.conf_change.proofs.Offered.{DenotesConfState-printed, ParsesToNumbers-spaced, conf_state_in-ok, trimmed-bracketed_line}
 use Rattle.conf_change.specs.Text.{spaced_numbers}
 use Rattle.conf_change.specs.declared.step.Step.{Step}
-use Rattle.conf_plan.specs.PathBy.{has_path, path_by}
+use Rattle.conf_plan.specs.PathBy.{has_path, path_by, ids_down}
 use Rattle.conf_plan.specs.Run.{IsRun}
 use Rattle.conf_session.specs.SessionState.{SessionState, current}
 use Rattle.conf_session.specs.Commands.{Answer, answer, answered, after_answers, if_read, reply_of, restore_reply, row_of}
@@ -30,7 +30,7 @@ use Rattle.conf_session.specs.Input.{conf_state_read}
 use Rattle.conf_session.specs.Reply.{restored_with}
 use Rattle.conf_session.specs.Values.{read_arguments}
 use Rattle.conf_change.specs.U64Lists.{HasU64Lists}
-use Rattle.plan_output.specs.Steps.{ids_down, stall_note}
+use Rattle.plan_output.specs.Steps.{stall_note}
 use Rattle.conf_tool.specs.Laws.{HasU64Pair, IsScriptOf, LeadsThrough, NoPair, WithPath, WithoutPath, PlanScriptLeads, pairs_in, pairs_in_texts}
 use Rattle.conf_tool.specs.Outputs.{planned_output, planned_texts}
 use Rattle.conf_tool.specs.PlanAnswer.{path_between}

@@ -6,14 +6,13 @@ use Rattle.conf_change.specs.Configuration.{Configuration, has_voter}
 use Rattle.conf_change.specs.declared.step.Step.{Step}
 use Rattle.conf_plan.specs.OnTheWay.{ChangesOneLearnerFirst}
 use Rattle.conf_plan.specs.OneChangeEach.{one_change_each, LeadsChangeByChange}
-use Rattle.conf_plan.specs.PathBy.{has_path, path_by, KeepsPromises}
+use Rattle.conf_plan.specs.PathBy.{has_path, path_by, ids_down, KeepsPromises}
 use Rattle.conf_plan.specs.Run.{IsRun, IsRunWith, IsValidWithVoter}
 use Rattle.conf_plan.specs.declared.strategy.Strategy.{Strategy}
 use Rattle.conf_plan.specs.declared.strategy.Strategy.TheVariants.{Shortest, LearnersFirst, OneAtATime}
 use Rattle.plan_output.specs.CarriedOut.{LinesLead}
 use Rattle.plan_output.specs.Json.{path_json}
 use Rattle.plan_output.specs.Stages.{AreOnTheWay, stages}
-use Rattle.plan_output.specs.Steps.{ids_down}
 use Rattle.conf_tool.specs.Laws.{IsPromisedPath, LeadsAsPromised, PrintedPathKeepsPromises}
 use Rattle.conf_tool.specs.PlanAnswer.{path_between, reply_text}
 use Rattle.conf_tool.specs.declared.pair.Pair.{Pair}

@@ -17,7 +17,7 @@ ghost use Rattle.conf_tool.specs.Outputs.{checked_script};
 ghost use Rattle.conf_tool.specs.Reports.{actual_for, session_after, differs, report};
 ghost use Rattle.conf_tool.specs.declared.tool_fault.ToolFault.TheVariants.{NoMemory as OutOfMemory};
 
-use super::part_by_part::PartByPart;
+use super::handler::Handler;
 use crate::options::Options;
 use crate::report::{Counts, append_difference};
 use crate::status::Status;
@@ -42,7 +42,8 @@ pub(super) struct Checking {
 impl Checking {
     /// The mode before its first item, with a new session. It fails only if memory runs out.
     pub(super) fn new(alloc: Global, options: Options) -> Result<Checking, ToolFault>
-        ensures unwritten { IfOk result (λ mode. (buffered : Option (List ℕ)) → ⟦<Checking as PartByPart<Item>>⟧.HasAnswered mode (checked_script options.history options.floor) [] buffered buffered) }
+        ensures unwritten { IfOk result (λ mode. (buffered : Option (List ℕ))
+            → ⟦<Checking as Handler<Item>>⟧.HasAnswered mode (checked_script options.history options.floor) [] buffered buffered) }
         ensures memory { IsOkUnless result OutOfMemory }
     {
         Ok(Checking {
@@ -56,9 +57,13 @@ impl Checking {
     fn check_item(&mut self, item: &Item) -> Result<(), NoMemory>
         requires { self.old.counts.directives < 2 ^ 30 }
         ensures session { OnOk result (self.new.session ≡ session_after self.old.session item.now) }
-        ensures directives { OnOk result (self.new.counts.directives ≡ self.old.counts.directives + (if is_directive item.now then 1 else 0)) }
-        ensures mismatches { OnOk result (self.new.counts.mismatches ≡ self.old.counts.mismatches + (if differs (entry item.now (actual_for self.old.session item.now)) then 1 else 0)) }
-        ensures text { OnOk result (self.new.text.items ≡ report (entry item.now (actual_for self.old.session item.now))) }
+        ensures directives { OnOk result (self.new.counts.directives
+            ≡ self.old.counts.directives + (if is_directive item.now then 1 else 0)) }
+        ensures mismatches { OnOk result (self.new.counts.mismatches
+            ≡ self.old.counts.mismatches + (if differs (entry item.now (actual_for self.old.session item.now)) then 1
+            else 0)) }
+        ensures text { OnOk result (self.new.text.items
+            ≡ report (entry item.now (actual_for self.old.session item.now))) }
     {
         self.text.clear();
         match item {
@@ -76,7 +81,7 @@ impl Checking {
     }
 }
 
-impl PartByPart<Item> for Checking {
+impl Handler<Item> for Checking {
     ghost use Rattle.conf_tool.specs.Answered.{HasChecked};
     ghost use Rattle.conf_tool.specs.declared.mode.Mode.TheVariants.{Check as OfCheck};
     ghost use Rattle.conf_tool.specs.AnsweredLaws.{kept-checked, wrote-prefix};

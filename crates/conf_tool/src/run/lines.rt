@@ -15,7 +15,7 @@ ghost use Rattle.conf_change.specs.Configuration.{empty_configuration};
 ghost use Rattle.conf_tool.specs.Outputs.{lines_output_from};
 
 use super::clean_unless::clean_unless;
-use super::part_by_part::PartByPart;
+use super::handler::Handler;
 use crate::line_reply::answer_line;
 use crate::status::Status;
 use crate::tool_fault::ToolFault;
@@ -38,7 +38,8 @@ pub(super) struct LineByLine {
 impl LineByLine {
     /// The mode before its first line, with an empty configuration.
     pub(super) fn new(alloc: Global) -> LineByLine
-        ensures { (buffered : Option (List ℕ)) → ⟦<LineByLine as PartByPart<Line>>⟧.HasAnswered result (lines_output_from empty_configuration) [] buffered buffered }
+        ensures { (buffered : Option (List ℕ))
+            → ⟦<LineByLine as Handler<Line>>⟧.HasAnswered result (lines_output_from empty_configuration) [] buffered buffered }
     {
         LineByLine {
             changer: Changer::new(alloc, 0),
@@ -47,7 +48,7 @@ impl LineByLine {
     }
 }
 
-impl PartByPart<Line> for LineByLine {
+impl Handler<Line> for LineByLine {
     ghost use Rattle.conf_tool.specs.Answered.{WrotePrefix};
     ghost use Rattle.conf_tool.specs.Outputs.{lines_output_from};
     ghost use Rattle.conf_tool.specs.declared.mode.Mode.TheVariants.{Lines as OfLines};

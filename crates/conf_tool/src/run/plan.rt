@@ -24,12 +24,12 @@ ghost use Rattle.conf_tool.specs.PlanScript.{default_session};
 ghost use Rattle.conf_tool.specs.Run.{IsAnswerFault, Means, is_read_failure, is_write_failure};
 ghost use Rattle.conf_tool.specs.declared.tool_fault.ToolFault.TheVariants.{NoMemory as OutOfMemory};
 
-use super::part_by_part::PartByPart;
+use super::handler::Handler;
 use super::plan_script::default_session;
 use crate::origin::Origin;
 use crate::pair::{Current, Pair};
-use crate::pair_text::{current_of, is_skipped, pair_of};
-use crate::pair_texts::PairTexts;
+use crate::pair_arguments::PairArguments;
+use crate::pair_reading::{current_of, is_skipped, pair_of};
 use crate::plan_answer::plan_answer;
 use crate::plan_input_fault::PlanInputFault;
 use crate::plan_options::{PlanOptions, PlanOutput};
@@ -41,6 +41,7 @@ use dd_file::device::Sink;
 use dd_file::fault::FileFault;
 use dd_file::line::Line;
 use dd_file::writing::write_all;
+use plan_output::Output;
 use std::alloc::Global;
 
 /// The state of the mode: the pair that is being read, and how the pairs before it ended.
@@ -63,7 +64,8 @@ pub(super) struct Planning {
 impl Planning {
     /// The mode before its first line, with a new session. It fails only if memory runs out.
     pub(super) fn new(alloc: Global, options: PlanOptions) -> Result<Planning, ToolFault>
-        ensures unwritten { IfOk result (λ mode. (buffered : Option (List ℕ)) → ⟦<Planning as PartByPart<Line>>⟧.HasAnswered mode (planned_script options) [] buffered buffered) }
+        ensures unwritten { IfOk result (λ mode. (buffered : Option (List ℕ))
+            → ⟦<Planning as Handler<Line>>⟧.HasAnswered mode (planned_script options) [] buffered buffered) }
         ensures memory { IsOkUnless result OutOfMemory }
     {
         Ok(Planning {
@@ -82,7 +84,8 @@ impl Planning {
         requires few { self.old.pair < 2 ^ 63 }
         requires valid_now { is_valid pair.now.current ≡ true }
         requires valid_target { is_valid pair.now.target ≡ true }
-        ensures next { OnOk result ((self.new.options ≡ self.old.options) × (self.new.lines ≡ self.old.lines) × (self.new.pair ≡ self.old.pair + 1) × (self.new.now ≡ self.old.now)) }
+        ensures next { OnOk result ((self.new.options ≡ self.old.options) × (self.new.lines ≡ self.old.lines)
+            × (self.new.pair ≡ self.old.pair + 1) × (self.new.now ≡ self.old.now)) }
         ensures session { OnOk result (self.new.session ≡ session_between self.old.options self.old.session pair.now) }
         ensures status { OnOk result
             (Ok self.new.status ≡ worse_of self.old.status (Ok (plan_status self.old.options pair.now))) }
@@ -150,12 +153,12 @@ fn separator(output: PlanOutput) -> &'static [u8]
     ensures { result.now ≡ separator output }
 {
     match output {
-        PlanOutput::Steps | PlanOutput::Script | PlanOutput::Table => b"\n",
-        PlanOutput::Json => b"",
+        PlanOutput::Script | PlanOutput::Text(Output::Steps | Output::Table) => b"\n",
+        PlanOutput::Text(Output::Json) => b"",
     }
 }
 
-impl PartByPart<Line> for Planning {
+impl Handler<Line> for Planning {
     ghost use Rattle.conf_tool.specs.Answered.{HasPlanned, plan_left};
     ghost use Rattle.conf_tool.specs.declared.mode.Mode.TheVariants.{Plan as OfPlan};
     ghost use Rattle.conf_tool.specs.AnsweredLaws.{kept-planned, wrote-prefix};
@@ -215,7 +218,7 @@ impl PartByPart<Line> for Planning {
 pub(super) fn answer_texts<W: Sink>(
     alloc: Global,
     options: &PlanOptions,
-    texts: PairTexts<'_>,
+    texts: PairArguments<'_>,
     writer: &mut W,
 ) -> Result<Status, ToolFault>
     ensures output { Means (planned_texts options.now texts.entry.from.now texts.entry.to.now) result (W.contents writer.old) (W.contents writer.new) }
@@ -231,10 +234,12 @@ pub(super) fn answer_texts<W: Sink>(
 fn texts_answer(
     alloc: Global,
     options: &PlanOptions,
-    texts: PairTexts<'_>,
+    texts: PairArguments<'_>,
 ) -> Result<(Vec<u8>, Status), ToolFault>
-    ensures text { IfOk result (λ answer. (planned_texts options.now texts.entry.from.now texts.entry.to.now).text ≡ answer.0.items) }
-    ensures outcome { IfOk result (λ answer. (planned_texts options.now texts.entry.from.now texts.entry.to.now).outcome ≡ Ok answer.1) }
+    ensures text { IfOk result (λ answer. (planned_texts options.now texts.entry.from.now texts.entry.to.now).text
+        ≡ answer.0.items) }
+    ensures outcome { IfOk result (λ answer. (planned_texts options.now texts.entry.from.now texts.entry.to.now).outcome
+        ≡ Ok answer.1) }
     ensures fault { IfErr result (IsFaultOf (pair_of_texts options.now texts.entry.from.now texts.entry.to.now)) }
 {
     let pair = pair_of_texts(alloc, options, texts.from.as_bytes(), texts.to.as_bytes())?;

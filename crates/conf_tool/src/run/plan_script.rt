@@ -14,9 +14,9 @@ use conf_change::{Config, Floor, Step, conf_state, write_conf_state};
 use conf_plan::Path;
 use conf_session::{Session, SessionIds};
 use dd_file::device::{Sink, ToWrite};
+use dd_file::expecting::Expecting;
 use dd_file::item::Item;
 use dd_file::rewriter::Rewriter;
-use dd_file::stage::Stage;
 use quorum_sets::NoMemory;
 use std::alloc::Global;
 
@@ -36,8 +36,10 @@ pub(crate) fn script_text(
     now: &Config<SessionIds>,
     path: &Path,
 ) -> Result<Vec<u8>, NoMemory>
-    ensures text { IfOk result (λ text. text.items ≡ spec.script_text session.old (option_map (λ note. note.now.items) note.entry) now.now path.now) }
-    ensures session { OnOk result (session.new ≡ session_after_all session.old (spec.script_items (option_map (λ note. note.now.items) note.entry) now.now path.now)) }
+    ensures text { IfOk result (λ text. text.items
+        ≡ spec.script_text session.old (option_map (λ note. note.now.items) note.entry) now.now path.now) }
+    ensures session { OnOk result (session.new
+        ≡ session_after_all session.old (spec.script_items (option_map (λ note. note.now.items) note.entry) now.now path.now)) }
 {
     let restore = restore_directive(alloc, now)?;
     let mut writer = ToWrite::new(Vec::new(alloc));
@@ -57,8 +59,11 @@ fn write_script<W: Sink>(
     writer: &mut W,
 ) -> Result<(), ToolFault>
     ensures written { OnOk result (Appends (W.contents writer.old) (W.contents writer.new)
-        (rewritten_text (answered_entries session.old (spec.note_items (option_map (λ note. note.now.items) note.entry) ++ first.now ∷ step_items steps.now)))) }
-    ensures session { OnOk result (session.new ≡ session_after_all session.old (spec.note_items (option_map (λ note. note.now.items) note.entry) ++ first.now ∷ step_items steps.now)) }
+        (rewritten_text (answered_entries session.old (spec.note_items (option_map (λ note. note.now.items) note.entry)
+        ++ first.now ∷ step_items steps.now)))) }
+    ensures session { OnOk result (session.new
+        ≡ session_after_all session.old (spec.note_items (option_map (λ note. note.now.items) note.entry)
+        ++ first.now ∷ step_items steps.now)) }
 {
     let mut rewriter = Rewriter::new();
     write_note(alloc, session, &mut rewriter, note, writer)?;
@@ -76,11 +81,12 @@ fn write_note<W: Sink>(
     note: Option<&Vec<u8>>,
     writer: &mut W,
 ) -> Result<(), ToolFault>
-    requires { rewriter.old.stage ≡ Stage.Ready }
+    requires { rewriter.old.expecting ≡ Expecting.Ready }
     ensures session { OnOk result (session.new ≡ session.old) }
-    ensures written { OnOk result (Continues rewriter.old.newlines rewriter.new.newlines (W.contents writer.old) (W.contents writer.new)
+    ensures written { OnOk result (Continues rewriter.old.newlines rewriter.new.newlines (W.contents writer.old)
+        (W.contents writer.new)
         (answered_text session.old (spec.note_items (option_map (λ note. note.now.items) note.entry)))) }
-    ensures stage { OnOk result (rewriter.new.stage ≡ Stage.Ready) }
+    ensures expecting { OnOk result (rewriter.new.expecting ≡ Expecting.Ready) }
 {
     match note {
         Some(note) => write_comment(alloc, session, rewriter, note.as_slice(), writer),

@@ -19,16 +19,16 @@ ghost use Rattle.conf_tool.specs.Run.{IsAnswerFault, is_write_failure};
 ghost use Rattle.conf_tool.specs.declared.tool_fault.ToolFault.TheVariants.{NoMemory as OutOfMemory};
 
 use super::clean_unless::clean_unless;
-use super::part_by_part::PartByPart;
+use super::handler::Handler;
 use crate::options::Options;
 use crate::status::Status;
 use crate::tool_fault::ToolFault;
 use conf_session::Session;
 use dd_file::device::Sink;
+use dd_file::expecting::Expecting;
 use dd_file::fault::{FileFault, WriteFault};
 use dd_file::item::Item;
 use dd_file::rewriter::Rewriter;
-use dd_file::stage::Stage;
 use quorum_sets::NoMemory;
 use std::alloc::Global;
 
@@ -58,12 +58,14 @@ fn write_entry<W: Sink>(
     item: &Item,
     actual: &[u8],
 ) -> Result<(), WriteFault>
-    requires stage { rewriter.old.stage ≡ Stage.Ready }
+    requires expecting { rewriter.old.expecting ≡ Expecting.Ready }
     requires output { is_output actual.now ≡ true }
     requires full { has_blank_line actual.now ≡ false }
-    ensures written { OnOk result (Continues rewriter.old.newlines rewriter.new.newlines (W.contents writer.old) (W.contents writer.new) (entry_text item.now actual.now)) }
-    ensures part { OnErr result (BreaksOff rewriter.old.newlines (W.contents writer.old) (W.contents writer.new) (entry_text item.now actual.now)) }
-    ensures stage { OnOk result (rewriter.new.stage ≡ Stage.Ready) }
+    ensures written { OnOk result (Continues rewriter.old.newlines rewriter.new.newlines (W.contents writer.old)
+        (W.contents writer.new) (entry_text item.now actual.now)) }
+    ensures part { OnErr result (BreaksOff rewriter.old.newlines (W.contents writer.old) (W.contents writer.new)
+        (entry_text item.now actual.now)) }
+    ensures expecting { OnOk result (rewriter.new.expecting ≡ Expecting.Ready) }
     // After an error the writer has failed; without one no write failed in this call.
     ensures failed { OnErr result (W.has_failed writer.new ≡ true) }
     ensures sound { OnOk result (W.has_failed writer.new ≡ W.has_failed writer.old) }
@@ -83,11 +85,13 @@ pub(super) fn rewrite_item<W: Sink>(
     item: &Item,
     writer: &mut W,
 ) -> Result<(), ToolFault>
-    requires { rewriter.old.stage ≡ Stage.Ready }
+    requires { rewriter.old.expecting ≡ Expecting.Ready }
     ensures session { OnOk result (session.new ≡ session_after session.old item.now) }
-    ensures written { OnOk result (Continues rewriter.old.newlines rewriter.new.newlines (W.contents writer.old) (W.contents writer.new) (entry_text item.now (actual_for session.old item.now))) }
-    ensures part { OnErr result (BreaksOff rewriter.old.newlines (W.contents writer.old) (W.contents writer.new) (entry_text item.now (actual_for session.old item.now))) }
-    ensures stage { OnOk result (rewriter.new.stage ≡ Stage.Ready) }
+    ensures written { OnOk result (Continues rewriter.old.newlines rewriter.new.newlines (W.contents writer.old)
+        (W.contents writer.new) (entry_text item.now (actual_for session.old item.now))) }
+    ensures part { OnErr result (BreaksOff rewriter.old.newlines (W.contents writer.old) (W.contents writer.new)
+        (entry_text item.now (actual_for session.old item.now))) }
+    ensures expecting { OnOk result (rewriter.new.expecting ≡ Expecting.Ready) }
     ensures write { W.has_failed writer.new ≡ (W.has_failed writer.old || is_write_failure result) }
     ensures kinds { IfErr result IsAnswerFault }
 {
@@ -107,7 +111,8 @@ pub(super) struct Rewriting {
 impl Rewriting {
     /// The mode before its first item, with a new session. It fails only if memory runs out.
     pub(super) fn new(alloc: Global, options: Options) -> Result<Rewriting, ToolFault>
-        ensures unwritten { IfOk result (λ mode. (buffered : Option (List ℕ)) → ⟦<Rewriting as PartByPart<Item>>⟧.HasAnswered mode (rewritten_script options.history options.floor) [] buffered buffered) }
+        ensures unwritten { IfOk result (λ mode. (buffered : Option (List ℕ))
+            → ⟦<Rewriting as Handler<Item>>⟧.HasAnswered mode (rewritten_script options.history options.floor) [] buffered buffered) }
         ensures memory { IsOkUnless result OutOfMemory }
     {
         Ok(Rewriting {
@@ -118,7 +123,7 @@ impl Rewriting {
     }
 }
 
-impl PartByPart<Item> for Rewriting {
+impl Handler<Item> for Rewriting {
     ghost use Rattle.conf_tool.specs.Answered.{HasRewritten};
     ghost use Rattle.conf_tool.specs.declared.mode.Mode.TheVariants.{Rewrite as OfRewrite};
     ghost use Rattle.conf_tool.specs.AnsweredLaws.{kept-rewritten, rewritten-prefix};

@@ -12,9 +12,9 @@ use crate::undo_script::{comment, step_directive};
 use conf_change::Step;
 use conf_session::Session;
 use dd_file::device::Sink;
+use dd_file::expecting::Expecting;
 use dd_file::item::Item;
 use dd_file::rewriter::Rewriter;
-use dd_file::stage::Stage;
 use std::alloc::Global;
 
 /// Runs the directives of steps and writes them, or writes that there is nothing to do.
@@ -25,11 +25,13 @@ pub(super) fn write_steps<W: Sink>(
     steps: &[Step],
     writer: &mut W,
 ) -> Result<(), ToolFault>
-    requires { rewriter.old.stage ≡ Stage.Ready }
+    requires { rewriter.old.expecting ≡ Expecting.Ready }
     ensures session { OnOk result (session.new ≡ session_after_all session.old (step_items steps.now)) }
-    ensures written { OnOk result (Continues rewriter.old.newlines rewriter.new.newlines (W.contents writer.old) (W.contents writer.new) (answered_text session.old (step_items steps.now))) }
-    ensures part { OnErr result (BreaksOff rewriter.old.newlines (W.contents writer.old) (W.contents writer.new) (answered_text session.old (step_items steps.now))) }
-    ensures stage { OnOk result (rewriter.new.stage ≡ Stage.Ready) }
+    ensures written { OnOk result (Continues rewriter.old.newlines rewriter.new.newlines (W.contents writer.old)
+        (W.contents writer.new) (answered_text session.old (step_items steps.now))) }
+    ensures part { OnErr result (BreaksOff rewriter.old.newlines (W.contents writer.old) (W.contents writer.new)
+        (answered_text session.old (step_items steps.now))) }
+    ensures expecting { OnOk result (rewriter.new.expecting ≡ Expecting.Ready) }
     ensures write { W.has_failed writer.new ≡ (W.has_failed writer.old || is_write_failure result) }
     ensures kinds { IfErr result IsAnswerFault }
 {
@@ -51,11 +53,13 @@ pub(super) fn write_comment<W: Sink>(
     text: &[u8],
     writer: &mut W,
 ) -> Result<(), ToolFault>
-    requires { rewriter.old.stage ≡ Stage.Ready }
+    requires { rewriter.old.expecting ≡ Expecting.Ready }
     ensures session { OnOk result (session.new ≡ session.old) }
-    ensures written { OnOk result (Continues rewriter.old.newlines rewriter.new.newlines (W.contents writer.old) (W.contents writer.new) (answered_text session.old (spec.comment text.now ∷ []))) }
-    ensures part { OnErr result (BreaksOff rewriter.old.newlines (W.contents writer.old) (W.contents writer.new) (answered_text session.old (spec.comment text.now ∷ []))) }
-    ensures stage { OnOk result (rewriter.new.stage ≡ Stage.Ready) }
+    ensures written { OnOk result (Continues rewriter.old.newlines rewriter.new.newlines (W.contents writer.old)
+        (W.contents writer.new) (answered_text session.old (spec.comment text.now ∷ []))) }
+    ensures part { OnErr result (BreaksOff rewriter.old.newlines (W.contents writer.old) (W.contents writer.new)
+        (answered_text session.old (spec.comment text.now ∷ []))) }
+    ensures expecting { OnOk result (rewriter.new.expecting ≡ Expecting.Ready) }
     ensures write { W.has_failed writer.new ≡ (W.has_failed writer.old || is_write_failure result) }
     ensures kinds { IfErr result IsAnswerFault }
 {
@@ -71,11 +75,13 @@ fn write_item<W: Sink>(
     item: Item,
     writer: &mut W,
 ) -> Result<(), ToolFault>
-    requires { rewriter.old.stage ≡ Stage.Ready }
+    requires { rewriter.old.expecting ≡ Expecting.Ready }
     ensures session { OnOk result (session.new ≡ session_after session.old item) }
-    ensures written { OnOk result (Continues rewriter.old.newlines rewriter.new.newlines (W.contents writer.old) (W.contents writer.new) (answered_text session.old (item ∷ []))) }
-    ensures part { OnErr result (BreaksOff rewriter.old.newlines (W.contents writer.old) (W.contents writer.new) (answered_text session.old (item ∷ []))) }
-    ensures stage { OnOk result (rewriter.new.stage ≡ Stage.Ready) }
+    ensures written { OnOk result (Continues rewriter.old.newlines rewriter.new.newlines (W.contents writer.old)
+        (W.contents writer.new) (answered_text session.old (item ∷ []))) }
+    ensures part { OnErr result (BreaksOff rewriter.old.newlines (W.contents writer.old) (W.contents writer.new)
+        (answered_text session.old (item ∷ []))) }
+    ensures expecting { OnOk result (rewriter.new.expecting ≡ Expecting.Ready) }
     ensures write { W.has_failed writer.new ≡ (W.has_failed writer.old || is_write_failure result) }
     ensures kinds { IfErr result IsAnswerFault }
 {

@@ -23,7 +23,7 @@ ghost use Rattle.conf_session.specs.Undo.{undo_plan_of};
 ghost use Rattle.conf_tool.specs.UndoScript.{undo_items};
 ghost use Rattle.conf_tool.specs.declared.tool_fault.ToolFault.TheVariants.{NoMemory as OutOfMemory};
 
-use super::part_by_part::PartByPart;
+use super::handler::Handler;
 use super::rewrite::run_item;
 use super::step_items::{write_comment, write_steps};
 use crate::options::Options;
@@ -31,10 +31,10 @@ use crate::status::Status;
 use crate::tool_fault::ToolFault;
 use conf_session::{Session, UndoFault, undo_fault_text};
 use dd_file::device::Sink;
+use dd_file::expecting::Expecting;
 use dd_file::fault::FileFault;
 use dd_file::item::Item;
 use dd_file::rewriter::Rewriter;
-use dd_file::stage::Stage;
 use std::alloc::Global;
 
 /// The state of the mode: the session that runs both scripts, and the rewriter of the second one.
@@ -52,7 +52,8 @@ impl Undoing {
     /// The mode before its first item, with a new session. It fails only if memory runs out.
     pub(super) fn new(alloc: Global, options: Options) -> Result<Undoing, ToolFault>
         requires { 1 ≤ options.steps }
-        ensures unwritten { IfOk result (λ mode. (buffered : Option (List ℕ)) → ⟦<Undoing as PartByPart<Item>>⟧.HasAnswered mode (undone_script options.history options.floor options.steps) [] buffered buffered) }
+        ensures unwritten { IfOk result (λ mode. (buffered : Option (List ℕ))
+            → ⟦<Undoing as Handler<Item>>⟧.HasAnswered mode (undone_script options.history options.floor options.steps) [] buffered buffered) }
         ensures memory { IsOkUnless result OutOfMemory }
     {
         Ok(Undoing {
@@ -65,13 +66,14 @@ impl Undoing {
 
     /// Runs and writes the directives that undo the changes, or writes a comment with the reason why there is no plan.
     fn write_undo<W: Sink>(&mut self, writer: &mut W) -> Result<Status, ToolFault>
-        requires { self.old.rewriter.stage ≡ Stage.Ready }
+        requires { self.old.rewriter.expecting ≡ Expecting.Ready }
         ensures status { IfOk result (λ status. status ≡ undo_status (undo_plan_of self.old.session self.old.steps)) }
         ensures written { OnOk result (Continues self.old.rewriter.newlines self.new.rewriter.newlines (W.contents writer.old) (W.contents writer.new)
             (answered_text self.old.session (undo_items (undo_plan_of self.old.session self.old.steps)))) }
-        ensures part { OnErr result (BreaksOff self.old.rewriter.newlines (W.contents writer.old) (W.contents writer.new)
+        ensures part { OnErr result (BreaksOff self.old.rewriter.newlines (W.contents writer.old)
+            (W.contents writer.new)
             (answered_text self.old.session (undo_items (undo_plan_of self.old.session self.old.steps)))) }
-        ensures stage { OnOk result (self.new.rewriter.stage ≡ Stage.Ready) }
+        ensures expecting { OnOk result (self.new.rewriter.expecting ≡ Expecting.Ready) }
         ensures write { W.has_failed writer.new ≡ (W.has_failed writer.old || is_write_failure result) }
         ensures kinds { IfErr result IsAnswerFault }
     {
@@ -104,7 +106,7 @@ impl Undoing {
     }
 }
 
-impl PartByPart<Item> for Undoing {
+impl Handler<Item> for Undoing {
     ghost use Rattle.conf_tool.specs.Answered.{HasRun};
     ghost use Rattle.conf_tool.specs.declared.mode.Mode.TheVariants.{Undo as OfUndo};
     ghost use Rattle.conf_tool.specs.AnsweredLaws.{kept-ran, ran-prefix};

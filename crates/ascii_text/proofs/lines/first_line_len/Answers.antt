@@ -3,4 +3,4 @@ use Rattle.ascii_text.proofs.FullLines.{first_len-position}
 use Rattle.ascii_text.proofs.lines.first_line_len.Goals as goal
 
 pub returns-clause-count : goal.returns-clause-count
-returns-clause-count c = omega (arith, c.far_position_of.ensures.position, first_len-position c.args.bytes.now)
+returns-clause-count c = omega (arith, c.find_far_byte.ensures.position, first_len-position c.args.bytes.now)

@@ -2,9 +2,9 @@ use Rattle.std.proofs.Common.{◌≡◌, ℕ, List, map, sym, ap, subst, ◌∙�
 use Rattle.std.specs.FinMap as finite
 use Rattle.std.specs.Ordering.{nat_cmp}
 use Rattle.std.proofs.lemmas.Result.{IfOk-weaker}
-use Rattle.quorum_sets.specs.Ids.{has, ascending, union}
+use Rattle.quorum_sets.specs.Ids.{has, ascending}
 use Rattle.quorum_sets.specs.AscendingLists.{IsAscending}
-use Rattle.conf_change.specs.Configuration.{Configuration}
+use Rattle.conf_change.specs.Configuration.{Configuration, member_ids}
 use Rattle.conf_change.specs.Progress.{fresh_progress, all_fresh}
 use Rattle.conf_change.specs.declared.progress.Progress.{Progress}
 use Rattle.conf_change.proofs.MemberProgress.OfEachId.{ascends-of_each, progress_by-all_members}
@@ -29,7 +29,7 @@ returns-clause-fresh g c =
       auto_leave = c.config.inside.auto_leave;
     } in
     let of : ℕ → Progress = λ id. fresh_progress c.args.next_index (has config.learners id) in
-    let ids_are = c.in_ok-ids.ensures ∙ ap (λ voters. union voters config.learners) c.in_ok-voters.ensures in
+    let ids_are = c.in_ok-ids.ensures ∙ ap member_ids (sym c.config.view_is) in
     IfOk-weaker c.fresh_of.result (λ members. members.items ≡ map (λ id. (id, of id)) (ascending (own c.in_ok-ids.ids)))
     (λ members. finite.from_entries {R = nat_cmp} members.items ≡ all_fresh c.args.next_index c.args.config.now)
     (λ members is.

@@ -12,8 +12,8 @@ returns g c =
     let learners = g.S.MemberSet.ids c.args.start.now.learners.now in
     let start = single_with incoming learners in
     let voters_are = c.in_ok-voters.ensures ∙ ap (λ (d : Configuration). union d.incoming d.outgoing) c.target.view_is in
-    IfOk-weaker c.picked.result (λ ids. g.S.MemberSet.ids ids ≡ ids_where (λ id. not (is_member start id)) (ascending (g.S.MemberSet.ids c.in_ok-voters.voters))) _
+    IfOk-weaker c.filtered.result (λ ids. g.S.MemberSet.ids ids ≡ ids_where (λ id. not (is_member start id)) (ascending (g.S.MemberSet.ids c.in_ok-voters.voters))) _
     (λ ids is. is ∙ ap (λ s. ids_where (λ id. not (is_member start id)) (ascending s)) voters_are)
-    (c.picked.ensures (λ id. not (is_member start id)) (λ id answer given.
+    (c.filtered.ensures (λ id. not (is_member start id)) (λ id answer given.
     let plain : answer ≡ (not (has incoming id) && not (has learners id)) = search rules in
     grind (arith, plain, is_member-single_with incoming learners id)))

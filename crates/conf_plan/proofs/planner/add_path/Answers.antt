@@ -11,7 +11,7 @@ add_from_single_by-requires-clause-start g c =
 pub returns-then-is_joint : goal.returns-then-is_joint
 returns-then-is_joint g c =
     rw (
-      path_by-leaving c.args.strategy (g.S.MemberSet.ids c.args.down.now) c.args.now.now c.args.target.now (sym c.is_joint.ensures ∙ c.if-is_joint.true) (sym c.same.ensures.same ∙ c.if-same.false),
+      path_by-leaving c.args.strategy (g.S.MemberSet.ids c.args.down.now) c.args.now.now c.args.target.now (sym c.is_joint.ensures ∙ c.if-is_joint.true) c.requires.other,
       ← c.now.view_is,
       ← c.in_ok-learners.ensures,
     )
@@ -25,7 +25,7 @@ pub returns : goal.returns
 returns g c =
     rw (
       path_by-single c.args.strategy (g.S.MemberSet.ids c.args.down.now) c.args.now.now c.args.target.now
-          (record { valid_with_voter = c.requires.now; single = sym c.is_joint.ensures ∙ c.if-is_joint.false }) (sym c.same.ensures.same ∙ c.if-same.false),
+          (record { valid_with_voter = c.requires.now; single = sym c.is_joint.ensures ∙ c.if-is_joint.false }) c.requires.other,
       ← c.now.view_is,
     )
     c.add_from_single_by-2.ensures

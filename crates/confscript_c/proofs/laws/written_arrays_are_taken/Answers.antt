@@ -1,11 +1,11 @@
 use Rattle.std.proofs.Common.{ap, ◌∙◌}
 use Rattle.std.proofs.lemmas.Bool.{and_from, and_parts}
 use Rattle.quorum_sets.specs.Ids.{ascending}
-use Rattle.conf_change.specs.Configuration.{is_valid, has_voter_or_is_empty}
+use Rattle.conf_change.specs.Configuration.{is_valid, has_voter_or_is_empty, member_ids}
 use Rattle.conf_change.specs.ConfState.{lists_of, restored}
 use Rattle.conf_change.specs.Transition.{step_of}
 use Rattle.conf_plan.specs.OnTheWay.{catching_up}
-use Rattle.confscript_c.specs.Numbers.{all_members, configuration_of, lists_in, numbers_of}
+use Rattle.confscript_c.specs.Numbers.{configuration_of, lists_in, numbers_of}
 use Rattle.confscript_c.proofs.ArraysRead.{has_form-array_of, lists_in-array_of, configuration_of-valid, IsRead-from_configuration_of, IsRestored-from_result, IsStepped-from_result}
 use Rattle.confscript_c.proofs.laws.written_arrays_are_taken.Goals as goal
 
@@ -32,7 +32,7 @@ returns-clause-after_restore c numbers out e =
     let is = IsRestored-from_result numbers out e in
     let d = is.c in
     let described = (c.restored_is_described.ensures (lists_in numbers) d).0 ((returns-clause-restored c numbers d).0 is.read).1 in
-    (d, is.read, ap configuration_of is.written ∙ returns-clause-again c d (all_members d) described.1)
+    (d, is.read, ap configuration_of is.written ∙ returns-clause-again c d (member_ids d) described.1)
 
 pub returns-clause-after_step : goal.returns-clause-after_step
 returns-clause-after_step c numbers out number changes e =

@@ -5,9 +5,9 @@ use Rattle.conf_change.specs.Configuration.{Configuration, is_valid, has_voter, 
 use Rattle.conf_change.specs.ConfState.{ConfStateLists, restored}
 use Rattle.conf_change.specs.ConfStateLine.{conf_state_in}
 use Rattle.conf_change.specs.Violation.{valid_of}
+use Rattle.conf_plan.specs.PathBy.{ids_down}
 use Rattle.conf_plan.specs.PlanCode.{path_in}
 use Rattle.conf_plan.specs.PlanText.{plan_text}
-use Rattle.plan_output.specs.Steps.{ids_down}
 use Rattle.confscript_c.specs.Applied.{applied}
 use Rattle.confscript_c.proofs.PlanLeads.{steps_result-run, IsRun-by, restored_of-from_line}
 use Rattle.confscript_c.proofs.planning.text_between.Goals as goal

@@ -40,7 +40,7 @@ loop-i-preserved c =
     let count = c.count-count.ensures in
     elim c.if-i-count.branch [
       | then-i-count+in_ok-extend_from_slice+in_ok-push w ↦ prefix-line lines i line before c.if-i-count.text.items c.loop-i.invariant is (let lt = w.if-i-count.true in omega (arith, lt, count))
-          (ap vec_items w.text-is ∙ w.in_ok-push.ensures.items ∙ ap (λ t. t ++ 32 ∷ []) (w.in_ok-extend_from_slice.ensures.items ∙ ap (λ t. before ++ t) (w.without_end.ensures ∙ ap (without_last 92) w.trimmed.ensures)))
+          (ap vec_items w.text-is ∙ w.in_ok-push.ensures.items ∙ ap (λ t. t ++ 32 ∷ []) (w.in_ok-extend_from_slice.ensures.items ∙ ap (λ t. before ++ t) (w.strip_last.ensures ∙ ap (without_last 92) w.trimmed.ensures)))
       | else-i-count+in_ok-extend_from_slice-2 w ↦ last-line lines i line before c.if-i-count.text.items c.loop-i.invariant is (let le = w.if-i-count.false in omega (arith, le, count))
           (ap vec_items w.text-is ∙ w.in_ok-extend_from_slice-2.ensures.items ∙ ap (λ t. before ++ t) w.trimmed-else-i-count.ensures)
     ]

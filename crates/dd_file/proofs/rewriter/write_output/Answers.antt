@@ -20,12 +20,12 @@ returns-in_err-write_all-3-clause-err g c =
     rw (p.1, ← c.requires) (breaks-found c.args.newlines c.args.double _ _ c.args.text.now
     (append-part _ (g.W.Sink.contents c.write_all.new.writer) _ _ _ (rw (c.before_output.ensures) at c.in_ok-write_all.ensures.ok)
     (append-part _ (g.W.Sink.contents c.write_all-2.new.writer) _ _ _ c.in_ok-write_all-2.ensures.ok
-    (rw (c.without_end.ensures, c.after_output-suffix.ensures) at c.in_err-write_all-3.ensures.err))))
+    (rw (c.strip_last.ensures, c.after_output-suffix.ensures) at c.in_err-write_all-3.ensures.err))))
 
 pub returns-clause-ok : goal.returns-clause-ok
 returns-clause-ok g c =
     rw (← c.requires) (continues-found c.args.newlines c.count_newlines.result c.count_newlines-2.result c.args.double _ _ c.args.text.now
     (appends-append _ (g.W.Sink.contents c.write_all.new.writer) _ _ _ (rw (c.before_output.ensures) at c.in_ok-write_all.ensures.ok)
     (appends-append _ (g.W.Sink.contents c.write_all-2.new.writer) _ _ _ c.in_ok-write_all-2.ensures.ok
-    (rw (c.without_end.ensures, c.after_output-suffix.ensures) at c.in_ok-write_all-3.ensures.ok)))
+    (rw (c.strip_last.ensures, c.after_output-suffix.ensures) at c.in_ok-write_all-3.ensures.ok)))
     c.count_newlines.ensures (rw (c.after_output-suffix.ensures) at c.count_newlines-2.ensures))

@@ -13,9 +13,9 @@ pub returns-in_err-write_all-clause-err : goal.returns-in_err-write_all-clause-e
 returns-in_err-write_all-clause-err g c =
     let p = err_from_is_err_and c.from_residual-in_err-write_all.result c.from_residual-in_err-write_all.ensures.1 in
     rw (p.1) (breaks-bytes _ _ _ _ (sym c.if-is_empty.ensures) (append-part _ (g.W.Sink.contents c.write_pending_newline.new.writer) _ _ _ c.in_ok-write_pending_newline.ensures.ok
-    (rw (c.without_end.ensures) at c.in_err-write_all.ensures.err)))
+    (rw (c.strip_last.ensures) at c.in_err-write_all.ensures.err)))
 
 pub returns-clause-ok : goal.returns-clause-ok
 returns-clause-ok g c = continues-bytes _ _ _ _ _ (sym c.if-is_empty.ensures)
-    (appends-append _ (g.W.Sink.contents c.write_pending_newline.new.writer) _ _ _ c.in_ok-write_pending_newline.ensures.ok (rw (c.without_end.ensures) at c.in_ok-write_all.ensures.ok))
+    (appends-append _ (g.W.Sink.contents c.write_pending_newline.new.writer) _ _ _ c.in_ok-write_pending_newline.ensures.ok (rw (c.strip_last.ensures) at c.in_ok-write_all.ensures.ok))
     c.count_newlines.ensures

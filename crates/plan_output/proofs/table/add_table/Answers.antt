@@ -1,5 +1,4 @@
 use Rattle.std.proofs.Common.{◌++◌, ap, ◌∙◌}
-use Rattle.std.proofs.lemmas.Result.{on_ok_weaker}
 use Rattle.std.specs.Prelude.{option_map, option_copied}
 use Rattle.quorum_sets.specs.Ids.{ascending}
 use Rattle.plan_output.specs.Table as spec
@@ -11,6 +10,6 @@ returns-clause-ok g c =
     let down = option_map g.S.MemberSet.ids (option_copied c.args.down) in
     let path = c.args.path.now in
     let table =
-    c.as_slice-2.ensures.value ∙ c.in_ok-table.ensures
-    ∙ ap (λ all. spec.table_of (ascending (ids_on_the_way all)) all path down) (c.as_slice.ensures.value ∙ c.in_ok-stages.ensures) in
-    on_ok_weaker c.append.result (λ is. is ∙ ap (λ text. c.args.text.now.items ++ text) table) c.append.ensures.ok
+    c.as_slice-3.ensures.value ∙ c.in_ok-table.ensures
+    ∙ ap (λ all. spec.table_of (ascending (ids_on_the_way all)) all path down) (c.as_slice-2.ensures.value ∙ c.in_ok-stages.ensures) in
+    c.in_ok-append.ensures.ok ∙ ap (λ text. c.args.text.now.items ++ text) table

@@ -16,7 +16,7 @@ loop-step-preserved g c =
     record {
       so_far = steps-more _ _ _ _ _ _ _ _ _ c.args.steps.now c.loop-step.step-index _ _ (slice_get-get_or _ _ _ c.loop-step-test.true ∙ ap Some (sym c.step-item.is)) c.in_ok-directive.ensures so_far.so_far
           c.in_ok-write_item.ensures.session c.in_ok-write_item.ensures.written;
-      ready = c.in_ok-write_item.ensures.stage;
+      ready = c.in_ok-write_item.ensures.expecting;
       unfailed = c.in_ok-write_item.ensures.write ∙ or-false _ ∙ so_far.unfailed;
     }
 

@@ -6,7 +6,7 @@ pub returns-then-eq : goal.returns-then-eq
 returns-then-eq g c = record {
   written = search rules;
   part = finishes-none _ _;
-  stage = search rules;
+  expecting = search rules;
   fault = search rules;
   again = search rules;
   failed = search rules;
@@ -17,7 +17,7 @@ pub returns-in-Ok : goal.returns-in-Ok
 returns-in-Ok g c = record {
   written = Finishes-from_last _ _ _ (rw (← c.self.view_is, ← c.last_newline.ensures) c.in-Ok.ensures.ok);
   part = search rules;
-  stage = search rules;
+  expecting = search rules;
   fault = search rules;
   again = search rules;
   failed = search rules;
@@ -28,7 +28,7 @@ pub returns-in-Err : goal.returns-in-Err
 returns-in-Err g c = record {
   written = search rules;
   part = finishes-part _ _ _ (rw (← c.self.view_is, ← c.last_newline.ensures) c.in-Err.ensures.err);
-  stage = search rules;
+  expecting = search rules;
   fault = search rules;
   again = search rules;
   failed = search rules;

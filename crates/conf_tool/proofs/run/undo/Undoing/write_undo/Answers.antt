@@ -24,7 +24,7 @@ returns-in_err-write_comment-in_default g c =
       written = tt;
       part = subst (λ text. BreaksOff c.args.self.now.rewriter.newlines (g.W.Sink.contents c.args.writer.now) (g.W.Sink.contents c.write_comment.new.writer) (answered_text c.args.self.now.session (comment text ∷ [])))
           (c.as_slice-in_default.ensures.value ∙ c.in_ok-text-in_default.ensures) fault.part;
-      stage = tt;
+      expecting = tt;
       write = fault.write;
       kinds = fault.kinds;
     })
@@ -38,7 +38,7 @@ returns-in_ok-write_comment-in_default g c =
       written = subst (λ (items : List Item). Continues c.args.self.now.rewriter.newlines c.write_comment.new.rewriter.newlines (g.W.Sink.contents c.args.writer.now) (g.W.Sink.contents c.write_comment.new.writer) (answered_text c.args.self.now.session items))
           (ap (λ text. comment text ∷ []) (c.as_slice-in_default.ensures.value ∙ c.in_ok-text-in_default.ensures) ∙ sym (ap undo_items refused)) wrote.written;
       part = tt;
-      stage = wrote.stage;
+      expecting = wrote.expecting;
       write = wrote.write;
       kinds = tt;
     }

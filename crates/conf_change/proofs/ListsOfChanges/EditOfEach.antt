@@ -1,0 +1,121 @@
+-- The edit of each id, one more change at a time.
+use Rattle.std.proofs.Common.{◌≡◌, ℕ, ◌+◌, ◌<◌, Bool, true, false, cond, not, ◌&&◌, ◌||◌, ◌==◌, List, [], ◌∷◌, ◌++◌, length, map, take, get_or, reverse, refl, sym, ap, subst, ◌∙◌, eqb-true, arith}
+use Rattle.std.specs.Prelude.{Option, Some, None, IfSome, option_map, is_some, find as first}
+use Rattle.std.specs.List.{list_any}
+use Rattle.std.specs.Ordering.{nat_cmp}
+use Rattle.std.specs.FinMap.{find}
+use Rattle.std.specs.List.Sorted.{IsStableByKey}
+use Rattle.std.proofs.lemmas.Bool.Decides.{nat_tests}
+use Rattle.std.proofs.lemmas.List.{take_more}
+use Rattle.quorum_sets.specs.Ids.{Ids, has}
+use Rattle.quorum_sets.specs.AscendingLists.{IsAscending}
+use Rattle.conf_change.specs.Change.{names, is_update, is_removal, last_effective, removes}
+use Rattle.conf_change.specs.Edits.{edit_of, with_change, AreEdits}
+use Rattle.conf_change.specs.declared.change.Change.{Change}
+use Rattle.conf_change.specs.declared.change.Kind.{Kind}
+use Rattle.conf_change.specs.declared.edit_list.Edit.{Edit}
+use Rattle.conf_change.proofs.ListsOfChanges.ResultOfEach.{last_effective-push, removes-push, is_some-last_effective}
+use Rattle.conf_change.proofs.ListsOfChanges.SortedById.{last_effective-sorted, removes-sorted}
+
+-- ---- what the changes make of an id
+-- an update is never the last effective change
+abbrev pub IsEffective : Option Kind → Type 0
+IsEffective last = IfSome last (λ kind. is_update kind ≡ false)
+
+effective_one : (b : Bool) (kind : Kind) (rest : Option Kind) → IsEffective rest → IsEffective (cond (b && not (is_update kind)) (Some kind) rest)
+effective_one b kind rest h = grind arith
+
+first-effective : (xs : List Change) (q : ℕ) → IsEffective (option_map (λ change. change.kind) (first (names q) xs))
+first-effective [] q = tt
+first-effective (x ∷ xs) q =
+    subst IsEffective (sym (of_cond (names q x) (first (names q) xs))) (effective_one ((x.id == q) && not (q == 0)) x.kind (option_map (λ change. change.kind) (first (names q) xs)) (first-effective xs q))
+  where
+    of_cond : (b : Bool) (o : Option Change) → option_map (λ change. change.kind) (cond b (Some x) o) ≡ cond b (Some x.kind) (option_map (λ change. change.kind) o)
+    of_cond b o = grind arith
+
+pub last-effective : (xs : List Change) (q : ℕ) → IsEffective (last_effective xs q)
+last-effective xs q = first-effective (reverse xs) q
+
+-- a removal is an effective change, but of the id 0
+removal-named : (xs : List Change) (q : ℕ) → (q == 0) ≡ false → removes xs q ≡ true → list_any (names q) xs ≡ true
+removal-named [] q apart e = e
+removal-named (x ∷ xs) q apart e = grind (arith, removal-named xs q apart)
+
+named_not_removed : (some removed : Bool) (last : Option Kind) → is_some last ≡ some → (removed ≡ true → some ≡ true) → last ≡ None → removed ≡ false
+named_not_removed some removed last e f none = grind arith
+
+pub removes-none : (xs : List Change) (q : ℕ) → (q == 0) ≡ false → last_effective xs q ≡ None → removes xs q ≡ false
+removes-none xs q apart none = named_not_removed (list_any (names q) xs) (removes xs q) (last_effective xs q) (is_some-last_effective xs q) (removal-named xs q apart) none
+
+first-zero : (xs : List Change) → first (names 0) xs ≡ None
+first-zero [] = refl
+first-zero (x ∷ xs) = grind (arith, first-zero xs)
+
+pub last_effective-zero : (xs : List Change) (q : ℕ) → (q == 0) ≡ true → last_effective xs q ≡ None
+last_effective-zero xs q zero = ap (λ n. last_effective xs n) (eqb-true q 0 zero) ∙ ap (option_map (λ change. change.kind)) (first-zero (reverse xs))
+
+-- ---- one more change
+abbrev pub edit_with : Bool → Bool → Option Kind → Option Edit
+edit_with removed outgoing last = option_map (λ kind. record { kind = kind; removed = removed; outgoing = outgoing }) last
+
+edit-more : (outgoing removed named zero : Bool) (kind : Kind) (last : Option Kind) → (zero ≡ true → last ≡ None) → (zero ≡ false → last ≡ None → removed ≡ false)
+    → (let says = named && not zero && not (is_update kind) in
+    edit_with (removed || (named && is_removal kind)) outgoing (cond says (Some kind) last) ≡ cond says (Some (with_change (edit_with removed outgoing last) kind outgoing)) (edit_with removed outgoing last))
+edit-more outgoing removed named zero kind last none apart = grind arith
+
+pub edit_of-push : (xs : List Change) (x : Change) (outgoing : Ids) (q : ℕ)
+    → edit_of (xs ++ x ∷ []) outgoing q ≡ cond (names q x) (Some (with_change (edit_of xs outgoing q) x.kind (has outgoing q))) (edit_of xs outgoing q)
+edit_of-push xs x outgoing q =
+    (λ i. edit_with (removes-push xs x q i) (has outgoing q) (last_effective-push xs x q i))
+    ∙ edit-more (has outgoing q) (removes xs q) (x.id == q) (q == 0) x.kind (last_effective xs q) (last_effective-zero xs q) (removes-none xs q)
+
+names-effective : (x : Change) (q : ℕ) → (not (x.id == 0) && not (is_update x.kind)) ≡ true → names q x ≡ (q == x.id)
+names-effective x q e = grind (arith, nat_tests)
+
+names-ineffective : (x : Change) (q : ℕ) → (not (x.id == 0) && not (is_update x.kind)) ≡ false → names q x ≡ false
+names-ineffective x q e = grind (arith, nat_tests)
+
+pub AreEdits-none : (outgoing : Ids) → AreEdits [] outgoing []
+AreEdits-none outgoing = record { ascends = λ i j lt within. absurd (omega arith); each = λ q. refl }
+
+-- an effective change is added to the edit of its id
+abbrev pub Adds : Change → Bool → List (ℕ × Edit) → List (ℕ × Edit) → Type 0
+Adds x outgoing before after = (q : ℕ) → find nat_cmp q after ≡ cond (q == x.id) (Some (with_change (find nat_cmp x.id before) x.kind outgoing)) (find nat_cmp q before)
+
+pub AreEdits-added : (changes : List Change) (k : ℕ) (d : Change) (outgoing : Ids) (is_outgoing : Bool) (before after : List (ℕ × Edit)) → k < length changes
+    → (let x = get_or changes k d in
+    (not (x.id == 0) && not (is_update x.kind)) ≡ true → is_outgoing ≡ has outgoing x.id → AreEdits (take k changes) outgoing before → IsAscending (map (λ e. e.0) after) → Adds x is_outgoing before after
+    → AreEdits (take (k + 1) changes) outgoing after)
+AreEdits-added changes k d outgoing is_outgoing before after within effective is so_far up adds =
+    rw (take_more changes k d within) (record { ascends = up; each = λ q. adds q ∙ by q (q == x.id) refl ∙ sym (edit_of-push xs x outgoing q) })
+  where
+    x : Change
+    x = get_or changes k d
+
+    xs : List Change
+    xs = take k changes
+
+    by : (q : ℕ) (b : Bool) → (q == x.id) ≡ b → cond b (Some (with_change (find nat_cmp x.id before) x.kind is_outgoing)) (find nat_cmp q before)
+        ≡ cond (names q x) (Some (with_change (edit_of xs outgoing q) x.kind (has outgoing q))) (edit_of xs outgoing q)
+    by q true e =
+        (λ i. Some (with_change ((so_far.each x.id ∙ ap (edit_of xs outgoing) (sym (eqb-true q x.id e))) i) x.kind ((is ∙ ap (has outgoing) (sym (eqb-true q x.id e))) i)))
+        ∙ ap (λ b. cond b (Some (with_change (edit_of xs outgoing q) x.kind (has outgoing q))) (edit_of xs outgoing q)) (sym (names-effective x q effective ∙ e))
+    by q false e = so_far.each q ∙ ap (λ b. cond b (Some (with_change (edit_of xs outgoing q) x.kind (has outgoing q))) (edit_of xs outgoing q)) (sym (names-effective x q effective ∙ e))
+
+pub AreEdits-passed : (changes : List Change) (k : ℕ) (d : Change) (outgoing : Ids) (edits : List (ℕ × Edit)) → k < length changes
+    → (let x = get_or changes k d in
+    (not (x.id == 0) && not (is_update x.kind)) ≡ false → AreEdits (take k changes) outgoing edits → AreEdits (take (k + 1) changes) outgoing edits)
+AreEdits-passed changes k d outgoing edits within ineffective so_far =
+    let x = get_or changes k d in
+    let xs = take k changes in
+    rw (take_more changes k d within) (record {
+      ascends = so_far.ascends;
+      each = λ q. so_far.each q ∙ ap (λ b. cond b (Some (with_change (edit_of xs outgoing q) x.kind (has outgoing q))) (edit_of xs outgoing q)) (sym (names-ineffective x q ineffective)) ∙ sym (edit_of-push xs x outgoing q);
+    })
+
+-- a stable sort by id leaves the edits
+pub AreEdits-sorted : (changes sorted : List Change) (outgoing : Ids) (edits : List (ℕ × Edit)) → IsStableByKey (λ x. x.id) nat_cmp changes sorted → AreEdits sorted outgoing edits → AreEdits changes outgoing edits
+AreEdits-sorted changes sorted outgoing edits stable are = record {
+  ascends = are.ascends;
+  each = λ q. are.each q ∙ (λ i. edit_with (removes-sorted changes sorted stable q i) (has outgoing q) (last_effective-sorted changes sorted stable q i));
+}

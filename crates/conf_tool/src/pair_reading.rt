@@ -1,0 +1,120 @@
+//! The texts of which the mode `plan` makes its pairs.
+ghost use Rattle.std.specs.Prelude.{◌≡◌, true, Ok, IfOk, IfErr};
+ghost use Rattle.conf_change.specs.Configuration.{is_valid};
+ghost use Rattle.plan_input.specs.Input.{target_in};
+ghost use Rattle.conf_tool.specs.Pairs as spec;
+ghost use Rattle.conf_tool.specs.Pairs.{is_skipped, strategy_from, current_written, pair_from, written_at, IsFaultOf};
+
+use crate::origin::Origin;
+use crate::pair::{Current, Pair};
+use crate::plan_input_fault::PlanInputFault;
+use crate::plan_options::PlanOptions;
+use crate::tool_fault::ToolFault;
+use ascii_text::white_space::{is_blank, trimmed};
+use conf_change::Config;
+use conf_plan::Strategy;
+use conf_session::SessionIds;
+use plan_input::{TextFault, is_member_list, read_current, read_target, stranger_of};
+use quorum_sets::NoMemory;
+use std::alloc::Global;
+
+/// Whether the line is blank or a comment, as in a script.
+pub(crate) fn is_skipped(line: &[u8]) -> bool
+    ensures { result ≡ is_skipped line.now }
+{
+    is_blank(line) || trimmed(line).starts_with(b"#")
+}
+
+/// The current configuration in the text that is written there, with the strategy of the plan from it.
+pub(crate) fn current_of(
+    alloc: Global,
+    options: &PlanOptions,
+    origin: Origin,
+    text: &[u8],
+) -> Result<Current, ToolFault>
+    ensures current { IfOk result (λ current. current_written options.now origin text.now ≡ Ok current) }
+    ensures valid { IfOk result (λ current. is_valid current.config ≡ true) }
+    ensures fault { IfErr result (IsFaultOf (current_written options.now origin text.now)) }
+{
+    match read_current(alloc, text) {
+        Ok(config) => {
+            let strategy = strategy_from(alloc, options.strategy, text)?;
+            Ok(Current {
+                origin,
+                config,
+                strategy,
+            })
+        }
+        Err(TextFault::NoMemory) => Err(ToolFault::NoMemory),
+        Err(fault) => Err(ToolFault::Configurations(PlanInputFault::BadText(origin, fault))),
+    }
+}
+
+// The strategy of the plan from a configuration that is written so: the one that is given, or else one-at-a-time for a
+// list of members as etcdctl prints it, and shortest for any other text.
+fn strategy_from(alloc: Global, given: Option<Strategy>, text: &[u8]) -> Result<Strategy, NoMemory>
+    ensures { IfOk result (λ strategy. strategy ≡ strategy_from given text.now) }
+{
+    if let Some(strategy) = given {
+        return Ok(strategy);
+    }
+    if is_member_list(alloc, text)? {
+        Ok(Strategy::OneAtATime)
+    } else {
+        Ok(Strategy::Shortest)
+    }
+}
+
+/// The pair of a current configuration and the target in the text that is written there.
+pub(crate) fn pair_of(
+    alloc: Global,
+    options: &PlanOptions,
+    current: Current,
+    origin: Origin,
+    text: &[u8],
+) -> Result<Pair, ToolFault>
+    requires { is_valid current.config ≡ true }
+    ensures pair { IfOk result (λ pair. pair_from options.now origin text.now current ≡ Ok pair) }
+    ensures valid_now { IfOk result (λ pair. is_valid pair.current ≡ true) }
+    ensures valid_target { IfOk result (λ pair. is_valid pair.target ≡ true) }
+    ensures fault { IfErr result (IsFaultOf (pair_from options.now origin text.now current)) }
+{
+    let target = target_of(alloc, origin, &current.config, text)?;
+    match stranger_of(options.down.as_ref(), &current.config, &target) {
+        Some(id) => Err(ToolFault::Configurations(not_member(origin, id))),
+        None => Ok(Pair {
+            current: current.config,
+            target,
+            strategy: current.strategy,
+        }),
+    }
+}
+
+// The target in the text that is written there.
+fn target_of(
+    alloc: Global,
+    origin: Origin,
+    now: &Config<SessionIds>,
+    text: &[u8],
+) -> Result<Config<SessionIds>, ToolFault>
+    requires { is_valid now.now ≡ true }
+    ensures configuration { IfOk result (λ c. written_at origin (target_in now.now text.now) ≡ Ok c) }
+    ensures valid { IfOk result (λ c. is_valid c ≡ true) }
+    ensures fault { IfErr result (IsFaultOf (written_at origin (target_in now.now text.now))) }
+{
+    match read_target(alloc, now, text) {
+        Ok(config) => Ok(config),
+        Err(TextFault::NoMemory) => Err(ToolFault::NoMemory),
+        Err(fault) => Err(ToolFault::Configurations(PlanInputFault::BadText(origin, fault))),
+    }
+}
+
+// The error that an id is down and not a member: in the line of the target, or on the command line.
+fn not_member(origin: Origin, id: u64) -> PlanInputFault
+    ensures { result ≡ spec.not_member origin id }
+{
+    match origin {
+        Origin::Line(line) => PlanInputFault::NotAMemberAt(line, id),
+        Origin::From | Origin::To => PlanInputFault::NotAMember(id),
+    }
+}

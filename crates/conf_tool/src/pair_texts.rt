@@ -1,8 +1,0 @@
-//! A pair of configurations on the command line.
-
-/// The values of `--from` and `--to`: the current configuration and the target.
-#[derive(Clone, Copy)]
-pub struct PairTexts<'a> {
-    pub from: &'a str,
-    pub to: &'a str,
-}
