@@ -1,6 +1,7 @@
 /*
  * Times the calls of the library with numbers, beside a plain sort and a plain count in C. Prints a row for each, the
- * least of nine rounds, in nanoseconds a call. bench/calls builds it.
+ * least of nine rounds, in nanoseconds a call. The values of 64 rows come again and again, so that the processor learns
+ * which way their branches go; it cannot learn those of 4,096 rows. bench/calls builds it.
  */
 #define _POSIX_C_SOURCE 199309L
 #include <stdio.h>
@@ -10,8 +11,8 @@
 
 #include "confscript.h"
 
-enum { ROWS = 64, MOST = 11, ROUNDS = 9, CALLS = 200000 };
-static uint64_t indexes[ROWS][MOST], none[1];
+enum { ROWS = 4096, FEW_ROWS = 64, MOST = 11, ROUNDS = 9, CALLS = 50000 };
+static uint64_t indexes[ROWS][MOST];
 static uint8_t votes[ROWS][MOST];
 static size_t voters;
 static volatile uint64_t sum;
@@ -29,9 +30,7 @@ static uint64_t random_number(void) {
 }
 
 static void committed(int row) {
-    uint64_t copy[MOST];
-    memcpy(copy, indexes[row], sizeof copy);
-    sum += confscript_committed(copy, voters, none, 0);
+    sum += confscript_committed(indexes[row], voters, NULL, 0);
 }
 
 static void plain_committed(int row) {
@@ -47,7 +46,7 @@ static void plain_committed(int row) {
 }
 
 static void vote(int row) {
-    sum += confscript_vote(votes[row], voters, votes[row], 0).number;
+    sum += confscript_vote(votes[row], voters, NULL, 0).number;
 }
 
 static void plain_vote(int row) {
@@ -78,11 +77,17 @@ static void restore(int row) {
     sum += confscript_restore(five, 11, out, 32).number + (uint64_t)row;
 }
 
-static double least(void (*call)(int)) {
+/* A member is replaced. */
+static void stages(int row) {
+    uint64_t target[] = {0, 5, 0, 0, 0, 0, 2, 3, 4, 5, 6 + (uint64_t)row}, out[128];
+    sum += confscript_stages(five, 11, target, 11, CONFSCRIPT_STRATEGY_SHORTEST, NULL, 0, out, 128).number;
+}
+
+static double least(void (*call)(int), int rows) {
     double best = 1e9;
     for (int round = 0; round < ROUNDS; round++) {
         double begin = seconds();
-        for (int i = 0; i < CALLS; i++) call(i % ROWS);
+        for (int i = 0; i < CALLS; i++) call(i % rows);
         double taken = (seconds() - begin) / CALLS;
         if (taken < best) best = taken;
     }
@@ -90,20 +95,18 @@ static double least(void (*call)(int)) {
 }
 
 static void many(size_t n) {
-    uint64_t *given = malloc(n * sizeof *given), *copy = malloc(n * sizeof *copy);
-    if (!given || !copy) exit(1);
+    uint64_t *given = malloc(n * sizeof *given);
+    if (!given) exit(1);
     double best = 1e9;
     for (size_t i = 0; i < n; i++) given[i] = random_number();
     for (int round = 0; round < ROUNDS; round++) {
-        memcpy(copy, given, n * sizeof *copy);
         double begin = seconds();
-        sum += confscript_committed(copy, n, none, 0);
+        sum += confscript_committed(given, n, NULL, 0);
         double taken = seconds() - begin;
         if (taken < best) best = taken;
     }
     printf("committed, %zu voters: %.0f microseconds\n", n, best * 1e6);
     free(given);
-    free(copy);
 }
 
 int main(void) {
@@ -113,10 +116,13 @@ int main(void) {
             votes[row][i] = indexes[row][i] % 3;
         }
     for (voters = 1; voters <= MOST; voters += 2)
-        printf("%2zu voters: committed %.0f, plain %.0f; vote %.0f, plain %.0f\n", voters, least(committed),
-               least(plain_committed), least(vote), least(plain_vote));
-    printf("five voters: simple step %.0f, entering step %.0f, restore %.0f\n", least(simple_step), least(entering_step),
-           least(restore));
-    for (size_t n = 1000; n <= 1000000; n *= 10) many(n);
+        printf("%2zu voters: committed %.0f, plain %.0f; vote %.0f, plain %.0f\n", voters, least(committed, FEW_ROWS),
+               least(plain_committed, FEW_ROWS), least(vote, FEW_ROWS), least(plain_vote, FEW_ROWS));
+    for (voters = 3; voters <= 7; voters += 2)
+        printf("%2zu voters, other values each time: committed %.0f, plain %.0f\n", voters, least(committed, ROWS),
+               least(plain_committed, ROWS));
+    printf("five voters: simple step %.0f, entering step %.0f, restore %.0f, stages %.0f\n", least(simple_step, FEW_ROWS),
+           least(entering_step, FEW_ROWS), least(restore, FEW_ROWS), least(stages, FEW_ROWS));
+    for (size_t n = 100; n <= 10000; n *= 10) many(n);
     return 0;
 }

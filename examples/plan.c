@@ -31,7 +31,7 @@ int main(void) {
     printf("%.*s\n", (int)applied.number, (const char *)after);
 
     /* 2 has acknowledged the index 9, 3 the index 7, and 5 none yet. The configuration is not joint. */
-    uint64_t acknowledged[] = {9, 7, 0};
+    const uint64_t acknowledged[] = {9, 7, 0};
     printf("committed %llu\n", (unsigned long long)confscript_committed(acknowledged, 3, NULL, 0));
     return 0;
 }

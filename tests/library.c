@@ -93,8 +93,8 @@ static struct confscript_answer may_be_down(void) {
     return confscript_may_be_down(incoming, incoming_len, outgoing, outgoing_len, ids, ids_len);
 }
 
-static uint64_t configuration[ROOM], numbers[ROOM];
-static size_t configuration_len, numbers_room = ROOM;
+static uint64_t configuration[ROOM], target[ROOM], numbers[ROOM];
+static size_t configuration_len, target_len, numbers_room = ROOM;
 static uint32_t kind;
 static struct confscript_change changes[64];
 static size_t changes_len;
@@ -104,6 +104,9 @@ static struct confscript_answer restore(void) {
 }
 static struct confscript_answer step(void) {
     return confscript_step(configuration, configuration_len, kind, changes, changes_len, numbers, numbers_room);
+}
+static struct confscript_answer stages(void) {
+    return confscript_stages(configuration, configuration_len, target, target_len, strategy, down, down_len, numbers, numbers_room);
 }
 
 static uint32_t code;
@@ -141,8 +144,11 @@ static int holds_numbers(const uint64_t *expected, size_t len) {
     return 1;
 }
 
-/* Expects this answer and these numbers of a call. `allocates` says whether it takes memory; if it does, it has to
-   return NO_MEMORY as long as one of its allocations is refused. */
+/* Whether a call takes memory. */
+enum { NEVER = 0, ALWAYS = 1 };
+
+/* Expects this answer and these numbers of a call, and NO_MEMORY as long as one of its allocations is refused. `allocates`
+   says whether it takes memory. */
 static void expect_numbers(const char *name, call which, int allocates, uint32_t status, uint64_t number, const uint64_t *expected, size_t len) {
     struct confscript_answer got;
     long granted = 0;
@@ -364,7 +370,7 @@ static void applies(void) {
     on_texts(one, "nothing to do\n");
     expect("apply: nothing to do", apply, CONFSCRIPT_STATUS_DONE, strlen(one), one);
     on_texts(none, "simple v1\n");
-    expect("apply: from nobody", apply, CONFSCRIPT_STATUS_DONE, strlen(one), one);
+    expect("apply: from the empty configuration", apply, CONFSCRIPT_STATUS_DONE, strlen(one), one);
     on_texts("", "simple v1\n");
     expect("apply: no line", apply, CONFSCRIPT_STATUS_BAD_CONF_STATE, 1, "");
     on_texts(LINE("1", "2", "2", "", "false"), "simple v1\n");
@@ -416,15 +422,23 @@ static void checks(void) {
     expect("check: auto-leave, not joint", check, CONFSCRIPT_STATUS_NOT_JOINT_BUT_AUTO_LEAVE, 0, "");
 }
 
-/* Expects a committed index, takes no memory for it, and leaves the indexes of both sets, in any order. */
+/* Expects a committed index, without taking memory. The indexes of both sets stay as they are. */
 static void commits(const char *name, uint64_t index) {
-    uint64_t sums[2] = {0, 0}, left_sums[2] = {0, 0};
-    for (size_t i = 0; i < incoming_len; i++) sums[0] += incoming[i] * (incoming[i] | 1);
-    for (size_t i = 0; i < outgoing_len; i++) sums[1] += outgoing[i] * (outgoing[i] | 1);
+    uint64_t before[2][16];
+    memcpy(before[0], incoming, sizeof incoming);
+    memcpy(before[1], outgoing, sizeof outgoing);
     struct confscript_answer got = called(committed, 0);
-    for (size_t i = 0; i < incoming_len; i++) left_sums[0] += incoming[i] * (incoming[i] | 1);
-    for (size_t i = 0; i < outgoing_len; i++) left_sums[1] += outgoing[i] * (outgoing[i] | 1);
-    report(name, got.number == index && memcmp(sums, left_sums, sizeof sums) == 0, got);
+    int are_kept = memcmp(before[0], incoming, sizeof incoming) == 0 && memcmp(before[1], outgoing, sizeof outgoing) == 0;
+    report(name, got.number == index && are_kept, got);
+}
+
+/* Indexes that cannot be written, of both sets at once. */
+static void commits_constants(void) {
+    static const uint64_t indexes[] = {9, 0, 7, 5, 6};
+    struct confscript_answer got = {CONFSCRIPT_STATUS_DONE, confscript_committed(indexes, 5, indexes, 5)};
+    report("committed: constants, in both sets", got.number == 6, got);
+    got.number = confscript_committed(indexes, 3, indexes + 1, 4);
+    report("committed: sets that overlap", got.number == 5, got);
 }
 
 /* Expects the result of a vote, and takes no memory for it. */
@@ -433,11 +447,11 @@ static void votes(const char *name, uint32_t status, uint64_t number) {
     report(name, got.status == status && got.number == number, got);
 }
 
-enum { MANY = 100001 };
+enum { MANY = 10001 };
 static uint64_t many[MANY];
 static uint8_t many_votes[MANY];
 
-/* 100,001 voters, whose indexes are first in descending order, then all the same. */
+/* Many voters, whose indexes are first in descending order, then all the same. */
 static void many_voters(void) {
     for (size_t i = 0; i < MANY; i++) many[i] = MANY - i;
     struct confscript_answer got = {CONFSCRIPT_STATUS_DONE, confscript_committed(many, MANY, outgoing, 0)};
@@ -480,6 +494,7 @@ static void quorums(void) {
     commits("committed: both of two", 2);
     SET(incoming, UINT64_MAX, 1, UINT64_MAX);
     commits("committed: the greatest index", UINT64_MAX);
+    commits_constants();
 
     incoming_votes_len = outgoing_votes_len = 0;
     votes("vote: no voters", CONFSCRIPT_STATUS_DONE, CONFSCRIPT_VOTE_WON);
@@ -522,16 +537,16 @@ static void quorums(void) {
     outgoing_len = ids_len = 0;
     expect("may be down: an id that is listed twice counts once", may_be_down, CONFSCRIPT_STATUS_DONE, 1, "");
     incoming_len = 0;
-    expect("may be down: nobody votes", may_be_down, CONFSCRIPT_STATUS_NO_QUORUM, 0, "");
+    expect("may be down: no voters", may_be_down, CONFSCRIPT_STATUS_NO_QUORUM, 0, "");
 }
 
 #define NUMBERS(...) (const uint64_t[]){__VA_ARGS__}, sizeof((uint64_t[]){__VA_ARGS__}) / sizeof(uint64_t)
 #define GIVEN(...) (configuration_len = set(configuration, sizeof((uint64_t[]){__VA_ARGS__}) / sizeof(uint64_t), (const uint64_t[]){__VA_ARGS__}))
 
 /* Expects that a call with numbers writes these, without taking memory. */
-#define WRITES(name, which, ...) expect_numbers(name, which, 0, CONFSCRIPT_STATUS_DONE, sizeof((uint64_t[]){__VA_ARGS__}) / sizeof(uint64_t), NUMBERS(__VA_ARGS__))
+#define WRITES(name, which, ...) expect_numbers(name, which, NEVER, CONFSCRIPT_STATUS_DONE, sizeof((uint64_t[]){__VA_ARGS__}) / sizeof(uint64_t), NUMBERS(__VA_ARGS__))
 /* Expects that it is refused. */
-#define REFUSED(name, which, status, number) expect_numbers(name, which, 0, status, number, NULL, 0)
+#define REFUSED(name, which, status, number) expect_numbers(name, which, NEVER, status, number, NULL, 0)
 
 static void restores(void) {
     GIVEN(0, 3, 0, 1, 0, 0, 3, 1, 2, 4);
@@ -576,9 +591,9 @@ static void restores(void) {
     GIVEN(0, 0, 0, 1, 0, 0, 5);
     REFUSED("restore: a learner and no voter", restore, CONFSCRIPT_STATUS_NO_VOTER, 0);
     GIVEN(0, 4, 2, 0, 0, 0, 1, 3, 3, 1, 2, 2);
-    expect_numbers("restore: an id twice", restore, 1, CONFSCRIPT_STATUS_REPEATED_ID, 1, NULL, 0);
+    expect_numbers("restore: an id twice", restore, ALWAYS, CONFSCRIPT_STATUS_REPEATED_ID, 1, NULL, 0);
     GIVEN(0, 9, 0, 0, 0, 0, 9, 8, 7, 6, 5, 4, 3, 2, 1);
-    expect_numbers("restore: nine voters", restore, 1, CONFSCRIPT_STATUS_DONE, 24, NUMBERS(0, 9, 0, 0, 0, 9, 1, 2, 3, 4, 5, 6, 7, 8, 9, 1, 2, 3, 4, 5, 6, 7, 8, 9));
+    expect_numbers("restore: nine voters", restore, ALWAYS, CONFSCRIPT_STATUS_DONE, 24, NUMBERS(0, 9, 0, 0, 0, 9, 1, 2, 3, 4, 5, 6, 7, 8, 9, 1, 2, 3, 4, 5, 6, 7, 8, 9));
 }
 
 enum { VOTER = CONFSCRIPT_CHANGE_VOTER, REMOVE = CONFSCRIPT_CHANGE_REMOVE, UPDATE = CONFSCRIPT_CHANGE_UPDATE, LEARNER = CONFSCRIPT_CHANGE_LEARNER };
@@ -640,7 +655,7 @@ static void accepted_steps(void) {
     for (uint64_t id = 50; id > 10; id--) changes[changes_len++] = (struct confscript_change){LEARNER, id};
     for (uint64_t i = 0; i < 40; i++) expected[7 + i] = expected[48 + i] = 11 + i;
     expected[47] = 1;
-    expect_numbers("step: many changes", step, 1, CONFSCRIPT_STATUS_DONE, 88, expected, 88);
+    expect_numbers("step: many changes", step, ALWAYS, CONFSCRIPT_STATUS_DONE, 88, expected, 88);
 }
 
 static void refused_steps(void) {
@@ -673,6 +688,152 @@ static void refused_steps(void) {
     REFUSED("step: no configuration", step, CONFSCRIPT_STATUS_DIFFERENT_LENGTHS, 0);
     GIVEN(0, 2, 0, 1, 0, 0, 1, 2, 2);
     REFUSED("step: not a valid configuration", step, CONFSCRIPT_STATUS_LEARNER_AND_VOTER, 2);
+}
+
+#define TARGET(...) SET(target, __VA_ARGS__)
+#define DOWN(...) SET(down, __VA_ARGS__)
+/* Expects these stages, or that they are refused. */
+#define STAGES(name, ...) expect_numbers(name, stages, ALWAYS, CONFSCRIPT_STATUS_DONE, sizeof((uint64_t[]){__VA_ARGS__}) / sizeof(uint64_t), NUMBERS(__VA_ARGS__))
+#define NO_STAGES(name, status, number) expect_numbers(name, stages, NEVER, status, number, NULL, 0)
+/* What the header writes for its example. */
+#define EXAMPLE 0, 2,  0, 1, 1, 0, 1,  3, 4,  0, 3, 0, 1, 0, 1,  1, 2, 3,  4,  4,  0, 1, 1, 0, 1,  0, 4,  0, 4, 0, 0, 0, 0,  1, 2, 3, 4
+#define STALLED CONFSCRIPT_STAGE_NO_QUORUM
+
+static void planned_stages(void) {
+    GIVEN(0, 3, 0, 0, 0, 0, 3, 1, 2);
+    TARGET(0, 4, 0, 0, 0, 2, 4, 3, 2, 1, 7, 7);
+    DOWN(3);
+    strategy = CONFSCRIPT_STRATEGY_LEARNERS_FIRST;
+    STAGES("stages: the example of the header", EXAMPLE);
+    numbers_room = 37;
+    STAGES("stages: they just fit", EXAMPLE);
+    numbers_room = 36;
+    expect_numbers("stages: one number too small", stages, ALWAYS, CONFSCRIPT_STATUS_TOO_SMALL, 37, NULL, 0);
+    numbers_room = 0;
+    expect_numbers("stages: no room", stages, ALWAYS, CONFSCRIPT_STATUS_TOO_SMALL, 37, NULL, 0);
+    numbers_room = ROOM;
+    down_len = 0;
+    STAGES("stages: no ids down", 0, 2,
+           0, 1, 1, 1, 1, LEARNER, 4, 0, 3, 0, 1, 0, 1, 1, 2, 3, 4, 4,
+           0, 1, 1, 1, 1, VOTER, 4, 0, 4, 0, 0, 0, 0, 1, 2, 3, 4);
+    DOWN(4, 2, 4);
+    STAGES("stages: a plan that stalls at its end", 1, 2,
+           0, 1, 1, 0, 1, LEARNER, 4, 0, 3, 0, 1, 0, 1, 1, 2, 3, 4, 4,
+           0, 1, 1, STALLED, 1, VOTER, 4, 0, 4, 0, 0, 0, 0, 1, 2, 3, 4);
+    strategy = CONFSCRIPT_STRATEGY_SHORTEST;
+    down_len = 0;
+    TARGET(0, 3, 0, 0, 0, 0, 1, 2, 3);
+    STAGES("stages: nothing to do", 0, 0);
+    DOWN(1);
+    STAGES("stages: nothing to do, with a quorum up", 0, 0);
+    DOWN(1, 2);
+    STAGES("stages: nothing to do, without a quorum", 1, 0);
+    down_len = 0;
+    GIVEN(0, 1, 0, 0, 0, 0, 1);
+    TARGET(0, 1, 0, 0, 0, 0, 2);
+    STAGES("stages: a joint configuration that is left later, with a new voter", 0, 2,
+           CONFSCRIPT_STEP_EXPLICIT, 0, STALLED, STALLED, 2, REMOVE, 1, VOTER, 2, 0, 1, 1, 0, 0, 1, 2, 1, 2,
+           CONFSCRIPT_STEP_AUTO, 0, 0, 0, 0, 0, 1, 0, 0, 0, 0, 2);
+    TARGET(1, 2, 1, 0, 0, 0, 1, UINT64_MAX, 1);
+    STAGES("stages: a joint configuration that is left automatically", 0, 1,
+           CONFSCRIPT_STEP_IMPLICIT, 0, STALLED, STALLED, 1, VOTER, UINT64_MAX, 1, 2, 1, 0, 0, 1, 1, UINT64_MAX, 1, UINT64_MAX);
+    TARGET(0, 1, 1, 0, 0, 0, 1, 1);
+    STAGES("stages: a joint configuration of the same voters", 0, 1, CONFSCRIPT_STEP_EXPLICIT, 0, 0, 0, 1, UPDATE, 1, 0, 1, 1, 0, 0, 0, 1, 1);
+    TARGET(0, 1, 0, 2, 0, 0, 1, 3, 2);
+    STAGES("stages: a simple step of two changes", 0, 2,
+           CONFSCRIPT_STEP_AUTO, 0, 0, 0, 1, LEARNER, 2, 0, 1, 0, 1, 0, 1, 1, 2, 2,
+           CONFSCRIPT_STEP_AUTO, 0, 0, 0, 1, LEARNER, 3, 0, 1, 0, 2, 0, 1, 1, 2, 3, 3);
+}
+
+/* Each refusal, with those that come after it. */
+static void refused_stages(void) {
+    configuration_len = target_len = 0;
+    strategy = 3;
+    DOWN(1, 0);
+    NO_STAGES("stages: no such strategy", CONFSCRIPT_STATUS_BAD_STRATEGY, 0);
+    strategy = UINT32_MAX;
+    NO_STAGES("stages: the greatest number of a strategy", CONFSCRIPT_STATUS_BAD_STRATEGY, 0);
+    strategy = CONFSCRIPT_STRATEGY_ONE_AT_A_TIME;
+    NO_STAGES("stages: the id 0 is down", CONFSCRIPT_STATUS_ZERO_ID, 0);
+    DOWN(9, 7, 1);
+    NO_STAGES("stages: no numbers", CONFSCRIPT_STATUS_DIFFERENT_LENGTHS, 0);
+    GIVEN(2, 0, 0, 0, 0, 0);
+    NO_STAGES("stages: no flag", CONFSCRIPT_STATUS_DIFFERENT_LENGTHS, 0);
+    GIVEN(0, 0, 0, 2, 0, 0, 5, 5);
+    expect_numbers("stages: an id twice", stages, ALWAYS, CONFSCRIPT_STATUS_REPEATED_ID, 5, NULL, 0);
+    GIVEN(0, 0, 0, 1, 0, 0, 0);
+    NO_STAGES("stages: the id 0", CONFSCRIPT_STATUS_ZERO_ID, 0);
+    GIVEN(0, 1, 1, 0, 1, 0, 1, 2, 3);
+    NO_STAGES("stages: next, not outgoing", CONFSCRIPT_STATUS_NEXT_NOT_OUTGOING, 3);
+    GIVEN(0, 1, 1, 0, 1, 0, 1, 1, 1);
+    NO_STAGES("stages: next and incoming", CONFSCRIPT_STATUS_NEXT_AND_INCOMING, 1);
+    GIVEN(0, 1, 0, 1, 0, 0, 1, 1);
+    NO_STAGES("stages: learner and voter", CONFSCRIPT_STATUS_LEARNER_AND_VOTER, 1);
+    GIVEN(1, 0, 0, 0, 0, 0);
+    NO_STAGES("stages: auto-leave, not joint", CONFSCRIPT_STATUS_NOT_JOINT_BUT_AUTO_LEAVE, 0);
+    GIVEN(0, 0, 0, 1, 0, 0, 1);
+    NO_STAGES("stages: no numbers of the target", CONFSCRIPT_STATUS_DIFFERENT_LENGTHS, 0);
+    TARGET(0, 1, 0, 1, 0, 0, 4, 4);
+    NO_STAGES("stages: learner and voter of the target", CONFSCRIPT_STATUS_LEARNER_AND_VOTER, 4);
+    TARGET(0, 0, 0, 0, 0, 1, 7);
+    NO_STAGES("stages: ids are down that are not members", CONFSCRIPT_STATUS_DOWN_NOT_A_MEMBER, 7);
+    DOWN(1);
+    NO_STAGES("stages: the first has no voter", CONFSCRIPT_STATUS_NO_VOTER, 1);
+    GIVEN(0, 1, 0, 0, 0, 0, 1);
+    NO_STAGES("stages: the second has no voter", CONFSCRIPT_STATUS_NO_VOTER, 2);
+    TARGET(0, 1, 1, 0, 0, 0, 2, 1);
+    NO_STAGES("stages: one at a time into a joint configuration", CONFSCRIPT_STATUS_JOINT_TARGET, 0);
+    GIVEN(0, 1, 1, 0, 0, 0, 2, 1);
+    down_len = 0;
+    STAGES("stages: one at a time from a joint configuration to itself", 0, 0);
+    strategy = CONFSCRIPT_STRATEGY_SHORTEST;
+}
+
+/* Makes the steps of the stages that are in `planned` from the configuration: each has to lead to that of its stage. Leaves
+   the last one in `configuration`. */
+static int stages_lead(const uint64_t *planned) {
+    const uint64_t *at = planned + CONFSCRIPT_STAGES_FIRST;
+    for (uint64_t i = 0; i < planned[CONFSCRIPT_STAGES_COUNT]; i++) {
+        const uint64_t *change = at + CONFSCRIPT_STAGE_FIRST_CHANGE;
+        kind = (uint32_t)at[CONFSCRIPT_STAGE_TRANSITION];
+        changes_len = at[CONFSCRIPT_STAGE_CHANGES];
+        for (size_t k = 0; k < changes_len; k++, change += 2) changes[k] = (struct confscript_change){(uint32_t)change[0], change[1]};
+        struct confscript_answer got = called(step, -1);
+        if (got.status != CONFSCRIPT_STATUS_DONE || memcmp(numbers, change, got.number * sizeof *numbers) != 0) return 0;
+        at = change + got.number;
+        go_on();
+    }
+    return 1;
+}
+
+/* Plans in numbers from each configuration to each other one by each strategy, and makes the steps of the stages: the
+   result has to be the other one. */
+static void stage_rounds(void) {
+    static const uint64_t states[][16] = {
+        {7, 0, 1, 0, 0, 0, 0, 1},
+        {10, 0, 3, 0, 1, 0, 0, 1, 2, 3, 4},
+        {11, 1, 2, 3, 0, 0, 0, 3, 4, 1, 2, 3},
+        {15, 0, 3, 4, 1, 1, 0, 1, 2, 3, 1, 2, 4, 6, 5, 4},
+        {10, 0, 2, 0, 2, 0, 0, 7, UINT64_MAX, 1, 2},
+    };
+    size_t n = sizeof states / sizeof *states;
+    down_len = 0;
+    for (strategy = CONFSCRIPT_STRATEGY_SHORTEST; strategy <= CONFSCRIPT_STRATEGY_ONE_AT_A_TIME; strategy++)
+    for (size_t i = 0; i < n; i++) for (size_t k = 0; k < n; k++) {
+        uint64_t planned[ROOM];
+        char name[64];
+        configuration_len = set(configuration, states[i][0], states[i] + 1);
+        target_len = set(target, states[k][0], states[k] + 1);
+        struct confscript_answer got = called(stages, -1);
+        snprintf(name, sizeof name, "round: stages from %zu to %zu by %u", i, k, (unsigned)strategy);
+        int is_joint = target[CONFSCRIPT_PART_OUTGOING] > 0;
+        if (strategy == CONFSCRIPT_STRATEGY_ONE_AT_A_TIME && is_joint && i != k) { report(name, got.status == CONFSCRIPT_STATUS_JOINT_TARGET, got); continue; }
+        memcpy(planned, numbers, sizeof planned);
+        int do_lead = got.status == CONFSCRIPT_STATUS_DONE && stages_lead(planned);
+        configuration[CONFSCRIPT_PART_FRESH] = 0;
+        report(name, do_lead && memcmp(configuration, target, target_len * sizeof *target) == 0, got);
+    }
+    strategy = CONFSCRIPT_STRATEGY_SHORTEST;
 }
 
 /* Whether a call just fits into the room of the header's macro, and not into one number less. */
@@ -770,6 +931,10 @@ static struct confscript_answer null_step(void) {
 static struct confscript_answer null_room(void) {
     return confscript_step(configuration, configuration_len, kind, changes, changes_len, NULL, 0);
 }
+static struct confscript_answer null_stages(void) { return confscript_stages(NULL, 0, NULL, 0, strategy, NULL, 0, NULL, 0); }
+static struct confscript_answer null_room_of_stages(void) {
+    return confscript_stages(configuration, configuration_len, configuration, configuration_len, strategy, NULL, 0, NULL, 0);
+}
 static struct confscript_answer null_may_be_down(void) { return confscript_may_be_down(NULL, 0, NULL, 0, NULL, 0); }
 static struct confscript_answer null_uncounted(void) { return confscript_may_be_down(incoming, incoming_len, NULL, 0, NULL, 0); }
 static struct confscript_answer null_status_text(void) { return confscript_status_text(code, NULL, 0); }
@@ -789,6 +954,8 @@ static void null_pointers(void) {
     BY_NONE(CONFSCRIPT_STEP_AUTO);
     WRITES("NULL: step with no changes", null_step, 0, 1, 0, 0, 0, 0, 2);
     REFUSED("NULL: step with no room", null_room, CONFSCRIPT_STATUS_TOO_SMALL, 7);
+    expect_numbers("NULL: stages", null_stages, NEVER, CONFSCRIPT_STATUS_DIFFERENT_LENGTHS, 0, NULL, 0);
+    expect_numbers("NULL: stages with no ids down and no room", null_room_of_stages, ALWAYS, CONFSCRIPT_STATUS_TOO_SMALL, 2, NULL, 0);
     expect("NULL: may be down", null_may_be_down, CONFSCRIPT_STATUS_NO_QUORUM, 0, "");
     SET(incoming, 1, 2, 3);
     expect("NULL: may be down with no outgoing voters", null_uncounted, CONFSCRIPT_STATUS_DONE, 1, "");
@@ -858,10 +1025,13 @@ int main(void) {
     restores();
     accepted_steps();
     refused_steps();
+    planned_stages();
+    refused_stages();
     null_pointers();
     rooms();
     questions();
     rounds();
+    stage_rounds();
     texts();
     return 0;
 }

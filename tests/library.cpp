@@ -26,7 +26,7 @@ static confscript_answer plan(const bytes &now, const bytes &target, const numbe
                            down.data(), down.size(), out.data(), out.size());
 }
 
-static uint64_t committed(numbers incoming, numbers outgoing) {
+static uint64_t committed(const numbers &incoming, const numbers &outgoing) {
     return confscript_committed(incoming.data(), incoming.size(), outgoing.data(), outgoing.size());
 }
 
@@ -36,6 +36,11 @@ static confscript_answer vote(const bytes &incoming, const bytes &outgoing) {
 
 static confscript_answer step(const numbers &configuration, const changes &by, numbers &out) {
     return confscript_step(configuration.data(), configuration.size(), CONFSCRIPT_STEP_AUTO, by.data(), by.size(), out.data(), out.size());
+}
+
+static confscript_answer stages(const numbers &configuration, const numbers &target, const numbers &down, numbers &out) {
+    return confscript_stages(configuration.data(), configuration.size(), target.data(), target.size(), CONFSCRIPT_STRATEGY_SHORTEST,
+                             down.data(), down.size(), out.data(), out.size());
 }
 
 static confscript_answer may_be_down(const numbers &incoming, const numbers &outgoing, const numbers &uncounted) {
@@ -60,6 +65,9 @@ int main() {
     expect("restore: no room", confscript_restore(joint.data(), joint.size(), no_numbers.data(), 0), CONFSCRIPT_STATUS_TOO_SMALL, 10);
     expect("step: no changes", step(joint, {}, room), CONFSCRIPT_STATUS_DONE, 7);
     expect("step: no room", step(joint, {}, no_numbers), CONFSCRIPT_STATUS_TOO_SMALL, 7);
+    expect("stages: no numbers", stages(no_numbers, no_numbers, {}, no_numbers), CONFSCRIPT_STATUS_DIFFERENT_LENGTHS, 0);
+    expect("stages: no ids down", stages(joint, {0, 1, 0, 0, 0, 0, 2}, {}, room), CONFSCRIPT_STATUS_DONE, 14);
+    expect("stages: no room", stages(joint, joint, {2}, no_numbers), CONFSCRIPT_STATUS_TOO_SMALL, 2);
     expect("may be down: no voters", may_be_down({}, {}, {}), CONFSCRIPT_STATUS_NO_QUORUM, 0);
     expect("may be down: no outgoing voters, all count", may_be_down({1, 2, 3}, {}, {}), CONFSCRIPT_STATUS_DONE, 1);
     return 0;

@@ -143,28 +143,30 @@ func configuration(room int, call func(out *C.uint64_t, room C.size_t) C.struct_
 	if _, err := number(call((*C.uint64_t)(unsafe.Pointer(&out[0])), C.size_t(room))); err != nil {
 		return ConfState{}, nil, err
 	}
-	state, fresh := read(out)
+	state, fresh, _ := read(out)
 	return state, fresh, nil
 }
 
-// read returns the configuration and the fresh members of such an array. The lists are parts of it; an empty one is nil.
-func read(numbers []uint64) (ConfState, []uint64) {
-	ids := numbers[C.CONFSCRIPT_PART_IDS:]
+// read returns the configuration and the fresh members of such an array, and what follows it. The lists are parts of it; an
+// empty one is nil.
+func read(numbers []uint64) (state ConfState, fresh, rest []uint64) {
+	rest = numbers[C.CONFSCRIPT_PART_IDS:]
 	next := func(part int) []uint64 {
 		count := numbers[part]
-		list := ids[:count:count]
-		ids = ids[count:]
+		list := rest[:count:count]
+		rest = rest[count:]
 		if count == 0 {
 			return nil
 		}
 		return list
 	}
-	state := ConfState{
+	state = ConfState{
 		Voters:         next(C.CONFSCRIPT_PART_INCOMING),
 		VotersOutgoing: next(C.CONFSCRIPT_PART_OUTGOING),
 		Learners:       next(C.CONFSCRIPT_PART_LEARNERS),
 		LearnersNext:   next(C.CONFSCRIPT_PART_LEARNERS_NEXT),
 		AutoLeave:      numbers[C.CONFSCRIPT_PART_AUTO_LEAVE] == 1,
 	}
-	return state, next(C.CONFSCRIPT_PART_FRESH)
+	fresh = next(C.CONFSCRIPT_PART_FRESH)
+	return state, fresh, rest
 }

@@ -1,12 +1,15 @@
 //go:build cgo
 
-// Package confscript plans and checks who votes in a raft group. It is a thin layer over the compiled code of the library,
-// which is part of this package for Linux on x86-64 and arm64; confscript.h says what each call returns.
+// Package confscript plans the membership changes of an etcd or Raft cluster and shows how many servers may fail at each
+// step, with code that is proved correct. It is a thin layer over that compiled code, which is part of this package for
+// Linux on x86-64 and arm64; confscript.h says what each call returns.
 //
 // A plan leads from a configuration to a target, both of which are texts in one of the forms of confscript.h, such as
 // "voters=(1 2 3)" or the JSON of a ConfState; the target may also be a list of changes, such as "r1 v4". Plan and PlanBy
-// return the lines of its steps, PlanAs another output, and Stages what to propose to etcd's raft. Apply and Check take
-// a ConfState line.
+// return the lines of its steps, and PlanAs another output. Apply and Check take a ConfState line.
+//
+// A program that embeds the library keeps a ConfState. Stages returns a plan from one to another as what to propose to
+// etcd's raft, and ApplyConfChange the configuration after a proposal.
 //
 // Any goroutine may call, also at the same time as others: a call keeps no state, and only reads its arguments.
 //
@@ -120,15 +123,21 @@ func number(answer C.struct_confscript_answer) (uint64, error) {
 	return uint64(answer.number), nil
 }
 
-// written returns the text that a call writes. If the buffer is too small, the call is made again with a larger one.
+// written returns the text that a call writes.
 func written(call func(out *C.uint8_t, room C.size_t) C.struct_confscript_answer) (string, error) {
-	out := make([]byte, 256)
+	text, err := filled(func(out []byte) C.struct_confscript_answer { return call(start(out), C.size_t(len(out))) })
+	return string(text), err
+}
+
+// filled returns what a call writes to a buffer. If that is too small, the call is made again with a larger one.
+func filled[T byte | uint64](call func(out []T) C.struct_confscript_answer) ([]T, error) {
+	out := make([]T, 256)
 	for {
-		answer := call(start(out), C.size_t(len(out)))
+		answer := call(out)
 		if answer.status != C.CONFSCRIPT_STATUS_TOO_SMALL {
 			length, err := number(answer)
-			return string(out[:length]), err
+			return out[:length], err
 		}
-		out = make([]byte, answer.number)
+		out = make([]T, answer.number)
 	}
 }

@@ -11,15 +11,15 @@
  * docs/SPECIFICATION.md has both forms, and what each change does.
  *
  * A program that embeds the library passes numbers instead: an index or a vote of each voter, and a configuration as an
- * array (enum confscript_part). Such a call allocates nothing while no list has more than eight items.
+ * array (enum confscript_part). confscript_stages writes a plan as an array (enum confscript_stages_part). The other
+ * calls with numbers allocate nothing while no list has more than eight items, or an id twice.
  *
  * Each call but confscript_version and confscript_committed returns a status and a number. A call keeps no state: it
- * reads its arguments, and writes only to `out`; confscript_committed reorders its arguments. The caller must keep these
- * rules, since no call checks them:
+ * reads its arguments, and writes only to `out`. The caller must keep these rules, since no call checks them:
  * - Each pointer is aligned, and points to as many elements as the length after it says. For a length of 0 it may be any
  *   pointer, also NULL, as an empty std::vector of C++ has it.
- * - `out` overlaps no other argument, and the two arguments of confscript_committed do not overlap. While the call runs,
- *   nothing else uses these, and nothing changes what the other pointers point to.
+ * - `out` overlaps no other argument. While the call runs, nothing else uses `out`, and nothing changes what the other
+ *   pointers point to. These may overlap each other.
  * - malloc, realloc and free belong to one allocator, which aligns a block as malloc of the C library does.
  * - No call comes from a signal handler, or from the forked child of a process with threads. Otherwise any thread may
  *   call, also at the same time as others.
@@ -53,16 +53,16 @@ enum confscript_status {
     /* A text is not a ConfState line; for confscript_plan, it begins as one, with `Voters:`. The number is 1 for the
        configuration, and 2 for the target. */
     CONFSCRIPT_STATUS_BAD_CONF_STATE = 3,
-    /* confscript_check, _restore and _step: a list names an id twice. The number is the id, the first such one of the
-       first such list. */
+    /* confscript_check, _restore, _step and _stages: a list names an id twice. The number is the id, the first such one
+       of the first such list. */
     CONFSCRIPT_STATUS_REPEATED_ID = 4,
     /* A text names no configuration that the call accepts. confscript_check says why of a ConfState line, with one
        exception: it accepts a valid configuration with members but no incoming voter, and confscript_apply does not. The
        number is as for CONFSCRIPT_STATUS_BAD_CONF_STATE. */
     CONFSCRIPT_STATUS_NOT_A_CONFIGURATION = 5,
-    /* confscript_plan: there is no plan, since a configuration has no incoming voter. The number is 1 for the
-       configuration, and 2 for the target. confscript_restore and _step: the configuration has members but no incoming
-       voter. */
+    /* confscript_plan and _stages: there is no plan, since a configuration has no incoming voter. The number is 1 for
+       the configuration, and 2 for the target. confscript_restore and _step: the configuration has members but no
+       incoming voter. */
     CONFSCRIPT_STATUS_NO_VOTER = 6,
     /* A line of the plan is not a step. The number is that of the line, counted from 1. */
     CONFSCRIPT_STATUS_BAD_LINE = 7,
@@ -78,9 +78,9 @@ enum confscript_status {
     CONFSCRIPT_STATUS_REMOVED_ALL_VOTERS = 13,
     CONFSCRIPT_STATUS_MORE_THAN_ONE_VOTER = 14,
 
-    /* confscript_check, _restore and _step: the first of these that is broken, in this order. For 16 to 18 the number is
-       the least id that breaks it. */
-    CONFSCRIPT_STATUS_ZERO_ID = 15,                    /* a set has the id 0, or `down` of confscript_plan */
+    /* confscript_check, _restore, _step and _stages: the first of these that is broken, in this order. For 16 to 18 the
+       number is the least id that breaks it. */
+    CONFSCRIPT_STATUS_ZERO_ID = 15,                    /* a set has the id 0, or `down` of confscript_plan and _stages */
     CONFSCRIPT_STATUS_NEXT_NOT_OUTGOING = 16,          /* a next learner is not an outgoing voter */
     CONFSCRIPT_STATUS_NEXT_AND_INCOMING = 17,          /* a next learner is an incoming voter */
     CONFSCRIPT_STATUS_LEARNER_AND_VOTER = 18,          /* a learner is a voter */
@@ -90,18 +90,18 @@ enum confscript_status {
        that lost its log needs a new id. The number is the id. */
     CONFSCRIPT_STATUS_ADDED_AGAIN = 19,
 
-    /* confscript_restore and _step: the array does not have the form of enum confscript_part. It has fewer than six
-       numbers, its first number is neither 0 nor 1, or its length is not what the counts make it. */
+    /* confscript_restore, _step and _stages: the array does not have the form of enum confscript_part. It has fewer than
+       six numbers, its first number is neither 0 nor 1, or its length is not what the counts make it. */
     CONFSCRIPT_STATUS_DIFFERENT_LENGTHS = 21,
     /* confscript_vote: a byte is not one of enum confscript_ballot. */
     CONFSCRIPT_STATUS_BAD_VOTE = 22,
     /* confscript_may_be_down: the voters that count are not a quorum even when all are up. */
     CONFSCRIPT_STATUS_NO_QUORUM = 23,
 
-    /* confscript_plan: the strategy is not one of enum confscript_strategy. */
+    /* confscript_plan and _stages: the strategy is not one of enum confscript_strategy. */
     CONFSCRIPT_STATUS_BAD_STRATEGY = 24,
-    /* confscript_plan: no plan that changes one member a step leads into a joint configuration, unless it equals the
-       configuration. */
+    /* confscript_plan and _stages: no plan that changes one member a step leads into a joint configuration, unless it
+       equals the configuration. */
     CONFSCRIPT_STATUS_JOINT_TARGET = 25,
 
     /* confscript_step: the step is not one of enum confscript_step_kind. */
@@ -118,13 +118,14 @@ enum confscript_status {
     CONFSCRIPT_STATUS_BAD_PRINTED = 30,     /* it begins with `voters`, and is not a printed configuration */
     CONFSCRIPT_STATUS_BAD_JSON = 31,        /* it begins with `{`, and is not the JSON of a configuration */
     CONFSCRIPT_STATUS_BAD_CHANGE_LIST = 32, /* the target is in no other form, and is blank or not a list of changes */
-    /* confscript_plan: an id that is down is a member of neither configuration. The number is the least such id. */
+    /* confscript_plan and _stages: an id that is down is a member of neither configuration. The number is the least such
+       id. */
     CONFSCRIPT_STATUS_DOWN_NOT_A_MEMBER = 33
 };
 
-/* How confscript_plan goes from one configuration to another. */
+/* How a plan goes from one configuration to another. */
 enum confscript_strategy {
-    CONFSCRIPT_STRATEGY_SHORTEST = 0,       /* as few steps as possible, at most four (the JSON may have more lines) */
+    CONFSCRIPT_STRATEGY_SHORTEST = 0,       /* as few steps as possible, at most four (JSON and stages may have more) */
     CONFSCRIPT_STRATEGY_LEARNERS_FIRST = 1, /* new voters are learners first, so that they catch up before they vote */
     CONFSCRIPT_STRATEGY_ONE_AT_A_TIME = 2   /* one member a step, once a joint one is left; no plan leads into one */
 };
@@ -192,6 +193,35 @@ enum confscript_step_kind {
     CONFSCRIPT_STEP_LEAVE_JOINT = 4 /* leaves a joint configuration; of the changes only the kinds are checked */
 };
 
+/*
+ * A plan in numbers is an array of uint64_t that begins with these two and continues with its stages, one after another.
+ * The plan from (1 2 3) to (1 2 3 4) by which 4 is a learner first, with 3 down, is
+ *     0, 2,
+ *     0, 1, 1, 0, 1,  3, 4,  0, 3, 0, 1, 0, 1,  1, 2, 3,  4,  4,
+ *     0, 1, 1, 0, 1,  0, 4,  0, 4, 0, 0, 0, 0,  1, 2, 3, 4
+ */
+enum confscript_stages_part {
+    CONFSCRIPT_STAGES_STALLS = 0, /* 1 if the plan stalls with the ids that are down, else 0 */
+    CONFSCRIPT_STAGES_COUNT = 1,  /* how many stages there are; 0 if there is nothing to do */
+    CONFSCRIPT_STAGES_FIRST = 2   /* the first stage, if there is one */
+};
+
+/*
+ * A stage is a proposal to etcd's raft, and the configuration that it leads to: these five numbers, the kind and the id
+ * of each change, and the configuration as an array of enum confscript_part.
+ */
+enum confscript_stage_part {
+    CONFSCRIPT_STAGE_TRANSITION = 0,        /* of the proposal: one of the first three of enum confscript_step_kind */
+    CONFSCRIPT_STAGE_MAY_BE_DOWN = 1,       /* how many ids may be down in the configuration, whichever they are */
+    CONFSCRIPT_STAGE_WHILE_CATCHING_UP = 2, /* how many until the members that begin afresh have caught up */
+    CONFSCRIPT_STAGE_BESIDES = 3,           /* how many besides those that are down, until then */
+    CONFSCRIPT_STAGE_CHANGES = 4,           /* how many changes the proposal has */
+    CONFSCRIPT_STAGE_FIRST_CHANGE = 5       /* an enum confscript_change_kind, and the id after it, if there is one */
+};
+
+/* In place of how many ids may be down: the voters that count are not a quorum even when all are up. */
+#define CONFSCRIPT_STAGE_NO_QUORUM UINT64_MAX
+
 struct confscript_answer {
     uint32_t status; /* an enum confscript_status */
     uint64_t number;
@@ -255,12 +285,9 @@ struct confscript_answer confscript_status_text(uint32_t status, uint8_t *out, s
  * CONFSCRIPT_STRATEGY_ONE_AT_A_TIME, fewer besides the ids that are down. If there is nothing to do, the steps are the
  * line `nothing to do`. The text does not end with a zero byte. The number is its length in bytes.
  *
- * In JSON each change of a simple step is a step of its own, so there may be more lines than the plan has steps.
- *
  * - CONFSCRIPT_STRATEGY_SHORTEST: at most four steps. No plan has fewer steps, or names a member in fewer changes; a
  *   member that can keep its progress keeps it. A plan does not see logs: a new voter begins with an empty one, so from
- *   [1 2 3] to [3 4 5] nothing commits until 4 or 5 has caught up. (These are steps. The JSON has an object for each
- *   change of a step `simple`, so it may have more lines.)
+ *   [1 2 3] to [3 4 5] nothing commits until 4 or 5 has caught up.
  * - CONFSCRIPT_STRATEGY_LEARNERS_FIRST: at most one step more than the shortest plan. Each new voter is a learner first,
  *   so the caller can let it catch up before proposing the next step.
  * - CONFSCRIPT_STRATEGY_ONE_AT_A_TIME: each step changes one member, after a joint configuration is left, and each new
@@ -271,8 +298,9 @@ struct confscript_answer confscript_status_text(uint32_t status, uint8_t *out, s
  * needs a new id. Under the old one it could vote twice in a term, and two leaders could commit different entries.
  *
  * A step `simple` may have several changes, at most one of which changes who votes. To keep the step simple in etcd,
- * propose each change as a ConfChangeV2 of its own, as the JSON has them. If they are proposed as a single ConfChangeV2,
- * etcd's raft takes them through a joint configuration, which it leaves by itself.
+ * propose each change as a ConfChangeV2 of its own, as the JSON has them, so it may have more lines than there are
+ * steps. If they are proposed as a single ConfChangeV2, etcd's raft takes them through a joint configuration, which it
+ * leaves by itself.
  */
 struct confscript_answer confscript_plan(const uint8_t *configuration, size_t configuration_len, const uint8_t *target,
                                          size_t target_len, uint32_t strategy, uint32_t output, const uint64_t *down,
@@ -294,9 +322,10 @@ struct confscript_answer confscript_check(const uint8_t *configuration, size_t c
  * Returns the committed index of a voter set, or of a joint pair, from the index that each voter has acknowledged, 0 if
  * it is unknown: the greatest index that more than half of `incoming` have reached, or the smaller one of both sets if
  * `outgoing` is not empty. It is 2^64-1 if there are no voters. Each index counts as that of another voter, so a voter
- * that is listed twice counts twice. The call cannot fail. It leaves each array with the same indexes, in any order.
+ * that is listed twice counts twice. The call cannot fail.
  */
-uint64_t confscript_committed(uint64_t *incoming, size_t incoming_len, uint64_t *outgoing, size_t outgoing_len);
+uint64_t confscript_committed(const uint64_t *incoming, size_t incoming_len, const uint64_t *outgoing,
+                              size_t outgoing_len);
 
 /*
  * Returns the result of a vote by a voter set, or by a joint pair, from the vote of each voter, an
@@ -324,6 +353,19 @@ struct confscript_answer confscript_restore(const uint64_t *configuration, size_
 struct confscript_answer confscript_step(const uint64_t *configuration, size_t configuration_len, uint32_t step,
                                          const struct confscript_change *changes, size_t changes_len, uint64_t *out,
                                          size_t out_len);
+
+/*
+ * Writes to `out` the plan of confscript_plan in numbers, as enum confscript_stages_part says. As in JSON, each change
+ * of a step `simple` is a stage of its own. Both configurations are checked first, as by confscript_restore, and must
+ * have an incoming voter. `down` is that of confscript_plan. The number is how many numbers are written.
+ *
+ * Propose a stage once the one before it is applied and its members that begin afresh have caught up. A joint
+ * configuration that is left automatically is left by raft itself: the stage that leaves it is not proposed, but waited
+ * for. With the transition and the changes of a stage, confscript_step writes the configuration of the stage.
+ */
+struct confscript_answer confscript_stages(const uint64_t *configuration, size_t configuration_len,
+                                           const uint64_t *target, size_t target_len, uint32_t strategy,
+                                           const uint64_t *down, size_t down_len, uint64_t *out, size_t out_len);
 
 /*
  * Returns how many ids may be down, whichever they are, while the other voters in `incoming`, and in `outgoing` if

@@ -72,8 +72,9 @@ func CommittedIndex(incoming, outgoing []uint64) uint64 {
 		copy(all[copy(all[:], incoming):], outgoing)
 		return uint64(C.committed_of_more(more, C.size_t(len(incoming)), C.size_t(len(outgoing))))
 	}
-	// The library sorts in place.
-	in, out := append([]uint64(nil), incoming...), append([]uint64(nil), outgoing...)
+	// The arguments themselves are not passed to C, which would move those of every caller to the heap.
+	all := append(append(make([]uint64, 0, count), incoming...), outgoing...)
+	in, out := all[:len(incoming)], all[len(incoming):]
 	return uint64(C.confscript_committed(first(in), C.size_t(len(in)), first(out), C.size_t(len(out))))
 }
 

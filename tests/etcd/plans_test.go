@@ -84,7 +84,7 @@ func makePlans(t *testing.T, chance *rand.Rand, strategy string) []*plan {
 }
 
 // pair returns two configurations that share members. The target is any, or one that a few changes lead to. With one
-// change at a time nobody comes to a joint one.
+// change at a time no plan leads to a joint one.
 func pair(chance *rand.Rand, strategy string) *plan {
 	ids := pool(chance, 2+chance.Intn(6), chance.Intn(3) == 0)
 	p := &plan{strategy: strategy, now: configuration(chance, ids)}

@@ -150,7 +150,7 @@ func (m *member) leads() bool {
 	return m.raw.BasicStatus().RaftState == raft.StateLeader
 }
 
-// step passes a round: messages come in, a member does something, and so does a leader. Without one somebody campaigns.
+// step passes a round: messages come in, a member does something, and so does a leader. Without one a member campaigns.
 func (t *trial) step() {
 	if t.round == t.phaseEnd {
 		t.beginPhase()

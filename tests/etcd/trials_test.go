@@ -38,7 +38,7 @@ func TestWait(t *testing.T) {
 	t.Run("each kind occurs", func(t *testing.T) { compareSeen(t, seen, kindsOfTrials) })
 }
 
-// runTrials runs the trials of so many seeds, and returns how often each kind of thing happened. None may end with a
+// runTrials runs `count` trials, one a seed, and returns how often each kind of thing happened. None may end with a
 // contradiction.
 func runTrials(t *testing.T, count int, begin func(seed int64) *trial) map[string]int {
 	seen := map[string]int{}

@@ -1,5 +1,6 @@
-"""Plans and checks who votes in a raft group: a thin layer over the shared library.
+"""confscript plans membership changes of an etcd or Raft cluster, with code that is proved correct.
 
+It shows how many servers may fail at each step. This is its library for Python: a thin layer over the shared library.
 include/confscript.h says what each call returns.
 
 A plan leads from a configuration to a target, both of which are str in one of the forms of confscript.h. The target
@@ -20,11 +21,10 @@ The library is the one that CONFSCRIPT_LIBRARY names, or else the one in this pa
 not built, the one that the system's loader finds.
 """
 import ctypes
-import json
 import operator
 import os
 from enum import IntEnum
-from typing import Any, Callable, Iterable, Mapping, NamedTuple, Optional, Sequence, SupportsIndex, Tuple, Union
+from typing import Any, Callable, Iterable, Iterator, List, Mapping, NamedTuple, Optional, Sequence, SupportsIndex, Tuple, Union
 
 __all__ = [
     "ChangeKind", "ConfChangeSingle", "ConfChangeTransition", "ConfChangeType", "ConfChangeV2", "Configuration", "Output", "Plan", "Refused", "Stage",
@@ -33,6 +33,8 @@ __all__ = [
 ]
 
 DONE, TOO_SMALL = 0, 1
+# What a stage in numbers has in place of a count, if nothing commits.
+NO_QUORUM = 2**64 - 1
 # The major and minor version of the confscript.h that the calls below are written for.
 HEADER = (0, 1)
 
@@ -274,6 +276,7 @@ for _name, _types in {
     "may_be_down": _IDS * 3,
     "restore": _IDS * 2,
     "step": (*_IDS, ctypes.c_uint32, ctypes.POINTER(_Change), ctypes.c_size_t, *_IDS),
+    "stages": (*_IDS * 2, ctypes.c_uint32, *_IDS * 2),
     "status_text": (ctypes.c_uint32, *_OUT),
 }.items():
     _call = getattr(_library, f"confscript_{_name}")
@@ -311,15 +314,39 @@ def _number(answer: _Answer) -> int:
     return number
 
 
-def _written(call: Callable[..., _Answer], *arguments: Any) -> str:
-    """The text that a call writes. If the buffer is too small, the call is made again with a larger one."""
+def _filled(kind: Any, call: Callable[..., _Answer], *arguments: Any) -> Any:
+    """What a call writes to a buffer of this type. If that is too small, the call is made again with a larger one."""
     room = 256
     while True:
-        out = (ctypes.c_char * room)()
+        out = (kind * room)()
         answer = call(*arguments, out, room)
         if answer.status != TOO_SMALL:
-            return out.raw[: _number(answer)].decode()
+            return out[: _number(answer)]
         room = answer.number
+
+
+def _written(call: Callable[..., _Answer], *arguments: Any) -> str:
+    """The text that a call writes."""
+    text: bytes = _filled(ctypes.c_char, call, *arguments)
+    return text.decode()
+
+
+def _array(configuration: Configuration) -> List[SupportsIndex]:
+    """A configuration as an array (enum confscript_part)."""
+    parts = [[*part] for part in (configuration.voters, configuration.voters_outgoing, configuration.learners, configuration.learners_next)]
+    return [bool(configuration.auto_leave), *map(len, parts), 0, *(id for part in parts for id in part)]
+
+
+def _configuration(numbers: Iterator[int]) -> Configuration:
+    """The configuration of an array that a call wrote."""
+    auto_leave, *counts = _next(numbers, 6)
+    voters, outgoing, learners, learners_next, fresh = (_next(numbers, count) for count in counts)
+    return Configuration(voters, outgoing, learners, learners_next, bool(auto_leave), fresh)
+
+
+def _next(numbers: Iterator[int], count: int) -> Tuple[int, ...]:
+    """The next numbers, as many as these."""
+    return tuple(next(numbers) for _ in range(count))
 
 
 def _configured(call: Callable[..., _Answer], configuration: Configuration, changes: int, *arguments: Any) -> Configuration:
@@ -327,15 +354,11 @@ def _configured(call: Callable[..., _Answer], configuration: Configuration, chan
 
     The buffer has the length of the macro CONFSCRIPT_STEP_ROOM of confscript.h.
     """
-    parts = [[*part] for part in (configuration.voters, configuration.voters_outgoing, configuration.learners, configuration.learners_next)]
-    ids = [id for part in parts for id in part]
-    room = 6 + 2 * (len(ids) + changes)
+    array = _array(configuration)
+    room = 6 + 2 * (len(array) - 6 + changes)
     out = (ctypes.c_uint64 * room)()
-    length = _number(call(*_numbers([bool(configuration.auto_leave), *map(len, parts), 0, *ids]), *arguments, out, room))
-    auto_leave, *rest = out[:length]
-    written = iter(rest[5:])
-    voters, outgoing, learners, learners_next, fresh = (tuple(next(written) for _ in range(count)) for count in rest[:5])
-    return Configuration(voters, outgoing, learners, learners_next, bool(auto_leave), fresh)
+    length = _number(call(*_numbers(array), *arguments, out, room))
+    return _configuration(iter(out[:length]))
 
 
 def _text_of(status: int) -> str:
@@ -358,33 +381,22 @@ def stages(configuration: Configuration, target: Configuration, strategy: Strate
     """Returns the plan from a configuration to a target as the proposals that carry it out.
 
     A simple step of several changes is as many stages of one change each, since raft would take them through a joint
-    configuration. If one of the two is not valid, the status is NOT_A_CONFIGURATION, and `restore` says why.
+    configuration. Both configurations are checked as by `restore`, and must have a voter.
     """
-    lines = plan(_line(configuration), _line(target), strategy, output=Output.JSON, down=down).splitlines()
-    objects = [json.loads(line) for line in lines]
-    return Plan(tuple(_stage(each) for each in objects if each["steps"]), objects[-1].get("stalls", False))
+    ids = [*down]
+    arrays = (*_numbers(_array(configuration)), *_numbers(_array(target)))
+    stalls, count, *rest = _filled(ctypes.c_uint64, _library.confscript_stages, *arrays, _uint(strategy, 32), *_numbers(ids))
+    numbers = iter(rest)
+    return Plan(tuple(_stage(numbers, bool(ids)) for _ in range(count)), bool(stalls))
 
 
-def _line(configuration: Configuration) -> str:
-    """The ConfState line of a configuration."""
-    lists = (configuration.voters, configuration.voters_outgoing, configuration.learners, configuration.learners_next)
-    ids = [" ".join(str(_uint(id)) for id in each) for each in lists]
-    return "Voters:[{}] VotersOutgoing:[{}] Learners:[{}] LearnersNext:[{}] AutoLeave:{}".format(*ids, "true" if configuration.auto_leave else "false")
-
-
-def _stage(each: Any) -> Stage:
-    """The stage of an object of the library's JSON."""
-    change, state = each["conf_change"], each["conf_state"]
-    return Stage(
-        ConfChangeV2(
-            ConfChangeTransition[change["transition"]],
-            tuple(ConfChangeSingle(ConfChangeType[single["type"]], single["node_id"]) for single in change["changes"]),
-        ),
-        Configuration(fresh=tuple(each["catch_up"]), **{name: tuple(it) if isinstance(it, list) else it for name, it in state.items()}),
-        each["may_be_down"],
-        each["until_then"],
-        each.get("may_be_down_besides"),
-    )
+def _stage(numbers: Iterator[int], are_down: bool) -> Stage:
+    """The stage that comes next (enum confscript_stage_part)."""
+    transition, *counts, change_count = _next(numbers, 5)
+    may_be_down, until_then, besides = (None if count == NO_QUORUM else count for count in counts)
+    changes = tuple(ConfChangeSingle(ConfChangeType(next(numbers)), next(numbers)) for _ in range(change_count))
+    change = ConfChangeV2(ConfChangeTransition(transition), changes)
+    return Stage(change, _configuration(numbers), may_be_down, until_then, besides if are_down else None)
 
 
 def apply_conf_change(configuration: Configuration, change: ConfChangeV2) -> Configuration:

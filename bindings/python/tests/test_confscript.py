@@ -136,17 +136,33 @@ class Calls(unittest.TestCase):
         self.assertEqual(confscript.stages(three, three, down=[1, 2]), ((), True))
         plan = confscript.stages(three, Configuration([2, 3, 4]), down=[1])
         self.assertEqual((len(plan.stages), plan.stages[0].may_be_down, plan.stages[0].may_be_down_besides, plan.stalls), (2, 1, 0, False))
+        plan = confscript.stages(Configuration([1]), Configuration([1, 2]), down=iter([2]))
+        self.assertEqual((plan.stages[0].may_be_down, plan.stages[0].may_be_down_besides, plan.stalls), (0, None, True))
         stage = confscript.stages(Configuration([1]), Configuration([1, 2])).stages[0]
         self.assertEqual((stage.may_be_down, stage.until_then, stage.conf_state.fresh), (0, None, (2,)))
+
+    def test_stages_of_more_numbers_than_the_first_room(self):
+        from confscript import Configuration
+        learners = tuple(range(1, 101))
+        stages = confscript.stages(Configuration([1000]), Configuration([1000], learners=learners)).stages
+        self.assertEqual((len(stages), stages[99].conf_state), (100, Configuration((1000,), learners=learners, fresh=(100,))))
+
+    def test_refused_stages(self):
+        from confscript import Configuration, Strategy
+        one = Configuration([1])
         for call, status, number in [
-            (lambda: confscript.stages(three, three, down=[0]), 15, 0),
-            (lambda: confscript.stages(Configuration(), three), 6, 1),
-            (lambda: confscript.stages(three, Configuration([1], learners=[1])), 5, 2),
+            (lambda: confscript.stages(one, one, 3), 24, 0),
+            (lambda: confscript.stages(one, one, down=[0]), 15, 0),
+            (lambda: confscript.stages(Configuration([7, 1, 7]), one), 4, 7),
+            (lambda: confscript.stages(one, Configuration([2], learners=[2])), 18, 2),
+            (lambda: confscript.stages(one, one, down=[1, 9]), 33, 9),
+            (lambda: confscript.stages(Configuration(), one), 6, 1),
+            (lambda: confscript.stages(one, Configuration(learners=[1])), 6, 2),
+            (lambda: confscript.stages(one, Configuration([2], [1]), Strategy.ONE_AT_A_TIME), 25, 0),
         ]:
             with self.assertRaises(confscript.Refused) as raised:
                 call()
             self.assertEqual((raised.exception.status, raised.exception.number), (status, number))
-        self.assertRaises(OverflowError, lambda: confscript.stages(three, Configuration([-1])))
 
     def test_a_refusal_is_copied_and_pickled(self):
         refused = confscript.Refused(11, 1)
@@ -220,6 +236,10 @@ class Calls(unittest.TestCase):
             lambda: confscript.step(Configuration([1]), 2**32),
             lambda: confscript.step(Configuration([1]), 0, [(2**32, 1)]),
             lambda: confscript.restore(Configuration([-1])),
+            lambda: confscript.stages(Configuration([1]), Configuration([-1])),
+            lambda: confscript.stages(Configuration([2**64]), Configuration([1])),
+            lambda: confscript.stages(Configuration([1]), Configuration([1]), 2**32),
+            lambda: confscript.stages(Configuration([1]), Configuration([1]), down=[-1]),
         ]:
             self.assertRaises(OverflowError, call)
         for call in [
@@ -230,6 +250,8 @@ class Calls(unittest.TestCase):
             lambda: confscript.restore(Configuration([1.0])),
             lambda: confscript.plan(NOW, TARGET, down="45"),
             lambda: confscript.plan(NOW, TARGET, output="json"),
+            lambda: confscript.stages(Configuration(["1"]), Configuration([1])),
+            lambda: confscript.stages(Configuration([1]), Configuration([1]), down="1"),
         ]:
             self.assertRaises(TypeError, call)
 

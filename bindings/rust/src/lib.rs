@@ -1,13 +1,13 @@
-//! Plans and checks who votes in a raft group: a thin layer over the compiled code of the library, which is part of this
-//! crate for Linux on x86-64 and arm64. `confscript.h` says what each call returns.
+//! confscript plans the membership changes of an etcd or Raft cluster and shows how many servers may fail at each step,
+//! with code that is proved correct. This is its library for Rust: a thin layer over that compiled code, which is part of
+//! this crate for Linux on x86-64 and arm64. `confscript.h` says what each call returns.
 //!
 //! A plan leads from a configuration to a target, both of which are texts in one of the forms of `confscript.h`, such as
 //! `voters=(1 2 3)`; the target may also be a list of changes, such as `r1 v4`. [`apply`] and [`check`] take a ConfState
 //! line. A program that embeds the library keeps a [`Configuration`], makes its steps by [`step`], and counts by
 //! [`committed`] and [`vote`], without texts; [`stages`] gives it a plan as proposals to a raft library.
 //!
-//! Any thread may call, also at the same time as others: a call keeps no state, and only reads its arguments but for
-//! those of [`committed`].
+//! Any thread may call, also at the same time as others: a call keeps no state, and only reads its arguments.
 //!
 //! # Features
 //!
@@ -55,11 +55,15 @@ extern "C" {
     ) -> Answer;
     fn confscript_apply(configuration: *const u8, configuration_len: usize, plan: *const u8, plan_len: usize, out: *mut u8, out_len: usize) -> Answer;
     fn confscript_check(configuration: *const u8, configuration_len: usize) -> Answer;
-    fn confscript_committed(incoming: *mut u64, incoming_len: usize, outgoing: *mut u64, outgoing_len: usize) -> u64;
+    fn confscript_committed(incoming: *const u64, incoming_len: usize, outgoing: *const u64, outgoing_len: usize) -> u64;
     fn confscript_vote(incoming: *const u8, incoming_len: usize, outgoing: *const u8, outgoing_len: usize) -> Answer;
     fn confscript_restore(configuration: *const u64, configuration_len: usize, out: *mut u64, out_len: usize) -> Answer;
     fn confscript_step(
         configuration: *const u64, configuration_len: usize, step: u32, changes: *const Change, changes_len: usize, out: *mut u64, out_len: usize,
+    ) -> Answer;
+    fn confscript_stages(
+        configuration: *const u64, configuration_len: usize, target: *const u64, target_len: usize, strategy: u32, down: *const u64, down_len: usize, out: *mut u64,
+        out_len: usize,
     ) -> Answer;
     fn confscript_may_be_down(
         incoming: *const u64, incoming_len: usize, outgoing: *const u64, outgoing_len: usize, uncounted: *const u64, uncounted_len: usize,
@@ -145,22 +149,23 @@ impl Configuration {
         [u64::from(self.auto_leave)].iter().chain(&counts).chain(ids).copied().collect()
     }
 
-    // The configuration of an array that a call wrote.
-    fn of(numbers: &[u64]) -> Configuration {
-        let (head, mut ids) = numbers.split_at(6);
+    // The configuration of an array that a call wrote, and the numbers after it.
+    fn of(numbers: &[u64]) -> (Configuration, &[u64]) {
+        let (head, mut rest) = numbers.split_at(6);
         let mut part = |count: u64| {
-            let (part, rest) = ids.split_at(count as usize);
-            ids = rest;
+            let (part, others) = rest.split_at(count as usize);
+            rest = others;
             part.to_vec()
         };
-        Configuration {
+        let configuration = Configuration {
             auto_leave: head[0] == 1,
             voters: part(head[1]),
             voters_outgoing: part(head[2]),
             learners: part(head[3]),
             learners_next: part(head[4]),
             fresh: part(head[5]),
-        }
+        };
+        (configuration, rest)
     }
 }
 
@@ -219,19 +224,24 @@ fn number(answer: Answer) -> Result<u64, Error> {
     if answer.status == DONE { Ok(answer.number) } else { Err(Error::of(&answer)) }
 }
 
-// The text that a call writes. If the buffer is too small, the call is made again with a larger one.
-fn written(call: impl Fn(&mut [u8]) -> Answer) -> Result<String, Error> {
+// What a call writes to a buffer. If that is too small, the call is made again with a larger one.
+fn filled<T: Copy + Default>(call: impl Fn(&mut [T]) -> Answer) -> Result<Vec<T>, Error> {
     check_library();
-    let mut out = vec![0; 256];
+    let mut out = vec![T::default(); 256];
     loop {
         let answer = call(&mut out);
         if answer.status == TOO_SMALL {
-            out = vec![0; answer.number as usize];
+            out = vec![T::default(); answer.number as usize];
             continue;
         }
         out.truncate(number(answer)? as usize);
-        return Ok(String::from_utf8_lossy(&out).into_owned());
+        return Ok(out);
     }
+}
+
+// The text that a call writes.
+fn written(call: impl Fn(&mut [u8]) -> Answer) -> Result<String, Error> {
+    Ok(String::from_utf8_lossy(&filled(call)?).into_owned())
 }
 
 // The configuration that a call writes, from a configuration and this number of changes. The buffer has the length of the
@@ -241,8 +251,7 @@ fn configured(from: &Configuration, changes: usize, call: impl Fn(&[u64], &mut [
     let numbers = from.numbers();
     let mut out = vec![0; 6 + 2 * (numbers.len() - 6 + changes)];
     let length = number(call(&numbers, &mut out))?;
-    out.truncate(length as usize);
-    Ok(Configuration::of(&out))
+    Ok(Configuration::of(&out[..length as usize]).0)
 }
 
 /// The steps of the shortest plan from a configuration to a target.
@@ -275,12 +284,11 @@ pub fn check(configuration: &str) -> Result<(), Error> {
 }
 
 /// The committed index of a voter set, or of a joint pair, from the index that each voter has acknowledged, 0 if it is
-/// unknown. It is `u64::MAX` if there are no voters. Each index counts as that of another voter. They are left in another
-/// order.
-pub fn committed(incoming: &mut [u64], outgoing: &mut [u64]) -> u64 {
+/// unknown. It is `u64::MAX` if there are no voters. Each index counts as that of another voter.
+pub fn committed(incoming: &[u64], outgoing: &[u64]) -> u64 {
     check_library();
     // SAFETY: as in `plan_by`.
-    unsafe { confscript_committed(incoming.as_mut_ptr(), incoming.len(), outgoing.as_mut_ptr(), outgoing.len()) }
+    unsafe { confscript_committed(incoming.as_ptr(), incoming.len(), outgoing.as_ptr(), outgoing.len()) }
 }
 
 /// The result of a vote by a voter set, or by a joint pair, from the vote of each voter, `None` if it has not voted. The

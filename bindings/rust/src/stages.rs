@@ -1,7 +1,6 @@
 //! Plans as proposals to a raft library.
-use crate::{plan_by, step, Change, ChangeKind, Configuration, Error, Options, Output, StepKind};
-use alloc::{string::String, vec::Vec};
-use core::fmt::Write;
+use crate::{confscript_stages, filled, step, Change, ChangeKind, Configuration, Error, Options, StepKind};
+use alloc::vec::Vec;
 
 /// What a change of a proposal does to its id. The names and the numbers are those of `raftpb`. raft-rs has the same
 /// names with other numbers, and no `UpdateNode`.
@@ -75,17 +74,66 @@ pub struct Plan {
 
 /// The plan from a configuration to a target as the proposals that carry it out. A simple step of several changes is as
 /// many stages of one change each, since raft would take them through a joint configuration. The output of the options is
-/// ignored. If one of the two is not valid, the status is `NotAConfiguration`, and [`restore`](crate::restore) says why.
+/// ignored. Both configurations are checked as by [`restore`](crate::restore), and must have a voter.
 pub fn stages(options: Options<'_>, configuration: &Configuration, target: &Configuration) -> Result<Plan, Error> {
-    let text = plan_by(Options { output: Output::Json, ..options }, &line_of(configuration), &line_of(target))?;
-    let mut plan = Plan { stages: Vec::new(), stalls: false };
-    for line in text.lines() {
-        // The text has the form that the specification gives, with ascending keys and without spaces.
-        let (stage, stalls) = Json(line).line().unwrap_or_else(|| panic!("confscript: the library wrote {line}"));
-        plan.stages.extend(stage);
-        plan.stalls = stalls;
+    let Options { strategy, down, .. } = options;
+    let (from, to) = (configuration.numbers(), target.numbers());
+    // SAFETY: each pointer is a slice's or a vector's, and so not null, and the count its length.
+    let numbers = filled(|out| unsafe {
+        confscript_stages(
+            from.as_ptr(), from.len(), to.as_ptr(), to.len(), strategy as u32, down.as_ptr(), down.len(), out.as_mut_ptr(), out.len(),
+        )
+    })?;
+    let mut rest = &numbers[2..];
+    let mut stages = Vec::new();
+    for _ in 0..numbers[1] {
+        let (stage, others) = Stage::of(rest, !down.is_empty());
+        stages.push(stage);
+        rest = others;
     }
-    Ok(plan)
+    Ok(Plan { stages, stalls: numbers[0] == 1 })
+}
+
+impl Stage {
+    // The stage with which the numbers begin (`enum confscript_stage_part`), and the numbers after it.
+    fn of(numbers: &[u64], are_down: bool) -> (Stage, &[u64]) {
+        let count = |number| if number == u64::MAX { None } else { Some(number) };
+        let (head, rest) = numbers.split_at(5);
+        let (changes, rest) = rest.split_at(2 * head[4] as usize);
+        let (conf_state, rest) = Configuration::of(rest);
+        let stage = Stage {
+            conf_change: ConfChangeV2 { transition: ConfChangeTransition::of(head[0]), changes: changes.chunks(2).map(ConfChangeSingle::of).collect() },
+            conf_state,
+            may_be_down: count(head[1]),
+            until_then: count(head[2]),
+            may_be_down_besides: if are_down { count(head[3]) } else { None },
+        };
+        (stage, rest)
+    }
+}
+
+impl ConfChangeTransition {
+    // The transition of a number that the library wrote.
+    fn of(number: u64) -> ConfChangeTransition {
+        match number {
+            0 => ConfChangeTransition::Auto,
+            1 => ConfChangeTransition::Implicit,
+            _ => ConfChangeTransition::Explicit,
+        }
+    }
+}
+
+impl ConfChangeSingle {
+    // The change of a kind and an id that the library wrote.
+    fn of(numbers: &[u64]) -> ConfChangeSingle {
+        let change_type = match numbers[0] {
+            0 => ConfChangeType::AddNode,
+            1 => ConfChangeType::RemoveNode,
+            2 => ConfChangeType::UpdateNode,
+            _ => ConfChangeType::AddLearnerNode,
+        };
+        ConfChangeSingle { change_type, node_id: numbers[1] }
+    }
 }
 
 /// The configuration after a proposal, as raft applies it.
@@ -103,166 +151,4 @@ pub fn apply_conf_change(configuration: &Configuration, change: &ConfChangeV2) -
     };
     let changes: Vec<Change> = change.changes.iter().map(|it| Change { kind: kind_of(it.change_type), id: it.node_id }).collect();
     step(configuration, kind, &changes)
-}
-
-// The ConfState line of a configuration.
-fn line_of(configuration: &Configuration) -> String {
-    let Configuration { voters, voters_outgoing, learners, learners_next, auto_leave, .. } = configuration;
-    let mut line = String::new();
-    for (name, ids) in [("Voters", voters), (" VotersOutgoing", voters_outgoing), (" Learners", learners), (" LearnersNext", learners_next)] {
-        line += name;
-        line += ":[";
-        for (i, id) in ids.iter().enumerate() {
-            let space = if i == 0 { "" } else { " " };
-            // A string takes what is written.
-            let _ = write!(line, "{space}{id}");
-        }
-        line += "]";
-    }
-    line + if *auto_leave { " AutoLeave:true" } else { " AutoLeave:false" }
-}
-
-// The rest of a line of JSON. Each method reads what it is named for, and is `None` if that is not what comes next.
-struct Json<'a>(&'a str);
-
-impl Json<'_> {
-    fn skips(&mut self, text: &str) -> bool {
-        let rest = self.0.strip_prefix(text);
-        self.0 = rest.unwrap_or(self.0);
-        rest.is_some()
-    }
-
-    fn expects(&mut self, text: &str) -> Option<()> {
-        self.skips(text).then_some(())
-    }
-
-    // The value of the first of these texts that comes next.
-    fn one_of<T: Copy>(&mut self, values: &[(&str, T)]) -> Option<T> {
-        values.iter().find(|(text, _)| self.skips(text)).map(|(_, value)| *value)
-    }
-
-    fn number(&mut self) -> Option<u64> {
-        let length = self.0.bytes().take_while(u8::is_ascii_digit).count();
-        let (digits, rest) = self.0.split_at(length);
-        self.0 = rest;
-        digits.parse().ok()
-    }
-
-    fn truth(&mut self) -> Option<bool> {
-        self.one_of(&[("true", true), ("false", false)])
-    }
-
-    // A number, or null.
-    fn count(&mut self) -> Option<Option<u64>> {
-        if self.skips("null") { Some(None) } else { self.number().map(Some) }
-    }
-
-    fn list<T>(&mut self, item: impl Fn(&mut Self) -> Option<T>) -> Option<Vec<T>> {
-        let mut items = Vec::new();
-        self.expects("[")?;
-        while !self.skips("]") {
-            if !items.is_empty() {
-                self.expects(",")?;
-            }
-            items.push(item(self)?);
-        }
-        Some(items)
-    }
-
-    fn ids(&mut self, key: &str) -> Option<Vec<u64>> {
-        self.expects(key)?;
-        self.list(Self::number)
-    }
-
-    fn change(&mut self) -> Option<ConfChangeSingle> {
-        self.expects("{\"node_id\":")?;
-        let node_id = self.number()?;
-        self.expects(",\"type\":\"ConfChange")?;
-        let change_type = self.one_of(&[
-            ("AddNode", ConfChangeType::AddNode),
-            ("RemoveNode", ConfChangeType::RemoveNode),
-            ("UpdateNode", ConfChangeType::UpdateNode),
-            ("AddLearnerNode", ConfChangeType::AddLearnerNode),
-        ])?;
-        self.expects("\"}")?;
-        Some(ConfChangeSingle { change_type, node_id })
-    }
-
-    fn conf_change(&mut self) -> Option<ConfChangeV2> {
-        self.expects(",\"conf_change\":{\"changes\":")?;
-        let changes = self.list(Self::change)?;
-        self.expects(",\"transition\":\"ConfChangeTransition")?;
-        let transition = self.one_of(&[
-            ("Auto", ConfChangeTransition::Auto),
-            ("JointImplicit", ConfChangeTransition::Implicit),
-            ("JointExplicit", ConfChangeTransition::Explicit),
-        ])?;
-        self.expects("\"}")?;
-        Some(ConfChangeV2 { transition, changes })
-    }
-
-    fn conf_state(&mut self, fresh: Vec<u64>) -> Option<Configuration> {
-        self.expects(",\"conf_state\":{\"auto_leave\":")?;
-        let state = Configuration {
-            auto_leave: self.truth()?,
-            learners: self.ids(",\"learners\":")?,
-            learners_next: self.ids(",\"learners_next\":")?,
-            voters: self.ids(",\"voters\":")?,
-            voters_outgoing: self.ids(",\"voters_outgoing\":")?,
-            fresh,
-        };
-        self.expects("}")?;
-        Some(state)
-    }
-
-    // The ids that are down and a comma, if there are any.
-    fn down(&mut self) -> Option<()> {
-        if self.skips("\"down\":") {
-            self.list(Self::number)?;
-            self.expects(",")?;
-        }
-        Some(())
-    }
-
-    // Whether the plan stalls, which is there if ids are down.
-    fn stalls(&mut self) -> Option<bool> {
-        self.expects("\"plan\":1,")?;
-        if !self.skips("\"stalls\":") {
-            return Some(false);
-        }
-        let stalls = self.truth()?;
-        self.expects(",")?;
-        Some(stalls)
-    }
-
-    // A line: its stage, unless there is nothing to do, and whether the plan stalls.
-    fn line(mut self) -> Option<(Option<Stage>, bool)> {
-        self.expects("{")?;
-        if !self.skips("\"catch_up\":") {
-            self.down()?;
-            let stalls = self.stalls()?;
-            return (self.0 == "\"steps\":0}").then_some((None, stalls));
-        }
-        let fresh = self.list(Self::number)?;
-        let conf_change = self.conf_change()?;
-        let conf_state = self.conf_state(fresh)?;
-        self.expects(",")?;
-        self.down()?;
-        self.expects("\"may_be_down\":")?;
-        let may_be_down = self.count()?;
-        self.expects(",")?;
-        let mut may_be_down_besides = None;
-        if self.skips("\"may_be_down_besides\":") {
-            may_be_down_besides = self.count()?;
-            self.expects(",")?;
-        }
-        let stalls = self.stalls()?;
-        self.expects("\"step\":")?;
-        self.number()?;
-        self.expects(",\"steps\":")?;
-        self.number()?;
-        self.expects(",\"until_then\":")?;
-        let until_then = self.count()?;
-        (self.0 == "}").then_some((Some(Stage { conf_change, conf_state, may_be_down, until_then, may_be_down_besides }), stalls))
-    }
 }

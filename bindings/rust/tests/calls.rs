@@ -115,9 +115,9 @@ extern "C" {
 
 #[test]
 fn counts() {
-    assert_eq!(committed(&mut [9, 7, 0], &mut []), 7);
-    assert_eq!(committed(&mut [9, 7, 0], &mut [5]), 5);
-    assert_eq!(committed(&mut [], &mut []), u64::MAX);
+    assert_eq!(committed(&[9, 7, 0], &[]), 7);
+    assert_eq!(committed(&[9, 7, 0], &[5]), 5);
+    assert_eq!(committed(&[], &[]), u64::MAX);
     assert_eq!(vote(&[Some(true), Some(true), None], &[]), VoteResult::Won);
     assert_eq!(vote(&[Some(false), Some(false), None], &[]), VoteResult::Lost);
     assert_eq!(vote(&[None, None, None], &[]), VoteResult::Pending);
@@ -208,12 +208,36 @@ fn stages_with_ids_down() {
     assert!(plan.stages.is_empty() && plan.stalls);
     let plan = stages(options(&[1]), &voters(&[1, 2, 3]), &voters(&[2, 3, 4])).unwrap();
     assert_eq!((plan.stages.len(), plan.stages[0].may_be_down, plan.stages[0].may_be_down_besides, plan.stalls), (2, Some(1), Some(0), false));
+    let plan = stages(options(&[2]), &voters(&[1]), &voters(&[1, 2])).unwrap();
+    assert_eq!((plan.stages[0].may_be_down, plan.stages[0].may_be_down_besides, plan.stalls), (Some(0), None, true));
     let plan = stages(Options::default(), &voters(&[1]), &voters(&[1, 2])).unwrap();
     assert_eq!((plan.stages[0].may_be_down, plan.stages[0].until_then, &plan.stages[0].conf_state.fresh), (Some(0), None, &vec![2]));
-    assert_eq!(refused(stages(options(&[0]), &voters(&[1]), &voters(&[2]))), why(Status::ZeroId, 0, "the id 0"));
-    assert_eq!(refused(stages(options(&[]), &voters(&[]), &voters(&[2]))), why(Status::NoVoter, 1, "no incoming voter (the configuration)"));
+}
+
+// The numbers are more than those of the first buffer.
+#[test]
+fn stages_many_changes() {
+    let target = Configuration { learners: (1..=100).collect(), ..voters(&[1000]) };
+    let plan = stages(Options::default(), &voters(&[1000]), &target).unwrap();
+    assert_eq!((plan.stages.len(), &plan.stages[99].conf_state), (100, &Configuration { fresh: vec![100], ..target }));
+}
+
+#[test]
+fn refuses_stages() {
+    let joint = Configuration { voters_outgoing: vec![1], ..voters(&[2]) };
     let invalid = Configuration { learners: vec![2], ..voters(&[2]) };
-    assert_eq!(refused(stages(options(&[]), &voters(&[1]), &invalid)), why(Status::NotAConfiguration, 2, "not a configuration (the target)"));
+    let one_at_a_time = Options { strategy: Strategy::OneAtATime, ..Options::default() };
+    for (options, now, target, expected) in [
+        (Options { down: &[0], ..Options::default() }, voters(&[1]), voters(&[2]), why(Status::ZeroId, 0, "the id 0")),
+        (Options::default(), voters(&[7, 1, 7]), voters(&[2]), why(Status::RepeatedId, 7, "an id is named twice (id 7)")),
+        (Options::default(), voters(&[1]), invalid, why(Status::LearnerAndVoter, 2, "a learner is a voter (id 2)")),
+        (Options { down: &[1, 9], ..Options::default() }, voters(&[1]), voters(&[2]), why(Status::DownNotAMember, 9, "down and not a member (id 9)")),
+        (Options::default(), voters(&[]), voters(&[2]), why(Status::NoVoter, 1, "no incoming voter (the configuration)")),
+        (Options::default(), voters(&[1]), voters(&[]), why(Status::NoVoter, 2, "no incoming voter (the target)")),
+        (one_at_a_time, voters(&[1]), joint, why(Status::JointTarget, 0, "the target is joint")),
+    ] {
+        assert_eq!(refused(stages(options, &now, &target)), expected);
+    }
 }
 
 #[test]

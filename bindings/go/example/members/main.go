@@ -46,7 +46,7 @@ type cluster struct {
 
 func main() {
 	folder := flag.String("folder", "", "where the journals are")
-	exitAfter := flag.Int("exit-after", 0, "stop after so many stages")
+	exitAfter := flag.Int("exit-after", 0, "stop after this many stages")
 	flag.Parse()
 	if *folder == "" {
 		log.Fatal("usage: members -folder DIR [-exit-after N]")

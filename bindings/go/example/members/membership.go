@@ -1,7 +1,6 @@
 package main
 
 import (
-	"encoding/json"
 	"fmt"
 	"reflect"
 
@@ -102,15 +101,7 @@ func (c *cluster) haveApplied(state confscript.ConfState) bool {
 // firstStage returns the first stage of the plan, in which new voters are learners first, so that they catch up before
 // they vote.
 func firstStage(now, target confscript.ConfState) (confscript.Stage, error) {
-	from, err := json.Marshal(now)
-	if err != nil {
-		return confscript.Stage{}, err
-	}
-	to, err := json.Marshal(target)
-	if err != nil {
-		return confscript.Stage{}, err
-	}
-	stages, _, err := confscript.Stages(confscript.Options{Strategy: confscript.LearnersFirst}, string(from), string(to))
+	stages, _, err := confscript.Stages(confscript.Options{Strategy: confscript.LearnersFirst}, now, target)
 	if err != nil {
 		return confscript.Stage{}, err
 	}
