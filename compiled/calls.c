@@ -43,7 +43,7 @@ CALL(struct answer, apply,
      (const uint8_t *configuration, size_t configuration_len, const uint8_t *plan, size_t plan_len, uint8_t *out, size_t out_len),
      (LIST(configuration), LIST(plan), LIST(out)))
 CALL(struct answer, check, (const uint8_t *configuration, size_t configuration_len), (LIST(configuration)))
-CALL(uint64_t, committed, (uint64_t *incoming, size_t incoming_len, uint64_t *outgoing, size_t outgoing_len),
+CALL(uint64_t, committed, (const uint64_t *incoming, size_t incoming_len, const uint64_t *outgoing, size_t outgoing_len),
      (LIST(incoming), LIST(outgoing)))
 CALL(struct answer, vote, (const uint8_t *incoming, size_t incoming_len, const uint8_t *outgoing, size_t outgoing_len),
      (LIST(incoming), LIST(outgoing)))
@@ -53,6 +53,10 @@ CALL(struct answer, step,
      (const uint64_t *configuration, size_t configuration_len, uint32_t step, const struct change *changes, size_t changes_len,
       uint64_t *out, size_t out_len),
      (LIST(configuration), step, LIST(changes), LIST(out)))
+CALL(struct answer, stages,
+     (const uint64_t *configuration, size_t configuration_len, const uint64_t *target, size_t target_len, uint32_t strategy,
+      const uint64_t *down, size_t down_len, uint64_t *out, size_t out_len),
+     (LIST(configuration), LIST(target), strategy, LIST(down), LIST(out)))
 CALL(struct answer, may_be_down,
      (const uint64_t *incoming, size_t incoming_len, const uint64_t *outgoing, size_t outgoing_len, const uint64_t *uncounted,
       size_t uncounted_len),
