@@ -7,10 +7,9 @@ pub use Rattle.conf_change.proofs.Configurations.Violations.{is_valid-from_confi
 pub use Rattle.conf_change.proofs.ListsOfChanges.ResultOfEach.{configuration-by_members, has-incoming_after, has-learners_after, has-next_after, last_effective-one, result_of-none, result_of-push, result_of-update}
 pub use Rattle.conf_change.proofs.MemberProgress.Entries.{item-copied}
 pub use Rattle.conf_change.proofs.MemberProgress.OfEachId.{any-members, has-all_members}
-pub use Rattle.conf_change.proofs.SetWalks.PositionByPosition.{is_passed, is_passed-all, is_passed-more}
 pub use Rattle.conf_change.proofs.Steps.Acceptance.{EnterTaken-from_outcome, LeaveTaken-from_outcome, SimpleTaken-from_outcome, outcome-enter_accepted, outcome-leave_accepted, outcome-simple_accepted, outgoing-none}
 pub use Rattle.conf_change.proofs.Steps.ChangerAfter.{Accepts-from_changer_after, changer_after-from_Accepts}
 pub use Rattle.conf_change.proofs.Steps.OneChange.{one_change-one_voter}
 pub use Rattle.conf_change.proofs.Steps.Soundness.{get-after, has-after_leave, moved_to-is_sound, outcome-are_neighbours, outcome-has_voter, outcome-is_restorable, outcome-is_valid, outcome-overlaps}
-pub use Rattle.conf_change.proofs.Texts.ChangeTokens.{AllZip-from_ok, changes_in_tokens-ok, kind_in-letter_of}
+pub use Rattle.conf_change.proofs.Texts.ChangeTokens.{AllZip-from_ok, changes_in_tokens-ok}
 pub use Rattle.conf_change.proofs.Texts.ConfStateLine.{DenotesConfState-from_some, DenotesConfState-printed, ParsesToNumbers-spaced, conf_state_in-ok, trimmed-bracketed_line}

@@ -1,12 +1,15 @@
 -- Edits: what a list of changes makes of each id that it names. Of v4 r4 l4 the edit of 4 is Learner with a removal.
-use Rattle.std.specs.Prelude.{◌≡◌, ℕ, Bool, false, ◌||◌, List, map, Option, Some, None, option_map}
+use Rattle.std.specs.Prelude.{◌≡◌, ℕ, ◌==◌, Bool, false, ◌||◌, List, map, Option, Some, None, option_map, if◌then◌else◌}
 use Rattle.std.specs.Ordering.{nat_cmp}
+use Rattle.std.specs.FinMap as finite
 use Rattle.std.specs.FinMap.{find}
 use Rattle.quorum_sets.specs.Ids.{Ids, has}
 use Rattle.quorum_sets.specs.AscendingLists.{IsAscending}
+use Rattle.quorum_sets.specs.Edits.{edited}
 use Rattle.conf_change.specs.Configuration.{Configuration}
 use Rattle.conf_change.specs.Change.{last_effective, removes, is_removal, is_incoming_after, is_learner_after, is_next_after}
 use Rattle.conf_change.specs.TrackerEdits.{entry_of, progress_left_after}
+use Rattle.conf_change.specs.TrackerState.{ProgressMap}
 use Rattle.conf_change.specs.declared.change.Change.{Change}
 use Rattle.conf_change.specs.declared.change.Kind.{Kind}
 use Rattle.conf_change.specs.declared.edit_list.Edit.{Edit}
@@ -48,6 +51,16 @@ member_after edit next_index id had = option_map (λ p. (id, p)) (entry_after ed
 abbrev pub with_change : Option Edit → Kind → Bool → Edit
 with_change None kind outgoing = record { kind = kind; removed = is_removal kind; outgoing = outgoing }
 with_change (Some edit) kind outgoing = record { kind = kind; removed = edit.removed || is_removal kind; outgoing = edit.outgoing }
+
+-- the edits after one more effective change: the edit of its id has the change too
+abbrev pub Adds : Change → Bool → List (ℕ × Edit) → List (ℕ × Edit) → Type 0
+Adds change outgoing before after =
+    (q : ℕ) → find nat_cmp q after ≡ (if q == change.id then Some (with_change (find nat_cmp change.id before) change.kind outgoing) else find nat_cmp q before)
+
+-- the progress after the edits: each id has the entry that its edit gives, or the one that it had
+abbrev pub HasEditedEntries : ℕ → List (ℕ × Edit) → ProgressMap → ProgressMap → Type 0
+HasEditedEntries next_index edits before after =
+    (id : ℕ) → finite.get after id ≡ edited (λ e. entry_after e next_index) edits id (finite.get before id)
 
 -- the configuration with these outgoing voters and this flag
 abbrev pub with_voters_out : Configuration → Ids → Bool → Configuration

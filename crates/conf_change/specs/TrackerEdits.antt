@@ -5,7 +5,7 @@ use Rattle.quorum_sets.specs.Ids.{has}
 use Rattle.conf_change.specs.Configuration.{Configuration, is_member}
 use Rattle.conf_change.specs.Outcome.{outcome}
 use Rattle.conf_change.specs.Progress.{fresh_progress, with_mark, is_replaced}
-use Rattle.conf_change.specs.TrackerState.{TrackerState}
+use Rattle.conf_change.specs.TrackerState.{TrackerState, ProgressMap}
 use Rattle.conf_change.specs.declared.progress.Progress.{Progress}
 use Rattle.conf_change.specs.declared.step.Step.{Step}
 
@@ -30,6 +30,10 @@ entries_of id (Some p) = (id, p) ∷ []
 -- the progress that an id keeps: a member keeps all and is marked as a learner or not; any other id keeps none
 abbrev pub progress_kept : Bool → Bool → Option Progress → Option Progress
 progress_kept member learner had = if member then option_map (with_mark learner) had else None
+
+-- the members of the configuration keep their progress
+abbrev pub KeepsMembers : Configuration → ProgressMap → ProgressMap → Type 0
+KeepsMembers c before after = (id : ℕ) → finite.get after id ≡ progress_kept (is_member c id) (has c.learners id) (finite.get before id)
 
 -- the tracker after a step, with this initial next index for new members: a member keeps its progress, unless the step
 -- removes it and it is not an outgoing voter afterwards

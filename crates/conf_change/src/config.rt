@@ -6,12 +6,12 @@
 //! ```
 ghost use Rattle.std.specs.Prelude.{◌≡◌, ◌↔◌, List, map, Some, true, false, not, ◌&&◌, IfOk, IfErr, OnOk, OnErr, IsOk, IsTrue, if◌then◌else◌};
 ghost use Rattle.quorum_sets.specs.Ids.{has};
-ghost use Rattle.conf_change.specs.Configuration.{empty_configuration, is_joint, has_voter, first_broken, is_valid, keeps, is_within, is_apart, is_same, is_same_set};
 ghost use Rattle.quorum_sets.specs.AscendingLists.{IsAscending};
+ghost use Rattle.conf_change.specs.Configuration.{empty_configuration, is_joint, has_voter, first_broken, is_valid, keeps, is_within, is_apart, is_same, is_same_set};
 ghost use Rattle.conf_change.specs.Change.{result_of};
 ghost use Rattle.conf_change.specs.Edits.{AreEdits, with_voters_out};
-ghost use Rattle.conf_change.specs.declared.change.Change.{Change};
 ghost use Rattle.conf_change.specs.Outcome.{after_leave};
+ghost use Rattle.conf_change.specs.declared.change.Change.{Change};
 ghost use Rattle.conf_change.specs.declared.config.Invariant.{Invariant};
 
 use crate::edit_list::{Edit, Role};
@@ -137,8 +137,8 @@ impl<S: MemberSet> Config<S> {
         })
     }
 
-    // Overwrites `self` with the configuration after the edits, but with these outgoing voters and this flag. On `NoMemory`
-    // its contents are unspecified.
+    // Overwrites `self` with the configuration after the edits, but with these outgoing voters and this flag. On
+    // `NoMemory` its contents are unspecified.
     pub(crate) fn become_edited(
         &mut self,
         before: &Config<S>,
@@ -147,8 +147,8 @@ impl<S: MemberSet> Config<S> {
         edits: &[(u64, Edit)],
     ) -> Result<(), NoMemory>
         requires { IsAscending (map (λ e. e.0) edits.now) }
-        ensures { OnOk result ((changes : List Change) → AreEdits changes (S.ids outgoing.now) edits.now →
-            self.new ≡ result_of (with_voters_out before.now (S.ids outgoing.now) auto_leave) changes) }
+        ensures { OnOk result ((changes : List Change) → AreEdits changes (S.ids outgoing.now) edits.now
+            → self.new ≡ result_of (with_voters_out before.now (S.ids outgoing.now) auto_leave) changes) }
     {
         self.outgoing.try_clone_from(outgoing)?;
         self.auto_leave = auto_leave;

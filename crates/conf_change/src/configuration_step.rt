@@ -139,8 +139,8 @@ fn become_changed<S: MemberSet>(
     auto_leave: bool,
     changes: &[Change],
 ) -> Result<(), NoMemory>
-    ensures changed { OnOk result (next.new
-        ≡ result_of (with_voters_out before.now (S.ids outgoing.now) auto_leave) changes.now) }
+    ensures changed { OnOk result
+        (next.new ≡ result_of (with_voters_out before.now (S.ids outgoing.now) auto_leave) changes.now) }
     ensures edits { OnOk result (AreEdits changes.now (S.ids outgoing.now) edits.new.items) }
 {
     settle(edits, changes, outgoing)?;

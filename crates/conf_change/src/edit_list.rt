@@ -1,12 +1,10 @@
 //! What a list of changes makes of each id that it names. Of several changes of one id the last effective one decides
 //! its roles, and a removal anywhere among them ends its progress, unless it is an outgoing voter. `v4 r4 l4` is one
 //! edit: 4 becomes a learner, with fresh progress.
-ghost use Rattle.std.specs.Prelude.{◌≡◌, ℕ, ◌==◌, ◌&&◌, not, Bool, [], map, Some, None, OnOk, if◌then◌else◌};
-ghost use Rattle.std.specs.Ordering.{nat_cmp};
-ghost use Rattle.std.specs.FinMap.{find};
+ghost use Rattle.std.specs.Prelude.{◌≡◌, ◌==◌, ◌&&◌, not, Bool, [], map, Some, None, OnOk};
 ghost use Rattle.quorum_sets.specs.AscendingLists.{IsAscending, IsAtPosition};
 ghost use Rattle.conf_change.specs.Change.{is_update};
-ghost use Rattle.conf_change.specs.Edits.{AreEdits, has_role, member_after, with_change};
+ghost use Rattle.conf_change.specs.Edits.{Adds, AreEdits, has_role, member_after, with_change};
 
 use crate::change::{Change, Kind};
 use crate::members::position_of;
@@ -26,7 +24,7 @@ pub(crate) struct Edit {
 }
 
 /// The edits of a list, in ascending order of the ids.
-pub(crate) type Edits = SmallVec<(u64, Edit), 16>;
+pub(crate) type Edits = SmallVec<(u64, Edit), 8>;
 
 /// A role that an edit gives an id or takes from it: that of an incoming voter, a learner or a next learner.
 #[derive(Clone, Copy, Debug)]
@@ -103,8 +101,8 @@ impl ItemEdit<(u64, Progress), u64> for Edit {
     }
 }
 
-/// Overwrites `edits` with those of a list of changes, among these outgoing voters. An id without an effective change has
-/// no edit. On `NoMemory` the contents are unspecified.
+/// Overwrites `edits` with those of a list of changes, among these outgoing voters. An id without an effective change
+/// has no edit. On `NoMemory` the contents are unspecified.
 pub(crate) fn settle<S: MemberSet>(
     edits: &mut Edits,
     changes: &[Change],
@@ -118,7 +116,7 @@ pub(crate) fn settle<S: MemberSet>(
     }
     // The sort is stable, so the changes of an id stay in order.
     let alloc = *edits.allocator();
-    let mut sorted: SmallVec<Change, 16> = SmallVec::from_slice(alloc, changes)?;
+    let mut sorted: SmallVec<Change, 8> = SmallVec::from_slice(alloc, changes)?;
     sorted
         .as_mut_slice()
         .sort_by_key(alloc, |change| change.id)?;
@@ -165,10 +163,7 @@ fn is_effective(change: Change) -> bool
 fn add(edits: &mut Edits, change: Change, outgoing: bool) -> Result<(), NoMemory>
     requires { IsAscending (map (λ e. e.0) edits.old.items) }
     ensures ascends { OnOk result (IsAscending (map (λ e. e.0) edits.new.items)) }
-    ensures added { OnOk result ((q : ℕ)
-        → find nat_cmp q edits.new.items
-        ≡ (if q == change.id then Some (with_change (find nat_cmp change.id edits.old.items) change.kind outgoing)
-        else find nat_cmp q edits.old.items)) }
+    ensures added { OnOk result (Adds change outgoing edits.old.items edits.new.items) }
 {
     match position_of(edits.as_slice(), change.id) {
         Ok(position) => amend(edits.as_mut_slice(), position, change),
@@ -185,10 +180,7 @@ fn amend(edits: &mut [(u64, Edit)], position: usize, change: Change)
     requires ascends { IsAscending (map (λ e. e.0) edits.old) }
     requires at_position { IsAtPosition (map (λ e. e.0) edits.old) change.id position }
     ensures keys { map (λ e. e.0) edits.new ≡ map (λ e. e.0) edits.old }
-    ensures added { (outgoing : Bool) (q : ℕ)
-        → find nat_cmp q edits.new
-        ≡ (if q == change.id then Some (with_change (find nat_cmp change.id edits.old) change.kind outgoing)
-        else find nat_cmp q edits.old) }
+    ensures added { (outgoing : Bool) → Adds change outgoing edits.old edits.new }
 {
     let known = edits[position].1;
     edits[position] = (change.id, known.and(change.kind));

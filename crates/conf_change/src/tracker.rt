@@ -6,15 +6,13 @@
 //! --r1 v1 l3-> (1 2) learners=(3)   1: match=0 next=9   2: match=4 next=6   3: match=0 next=9 learner
 //! ```
 ghost use Rattle.std.specs.Prelude.{◌≡◌, ◌≢◌, ℕ, true, ◌++◌, map, length, slice_get, IfOk, IfErr, OnOk, Err, Some, is_some};
-ghost use Rattle.std.specs.Ordering.{nat_cmp};
 ghost use Rattle.std.specs.FinMap as finite;
 ghost use Rattle.quorum_sets.specs.Ids.{has};
 ghost use Rattle.quorum_sets.specs.AscendingLists.{IsAscending};
 ghost use Rattle.conf_change.specs.Configuration.{is_member};
 ghost use Rattle.conf_change.specs.Outcome.{outcome};
-ghost use Rattle.quorum_sets.specs.Edits.{edited};
-ghost use Rattle.conf_change.specs.Edits.{entry_after};
-ghost use Rattle.conf_change.specs.TrackerEdits.{Moves, entries_of, progress_kept};
+ghost use Rattle.conf_change.specs.Edits.{HasEditedEntries};
+ghost use Rattle.conf_change.specs.TrackerEdits.{KeepsMembers, Moves, entries_of, progress_kept};
 ghost use Rattle.conf_change.specs.Transition.{step_of};
 ghost use Rattle.conf_change.specs.Changer.{IsSound, empty_tracker, tracker_of};
 ghost use Rattle.conf_change.specs.Acknowledgement.{with_progress};
@@ -169,8 +167,8 @@ impl<S: MemberSet> Tracker<S> {
         Tracker::new(self.alloc, self.floor)
     }
 
-    // Overwrites `self` with the result of a step from `before`, in which new members get this initial next index. If the
-    // step is refused, the contents are unspecified.
+    // Overwrites `self` with the result of a step from `before`, in which new members get this initial next index. If
+    // the step is refused, the contents are unspecified.
     pub(crate) fn become_next(
         &mut self,
         before: &Tracker<S>,
@@ -207,9 +205,9 @@ fn edit_members(
     requires others { IsAscending (map (λ m. m.0) others.now) }
     requires edits { IsAscending (map (λ e. e.0) edits.now) }
     ensures ascends { IsAscending (map (λ m. m.0) members.new.items) }
-    ensures edited { OnOk result ((q : ℕ)
-        → finite.get (finite.from_entries {R = nat_cmp} members.new.items) q
-        ≡ edited (λ e. entry_after e next_index) edits.now q (finite.get (finite.from_entries {R = nat_cmp} others.now) q)) }
+    ensures edited { OnOk result
+        (HasEditedEntries next_index edits.now (finite.from_entries others.now)
+        (finite.from_entries members.new.items)) }
 {
     members.clear();
     members.reserve(others.len().saturating_add(edits.len()))?;
@@ -225,10 +223,8 @@ fn keep_members<S: MemberSet>(
 ) -> Result<(), NoMemory>
     requires { IsAscending (map (λ m. m.0) others.now) }
     ensures ascends { IsAscending (map (λ m. m.0) members.new.items) }
-    ensures kept { OnOk result ((q : ℕ)
-        → finite.get (finite.from_entries {R = nat_cmp} members.new.items) q
-        ≡ progress_kept (is_member config.now q) (has config.now.learners q)
-        (finite.get (finite.from_entries {R = nat_cmp} others.now) q)) }
+    ensures kept { OnOk result
+        (KeepsMembers config.now (finite.from_entries others.now) (finite.from_entries members.new.items)) }
 {
     members.clear();
     members.reserve(others.len())?;

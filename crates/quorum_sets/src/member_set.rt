@@ -33,8 +33,8 @@ pub trait MemberSet: Drop {
         ensures ok { OnOk result (ids self.new ≡ ids other.now) }
         ensures err { OnErr result (ids self.new ≡ no_ids) };
 
-    /// Overwrites `self` with the ids of another set after edits, which are in ascending order of the ids. On `NoMemory` its
-    /// contents are unspecified.
+    /// Overwrites `self` with the ids of another set after edits, which are in ascending order of the ids. On
+    /// `NoMemory` its contents are unspecified.
     fn try_clone_edited<C, E: IdEdit<C>>(
         &mut self,
         other: &Self,

@@ -1,5 +1,5 @@
-//! Edits of a sorted list. The edits are in ascending order of their ids, as the items are, so the edited list is made in
-//! one pass: what lies between two edited ids is copied as it is.
+//! Edits of a sorted list. The edits are in ascending order of their ids, as the items are, so the edited list is made
+//! in one pass: what lies between two edited ids is copied as it is.
 //!
 //! ```text
 //! (1 2 4 7)   --1 out, 3 in, 7 in-->   (2 3 4 7)
@@ -48,7 +48,8 @@ pub trait ItemEdit<T: Item, C>: Copy {
         ensures { result ≡ item_after self context.now id item };
 
     /// It has the id.
-    ghost has_id: { (edit : Self) (context : C) (id : ℕ) (item : Option T) → IfSome (item_after edit context id item) (λ after. T.key after ≡ id) };
+    ghost has_id: { (edit : Self) (context : C) (id : ℕ) (item : Option T)
+        → IfSome (item_after edit context id item) (λ after. T.key after ≡ id) };
 }
 
 /// What an edit makes of an id in a set: it is there or not. `C` names the set, where the edits are those of several
@@ -85,19 +86,30 @@ pub fn merge<T: Item, C, E: ItemEdit<T, C>, const N: usize>(
     requires edits { IsAscending (map (λ e. e.0) edits.now) }
     ensures ascends { IsAscending (map T.key items.new.items) }
     ensures capacity { items.old.capacity ≤ items.new.capacity }
-    ensures merged { OnOk result ((id : ℕ)
-        → item_of T.key id items.new.items
+    ensures merged { OnOk result ((id : ℕ) → item_of T.key id items.new.items
         ≡ edited (λ e. E.item_after e context.now id) edits.now id (item_of T.key id others.now)) }
 {
     items.clear();
     let mut rest = others;
     for (id, edit) in edits {
         let (below, item, above) = cut(rest, *id);
-        items.extend_from_slice(below)?;
+        append(items, below)?;
         push_some(items, edit.item_after(context, *id, item))?;
         rest = above;
     }
-    items.extend_from_slice(rest)?;
+    append(items, rest)?;
+    Ok(())
+}
+
+// Appends a run of items. Most runs are empty: a set has few of the ids that the edits name, and no others between them.
+fn append<T: Item, const N: usize>(items: &mut SmallVec<T, N>, run: &[T]) -> Result<(), NoMemory>
+    ensures ok { OnOk result (items.new.items ≡ items.old.items ++ run.now) }
+    ensures err { OnErr result (items.new.items ≡ items.old.items) }
+    ensures capacity { items.old.capacity ≤ items.new.capacity }
+{
+    if !run.is_empty() {
+        items.extend_from_slice(run)?;
+    }
     Ok(())
 }
 

@@ -10,11 +10,11 @@ use Rattle.std.proofs.lemmas.List.{take_more}
 use Rattle.quorum_sets.specs.Ids.{Ids, has}
 use Rattle.quorum_sets.specs.AscendingLists.{IsAscending}
 use Rattle.conf_change.specs.Change.{names, is_update, is_removal, last_effective, removes}
-use Rattle.conf_change.specs.Edits.{edit_of, with_change, AreEdits}
+use Rattle.conf_change.specs.Edits.{Adds, AreEdits, edit_of, with_change}
 use Rattle.conf_change.specs.declared.change.Change.{Change}
 use Rattle.conf_change.specs.declared.change.Kind.{Kind}
 use Rattle.conf_change.specs.declared.edit_list.Edit.{Edit}
-use Rattle.conf_change.proofs.ListsOfChanges.ResultOfEach.{last_effective-push, removes-push, is_some-last_effective}
+use Rattle.conf_change.proofs.ListsOfChanges.ResultOfEach.{is_some-last_effective, last_effective-push, last_effective-zero, option_map-cond, removes-push}
 use Rattle.conf_change.proofs.ListsOfChanges.SortedById.{last_effective-sorted, removes-sorted}
 
 -- ---- what the changes make of an id
@@ -28,10 +28,7 @@ effective_one b kind rest h = grind arith
 first-effective : (xs : List Change) (q : ℕ) → IsEffective (option_map (λ change. change.kind) (first (names q) xs))
 first-effective [] q = tt
 first-effective (x ∷ xs) q =
-    subst IsEffective (sym (of_cond (names q x) (first (names q) xs))) (effective_one ((x.id == q) && not (q == 0)) x.kind (option_map (λ change. change.kind) (first (names q) xs)) (first-effective xs q))
-  where
-    of_cond : (b : Bool) (o : Option Change) → option_map (λ change. change.kind) (cond b (Some x) o) ≡ cond b (Some x.kind) (option_map (λ change. change.kind) o)
-    of_cond b o = grind arith
+    subst IsEffective (sym (option_map-cond (λ change. change.kind) (names q x) x (first (names q) xs))) (effective_one ((x.id == q) && not (q == 0)) x.kind (option_map (λ change. change.kind) (first (names q) xs)) (first-effective xs q))
 
 pub last-effective : (xs : List Change) (q : ℕ) → IsEffective (last_effective xs q)
 last-effective xs q = first-effective (reverse xs) q
@@ -47,13 +44,6 @@ named_not_removed some removed last e f none = grind arith
 pub removes-none : (xs : List Change) (q : ℕ) → (q == 0) ≡ false → last_effective xs q ≡ None → removes xs q ≡ false
 removes-none xs q apart none = named_not_removed (list_any (names q) xs) (removes xs q) (last_effective xs q) (is_some-last_effective xs q) (removal-named xs q apart) none
 
-first-zero : (xs : List Change) → first (names 0) xs ≡ None
-first-zero [] = refl
-first-zero (x ∷ xs) = grind (arith, first-zero xs)
-
-pub last_effective-zero : (xs : List Change) (q : ℕ) → (q == 0) ≡ true → last_effective xs q ≡ None
-last_effective-zero xs q zero = ap (λ n. last_effective xs n) (eqb-true q 0 zero) ∙ ap (option_map (λ change. change.kind)) (first-zero (reverse xs))
-
 -- ---- one more change
 abbrev pub edit_with : Bool → Bool → Option Kind → Option Edit
 edit_with removed outgoing last = option_map (λ kind. record { kind = kind; removed = removed; outgoing = outgoing }) last
@@ -67,7 +57,7 @@ pub edit_of-push : (xs : List Change) (x : Change) (outgoing : Ids) (q : ℕ)
     → edit_of (xs ++ x ∷ []) outgoing q ≡ cond (names q x) (Some (with_change (edit_of xs outgoing q) x.kind (has outgoing q))) (edit_of xs outgoing q)
 edit_of-push xs x outgoing q =
     (λ i. edit_with (removes-push xs x q i) (has outgoing q) (last_effective-push xs x q i))
-    ∙ edit-more (has outgoing q) (removes xs q) (x.id == q) (q == 0) x.kind (last_effective xs q) (last_effective-zero xs q) (removes-none xs q)
+    ∙ edit-more (has outgoing q) (removes xs q) (x.id == q) (q == 0) x.kind (last_effective xs q) (λ zero. ap (last_effective xs) (eqb-true q 0 zero) ∙ last_effective-zero xs) (removes-none xs q)
 
 names-effective : (x : Change) (q : ℕ) → (not (x.id == 0) && not (is_update x.kind)) ≡ true → names q x ≡ (q == x.id)
 names-effective x q e = grind (arith, nat_tests)
@@ -77,10 +67,6 @@ names-ineffective x q e = grind (arith, nat_tests)
 
 pub AreEdits-none : (outgoing : Ids) → AreEdits [] outgoing []
 AreEdits-none outgoing = record { ascends = λ i j lt within. absurd (omega arith); each = λ q. refl }
-
--- an effective change is added to the edit of its id
-abbrev pub Adds : Change → Bool → List (ℕ × Edit) → List (ℕ × Edit) → Type 0
-Adds x outgoing before after = (q : ℕ) → find nat_cmp q after ≡ cond (q == x.id) (Some (with_change (find nat_cmp x.id before) x.kind outgoing)) (find nat_cmp q before)
 
 pub AreEdits-added : (changes : List Change) (k : ℕ) (d : Change) (outgoing : Ids) (is_outgoing : Bool) (before after : List (ℕ × Edit)) → k < length changes
     → (let x = get_or changes k d in

@@ -9,7 +9,7 @@ use Rattle.quorum_sets.specs.Ids.{Ids, has, is_empty}
 use Rattle.quorum_sets.specs.Edits.{item_of, edited, edited_by}
 use Rattle.conf_change.specs.Configuration.{Configuration, is_member, is_joint}
 use Rattle.conf_change.specs.Change.{last_effective, removes, is_incoming_after, is_learner_after, is_next_after, result_of}
-use Rattle.conf_change.specs.Edits.{AreEdits, has_role, entry_after, member_after, with_voters_out}
+use Rattle.conf_change.specs.Edits.{AreEdits, HasEditedEntries, has_role, entry_after, member_after, with_voters_out}
 use Rattle.conf_change.specs.TrackerState.{TrackerState, ProgressMap}
 use Rattle.conf_change.specs.TrackerEdits.{entry_of, entry_in, progress_left_after}
 use Rattle.conf_change.specs.Changer.{IsSound}
@@ -21,7 +21,7 @@ use Rattle.conf_change.specs.declared.edit_list.Role.TheVariants as role
 use Rattle.conf_change.specs.declared.progress.Progress.{Progress}
 use Rattle.conf_change.proofs.Configurations.Validity.{ValidByMember-from_is_valid, has-none_in_empty}
 use Rattle.conf_change.proofs.ListsOfChanges.EditOfEach.{IsEffective, edit_with, last-effective, removes-none}
-use Rattle.conf_change.proofs.ListsOfChanges.ResultOfEach.{configuration-by_members, has-incoming_after, has-learners_after, has-next_after}
+use Rattle.conf_change.proofs.ListsOfChanges.ResultOfEach.{configuration-by_members, has-incoming_after, has-learners_after, has-next_after, option_map-cond}
 
 -- ---- the roles of an id
 incoming-edited : (last : Option Kind) (removed out was : Bool) → IsEffective last → edited_by (λ e _. has_role e role.Incoming) (edit_with removed out last) was ≡ is_incoming_after last was
@@ -81,11 +81,7 @@ entry-edited next_index (Some Update) incoming out learner removed had h none sa
 value-item_of : (es : List (ℕ × Progress)) (q : ℕ) → option_map (λ m. m.1) (item_of (λ m. m.0) q es) ≡ finite.find nat_cmp q es
 value-item_of [] q = refl
 value-item_of (e ∷ es) q =
-    of_cond (e.0 == q) (item_of (λ m. m.0) q es) ∙ (λ i. cond ((nat_eq_equiv.symm e.0 q ∙ sym (unsigned_tied q e.0)) i) (Some e.1) (value-item_of es q i))
-  where
-    of_cond : (b : Bool) (o : Option (ℕ × Progress)) → option_map (λ m. m.1) (cond b (Some e) o) ≡ cond b (Some e.1) (option_map (λ m. m.1) o)
-    of_cond true o = refl
-    of_cond false o = refl
+    option_map-cond (λ m. m.1) (e.0 == q) e (item_of (λ m. m.0) q es) ∙ (λ i. cond ((nat_eq_equiv.symm e.0 q ∙ sym (unsigned_tied q e.0)) i) (Some e.1) (value-item_of es q i))
 
 value-edited : (next_index q : ℕ) (edit : Option Edit) (had : Option (ℕ × Progress))
     → option_map (λ m. m.1) (edited_by (λ e. member_after e next_index q) edit had) ≡ edited_by (λ e. entry_after e next_index) edit (option_map (λ m. m.1) had)
@@ -130,8 +126,7 @@ no_progress_of_zero t sound =
 -- the entry of each id is that of the changes
 pub entry-moved : (next_index : ℕ) (before : TrackerState) (outgoing : Ids) (auto_leave : Bool) (changes : List Change) (edits : List (ℕ × Edit)) (after : Configuration) (progress : ProgressMap)
     → IsSound before → HasSameMembers before.config outgoing → AreEdits changes outgoing edits → after ≡ result_of (with_voters_out before.config outgoing auto_leave) changes
-    → ((q : ℕ) → finite.get progress q ≡ edited (λ e. entry_after e next_index) edits q (finite.get before.progress q))
-    → (q : ℕ) → finite.get progress q ≡ entry_in next_index after (progress_left_after (removes changes q) (has after.outgoing q) (finite.get before.progress q)) q
+    → HasEditedEntries next_index edits before.progress progress → (q : ℕ) → finite.get progress q ≡ entry_in next_index after (progress_left_after (removes changes q) (has after.outgoing q) (finite.get before.progress q)) q
 entry-moved next_index before outgoing auto_leave changes edits after progress sound members are is entries q =
     let start = with_voters_out before.config outgoing auto_leave in
     let last = last_effective changes q in

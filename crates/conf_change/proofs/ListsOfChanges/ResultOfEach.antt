@@ -16,15 +16,16 @@ use Rattle.conf_change.specs.declared.change.Kind.{Kind}
 use Rattle.conf_change.specs.declared.change.Kind.TheVariants.{Update}
 
 -- ---- the last effective change
-of_cond : (b : Bool) (x : Change) (o : Option Change) → option_map (λ change. change.kind) (cond b (Some x) o) ≡ cond b (Some x.kind) (option_map (λ change. change.kind) o)
-of_cond b x o = grind arith
+pub option_map-cond : {X Y : Type 0} (f : X → Y) (b : Bool) (x : X) (o : Option X) → option_map f (cond b (Some x) o) ≡ cond b (Some (f x)) (option_map f o)
+option_map-cond f true x o = refl
+option_map-cond f false x o = refl
 
 reverse-push : (xs : List Change) (x : Change) → reverse (xs ++ x ∷ []) ≡ x ∷ reverse xs
 reverse-push xs x = reverse-append xs (x ∷ [])
 
 -- one more change has the last effective change on the ids that it names
 pub last_effective-push : (xs : List Change) (x : Change) (id : ℕ) → last_effective (xs ++ x ∷ []) id ≡ cond (names id x) (Some x.kind) (last_effective xs id)
-last_effective-push xs x id = ap (λ ys. option_map (λ change. change.kind) (find (names id) ys)) (reverse-push xs x) ∙ of_cond (names id x) x _
+last_effective-push xs x id = ap (λ ys. option_map (λ change. change.kind) (find (names id) ys)) (reverse-push xs x) ∙ option_map-cond (λ change. change.kind) (names id x) x _
 
 pub removes-push : (xs : List Change) (x : Change) (id : ℕ) → removes (xs ++ x ∷ []) id ≡ (removes xs id || ((x.id == id) && is_removal x.kind))
 removes-push xs x id =
@@ -32,7 +33,15 @@ removes-push xs x id =
 
 -- a list of one change
 pub last_effective-one : (x : Change) (q : ℕ) → last_effective (x ∷ []) q ≡ cond (names q x) (Some x.kind) None
-last_effective-one x q = of_cond (names q x) x None
+last_effective-one x q = option_map-cond (λ change. change.kind) (names q x) x None
+
+-- no change is effective for 0
+find-zero : (xs : List Change) → find (names 0) xs ≡ None
+find-zero [] = refl
+find-zero (x ∷ xs) = grind (arith, find-zero xs)
+
+pub last_effective-zero : (xs : List Change) → last_effective xs 0 ≡ None
+last_effective-zero xs = ap (option_map (λ change. change.kind)) (find-zero (reverse xs))
 
 -- ---- an id with a last effective change is named
 is_some-find : (p : Change → Bool) (xs : List Change) → is_some (find p xs) ≡ list_any p xs

@@ -4,13 +4,12 @@ use Rattle.std.specs.Prelude.{Option, Ok, is_some}
 use Rattle.std.specs.FinMap as finite
 use Rattle.std.proofs.lemmas.Bool.{and_parts}
 use Rattle.quorum_sets.specs.Ids.{Ids, has}
-use Rattle.quorum_sets.specs.Edits.{edited}
 use Rattle.quorum_sets.proofs.Offered.{has-no_ids}
 use Rattle.conf_change.specs.Configuration.{Configuration, is_member}
-use Rattle.conf_change.specs.Edits.{AreEdits, HasEdits, entry_after}
+use Rattle.conf_change.specs.Edits.{AreEdits, HasEdits, HasEditedEntries}
 use Rattle.conf_change.specs.Outcome.{outcome, after_leave}
 use Rattle.conf_change.specs.TrackerState.{TrackerState}
-use Rattle.conf_change.specs.TrackerEdits.{Moves, entry_of, progress_kept}
+use Rattle.conf_change.specs.TrackerEdits.{KeepsMembers, Moves, entry_of, progress_kept}
 use Rattle.conf_change.specs.Changer.{IsSound}
 use Rattle.conf_change.specs.declared.change.Change.{Change}
 use Rattle.conf_change.specs.declared.edit_list.Edit.{Edit}
@@ -24,12 +23,8 @@ use Rattle.conf_change.proofs.Configurations.Validity.{ValidByMember, ValidByMem
 use Rattle.conf_change.proofs.Steps.Acceptance.{SimpleTaken-from_outcome, EnterTaken-from_outcome, LeaveTaken-from_outcome}
 use Rattle.conf_change.proofs.Steps.Soundness.{has-after_leave}
 
--- each entry is that of the edits
-abbrev pub HasEditedEntries : ℕ → List (ℕ × Edit) → TrackerState → TrackerState → Type 0
-HasEditedEntries next_index edits before after = (q : ℕ) → finite.get after.progress q ≡ edited (λ e. entry_after e next_index) edits q (finite.get before.progress q)
-
 pub Moves-simple : (next_index : ℕ) (before after : TrackerState) (changes : List Change) (edits : List (ℕ × Edit)) → IsSound before → outcome before.config (Simple changes) ≡ Ok after.config
-    → AreEdits changes after.config.outgoing edits → after.floor ≡ before.floor → HasEditedEntries next_index edits before after → Moves next_index (Simple changes) before after
+    → AreEdits changes after.config.outgoing edits → after.floor ≡ before.floor → HasEditedEntries next_index edits before.progress after.progress → Moves next_index (Simple changes) before after
 Moves-simple next_index before after changes edits sound e are floor entries =
     let c = before.config in
     let made = (SimpleTaken-from_outcome c after.config changes e).made in
@@ -41,7 +36,7 @@ Moves-simple next_index before after changes edits sound e are floor entries =
     }
 
 pub Moves-enter : (next_index : ℕ) (before after : TrackerState) (auto_leave : Bool) (changes : List Change) (edits : List (ℕ × Edit)) → IsSound before
-    → outcome before.config (EnterJoint auto_leave changes) ≡ Ok after.config → AreEdits changes after.config.outgoing edits → after.floor ≡ before.floor → HasEditedEntries next_index edits before after
+    → outcome before.config (EnterJoint auto_leave changes) ≡ Ok after.config → AreEdits changes after.config.outgoing edits → after.floor ≡ before.floor → HasEditedEntries next_index edits before.progress after.progress
     → Moves next_index (EnterJoint auto_leave changes) before after
 Moves-enter next_index before after auto_leave changes edits sound e are floor entries =
     let c = before.config in
@@ -55,7 +50,7 @@ Moves-enter next_index before after auto_leave changes edits sound e are floor e
 
 -- a step with changes
 pub Moves-changed : (next_index : ℕ) (before after : TrackerState) (step : StepKind) (changes : List Change) (edits : List (ℕ × Edit)) → (step ≡ kind.Simple) ⊎ ((auto_leave : Bool) × (step ≡ kind.Enter auto_leave)) → IsSound before
-    → outcome before.config (step_of step changes) ≡ Ok after.config → HasEdits step changes after.config.outgoing edits → after.floor ≡ before.floor → HasEditedEntries next_index edits before after
+    → outcome before.config (step_of step changes) ≡ Ok after.config → HasEdits step changes after.config.outgoing edits → after.floor ≡ before.floor → HasEditedEntries next_index edits before.progress after.progress
     → Moves next_index (step_of step changes) before after
 Moves-changed next_index before after kind.Simple changes edits is sound e are floor entries = Moves-simple next_index before after changes edits sound e are floor entries
 Moves-changed next_index before after (kind.Enter auto_leave) changes edits is sound e are floor entries = Moves-enter next_index before after auto_leave changes edits sound e are floor entries
@@ -71,7 +66,7 @@ kept_entry : (next : ℕ) (member learner : Bool) (had : Option Progress) → (m
 kept_entry next member learner had some = grind arith
 
 pub Moves-leave : (next_index : ℕ) (before after : TrackerState) → IsSound before → outcome before.config LeaveJoint ≡ Ok after.config → after.floor ≡ before.floor
-    → ((q : ℕ) → finite.get after.progress q ≡ progress_kept (is_member after.config q) (has after.config.learners q) (finite.get before.progress q)) → Moves next_index LeaveJoint before after
+    → KeepsMembers after.config before.progress after.progress → Moves next_index LeaveJoint before after
 Moves-leave next_index before after sound e floor entries =
     let c = before.config in
     let made = (LeaveTaken-from_outcome c after.config e).made in

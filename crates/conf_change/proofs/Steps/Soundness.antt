@@ -1,6 +1,6 @@
 -- What an accepted step keeps: the voters stay neighbours, a voter stays, and the tracker stays sound.
-use Rattle.std.proofs.Common.{◌≡◌, ℕ, ◌≤◌, Bool, true, false, cond, ◌&&◌, ◌||◌, List, [], ◌∷◌, refl, sym, ap, subst, ◌∙◌, inl, inr, arith, ltb-false, is_some}
-use Rattle.std.specs.Prelude.{Option, Some, None, IfSome, unwrap_or, Ok, find, reverse, option_map, if◌then◌else◌}
+use Rattle.std.proofs.Common.{◌≡◌, ℕ, ◌≤◌, Bool, true, false, cond, ◌&&◌, ◌||◌, List, refl, sym, ap, subst, ◌∙◌, inl, inr, arith, ltb-false, is_some}
+use Rattle.std.specs.Prelude.{Option, Some, None, IfSome, unwrap_or, Ok, if◌then◌else◌}
 use Rattle.std.specs.FinMap as finite
 use Rattle.std.proofs.lemmas.Bool.{or_cases, and_parts, and_from, or_left, not-true, not-false, true≢false}
 use Rattle.quorum_sets.specs.Ids.{has, is_empty, difference_count}
@@ -8,7 +8,7 @@ use Rattle.quorum_sets.specs.Overlap.{Overlap}
 use Rattle.quorum_sets.specs.Voters.{AreNeighbours}
 use Rattle.quorum_sets.proofs.Offered.{has-no_ids, has-union, QuorumsMeet-from_neighbours, QuorumsMeet-from_neighbours_back, CommittedMeetsWon-from_neighbours, CommittedMeetsWon-from_neighbours_back}
 use Rattle.conf_change.specs.Configuration.{Configuration, voters_of, is_joint, has_voter, is_valid, is_restorable, is_member}
-use Rattle.conf_change.specs.Change.{names, last_effective, is_incoming_after, is_learner_after, is_next_after, result_of}
+use Rattle.conf_change.specs.Change.{is_incoming_after, is_learner_after, is_next_after, result_of}
 use Rattle.conf_change.specs.Outcome.{outcome, with_outgoing, after_leave}
 use Rattle.conf_change.specs.Progress.{fresh_next_of, fresh_progress, with_mark, keeps_progress, progress_after}
 use Rattle.conf_change.specs.Floor.{fresh_next, IsAhead}
@@ -18,7 +18,7 @@ use Rattle.conf_change.specs.declared.floor.Floor.{Floor}
 use Rattle.conf_change.specs.declared.progress.Progress.{Progress}
 use Rattle.conf_change.specs.declared.step.Step.{Step}
 use Rattle.conf_change.specs.declared.step.Step.TheVariants.{Simple, EnterJoint, LeaveJoint}
-use Rattle.conf_change.proofs.ListsOfChanges.ResultOfEach.{has-incoming_after, has-learners_after, has-next_after}
+use Rattle.conf_change.proofs.ListsOfChanges.ResultOfEach.{has-incoming_after, has-learners_after, has-next_after, last_effective-zero}
 use Rattle.conf_change.proofs.Configurations.Validity.{ValidByMember, ValidByMember-from_is_valid, is_valid-from_members, has-none_in_empty}
 use Rattle.conf_change.proofs.Steps.Acceptance.{SimpleTaken-from_outcome, EnterTaken-from_outcome, LeaveTaken-from_outcome, outgoing-none}
 use Rattle.conf_change.proofs.MemberProgress.OfEachId.{get-progress_by}
@@ -67,14 +67,6 @@ outcome-has_voter c after (EnterJoint auto_leave changes) ok e = let t = EnterTa
 outcome-has_voter c after LeaveJoint ok e = let t = LeaveTaken-from_outcome c after e in sym (ap has_voter t.made) ∙ has_voter-joint c ok t.joint
 
 -- ---- validity stays
-find-zero : (xs : List Change) → find (names 0) xs ≡ None
-find-zero [] = refl
-find-zero (x ∷ xs) = grind (arith, find-zero xs)
-
--- no change has a say on 0
-last_effective-zero : (xs : List Change) → last_effective xs 0 ≡ None
-last_effective-zero xs = ap (option_map (λ change. change.kind)) (find-zero (reverse xs))
-
 -- a list of changes keeps validity
 result_of-is_valid : (c : Configuration) (xs : List Change) → ValidByMember c → ValidByMember (result_of c xs)
 result_of-is_valid c xs m = record {

@@ -5,9 +5,8 @@ use Rattle.std.specs.FinMap.{find}
 use Rattle.std.specs.List.{insert}
 use Rattle.smallvec.proofs.SmallVecLemmas.{items-with_items}
 use Rattle.quorum_sets.specs.AscendingLists.{IsAscending, IsInsertionPoint}
-use Rattle.conf_change.specs.Edits.{with_change}
+use Rattle.conf_change.specs.Edits.{Adds, with_change}
 use Rattle.conf_change.specs.declared.edit_list.Edit.{Edit}
-use Rattle.conf_change.proofs.ListsOfChanges.EditOfEach.{Adds}
 use Rattle.conf_change.proofs.MemberProgress.Entries.{keys, ascends-put, find-missing, find-insert}
 use Rattle.conf_change.proofs.edit_list.add.Goals as goal
 
