@@ -10,7 +10,7 @@ ghost use Rattle.quorum_sets.specs.Ids.{union};
 ghost use Rattle.conf_plan.specs.Planned.{kind_by, moves, single_with};
 
 use conf_change::{Change, Kind};
-use quorum_sets::{MemberSet, NoMemory, add_ids};
+use quorum_sets::{MemberSet, NoMemory, add_ids, contains_from};
 use smallvec::SmallVec;
 use std::alloc::Global;
 
@@ -32,12 +32,13 @@ pub(crate) fn moves_to<S: MemberSet>(
 {
     let ids = union_of_all(alloc, to_voters, to_learners, incoming, learners)?;
     let mut changes = Vec::with_capacity(alloc, INITIAL_CAPACITY)?;
+    let (mut at_to_voters, mut at_to_learners, mut at_incoming, mut at_learners) = (0, 0, 0, 0);
     for position in 0..ids.len() {
         if let Some(id) = ids.at(position) {
-            let target_voter = to_voters.contains(id);
-            let target_learner = to_learners.contains(id);
-            let voter = incoming.contains(id);
-            let learner = learners.contains(id);
+            let target_voter = contains_from(to_voters, &mut at_to_voters, id);
+            let target_learner = contains_from(to_learners, &mut at_to_learners, id);
+            let voter = contains_from(incoming, &mut at_incoming, id);
+            let learner = contains_from(learners, &mut at_learners, id);
             if let Some(kind) = kind_of_move(target_voter, target_learner, voter, learner) {
                 changes.push(Change { kind, id })?;
             }

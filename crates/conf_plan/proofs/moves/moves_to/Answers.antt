@@ -28,7 +28,7 @@ loop-position-preserved g c =
           record {
             moved = one_more move _ _ w.in-Some.id (Some (change_of w.in-Some.id w.in-Some-kind_of_move.kind)) _ _ w.in-Some.ensures
                 (ap (option_map (change_of w.in-Some.id)) (w.in-Some-kind_of_move.ensures
-                ∙ (λ i. kind_by (w.contains-target_voter.ensures i) (w.contains-target_learner.ensures i) (w.contains-voter.ensures i) (w.contains-learner.ensures i))))
+                ∙ (λ i. kind_by (w.contains_from-target_voter.ensures i) (w.contains_from-target_learner.ensures i) (w.contains_from-voter.ensures i) (w.contains_from-learner.ensures i))))
                 now.moved added;
             u64_ids = subst (All (λ change. change.id < 2 ^ 64)) (sym added) (All-push (λ change. change.id < 2 ^ 64) _ _ now.u64_ids small);
           }
@@ -37,7 +37,7 @@ loop-position-preserved g c =
           record {
             moved = one_more move _ _ w.in-Some.id None _ _ w.in-Some.ensures
                 (ap (option_map (change_of w.in-Some.id)) (w.in_default-kind_of_move.ensures
-                ∙ (λ i. kind_by (w.contains-target_voter.ensures i) (w.contains-target_learner.ensures i) (w.contains-voter.ensures i) (w.contains-learner.ensures i))))
+                ∙ (λ i. kind_by (w.contains_from-target_voter.ensures i) (w.contains_from-target_learner.ensures i) (w.contains_from-voter.ensures i) (w.contains_from-learner.ensures i))))
                 now.moved (same ∙ sym (append-nil _));
             u64_ids = subst (All (λ change. change.id < 2 ^ 64)) (sym same) now.u64_ids;
           }
