@@ -1,5 +1,4 @@
--- The input of a mode: where it is, what a line is answered, and what ends it.
+-- The input of a mode: where it is, and what ends it.
 
 pub mod PositionReached
 pub mod Faults
-pub mod LineReplies

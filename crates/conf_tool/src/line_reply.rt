@@ -7,7 +7,8 @@ ghost use Rattle.conf_tool.specs.LineReply.{line_reply, reply_to_changes, reply_
 
 use ascii_text::tokens::next_token;
 use conf_change::{
-    Change, Changer, Refused, read_change, write_config, write_refused, write_token_fault,
+    Change, Config, Refused, StepKind, next_config, read_change, write_config, write_refused,
+    write_token_fault,
 };
 use conf_session::SessionIds;
 use quorum_sets::NoMemory;
@@ -15,27 +16,27 @@ use quorum_sets::NoMemory;
 /// Makes the change on a line, and appends the reply with a newline. On `NoMemory` the text may have a part of the
 /// reply.
 pub(crate) fn answer_line(
-    changer: &mut Changer<SessionIds>,
+    config: &mut Config<SessionIds>,
     line: &[u8],
     text: &mut Vec<u8>,
 ) -> Result<(), NoMemory>
     ensures text { OnOk result (text.new.items
-        ≡ text.old.items ++ ((line_reply changer.old.tracker.config line.now).text ++ newline)) }
-    ensures after { OnOk result (changer.new.tracker.config ≡ (line_reply changer.old.tracker.config line.now).after) }
+        ≡ text.old.items ++ ((line_reply config.old line.now).text ++ newline)) }
+    ensures after { OnOk result (config.new ≡ (line_reply config.old line.now).after) }
 {
-    reply(changer, line, text)?;
+    reply(config, line, text)?;
     text.push(b'\n')?;
     Ok(())
 }
 
 // Makes the change on a line, and appends the reply without its newline.
-fn reply(changer: &mut Changer<SessionIds>, line: &[u8], text: &mut Vec<u8>) -> Result<(), NoMemory>
+fn reply(config: &mut Config<SessionIds>, line: &[u8], text: &mut Vec<u8>) -> Result<(), NoMemory>
     ensures text { OnOk result (text.new.items
-        ≡ text.old.items ++ (line_reply changer.old.tracker.config line.now).text) }
-    ensures after { OnOk result (changer.new.tracker.config ≡ (line_reply changer.old.tracker.config line.now).after) }
+        ≡ text.old.items ++ (line_reply config.old line.now).text) }
+    ensures after { OnOk result (config.new ≡ (line_reply config.old line.now).after) }
 {
     match only_token(line) {
-        Some(token) => answer_token(changer, token, text),
+        Some(token) => answer_token(config, token, text),
         None => {
             text.extend_from_slice(b"one change expected")?;
             Ok(())
@@ -61,34 +62,38 @@ fn only_token(line: &[u8]) -> Option<&[u8]>
 
 // Makes the change that a token is parsed as, and appends the reply.
 fn answer_token(
-    changer: &mut Changer<SessionIds>,
+    config: &mut Config<SessionIds>,
     token: &[u8],
     text: &mut Vec<u8>,
 ) -> Result<(), NoMemory>
     ensures text { OnOk result (text.new.items
-        ≡ text.old.items ++ (reply_to_token changer.old.tracker.config token.now).text) }
-    ensures after { OnOk result (changer.new.tracker.config
-        ≡ (reply_to_token changer.old.tracker.config token.now).after) }
+        ≡ text.old.items ++ (reply_to_token config.old token.now).text) }
+    ensures after { OnOk result (config.new
+        ≡ (reply_to_token config.old token.now).after) }
 {
     match read_change(token) {
-        Ok(change) => make_change(changer, change, text),
+        Ok(change) => make_change(config, change, text),
         Err(fault) => write_token_fault(text, fault),
     }
 }
 
 // Makes the change, and appends the configuration after it or why it is refused.
 fn make_change(
-    changer: &mut Changer<SessionIds>,
+    config: &mut Config<SessionIds>,
     change: Change,
     text: &mut Vec<u8>,
 ) -> Result<(), NoMemory>
     ensures text { OnOk result (text.new.items
-        ≡ text.old.items ++ (reply_to_changes changer.old.tracker.config (Ok (change ∷ []))).text) }
-    ensures after { OnOk result (changer.new.tracker.config
-        ≡ (reply_to_changes changer.old.tracker.config (Ok (change ∷ []))).after) }
+        ≡ text.old.items ++ (reply_to_changes config.old (Ok (change ∷ []))).text) }
+    ensures after { OnOk result (config.new
+        ≡ (reply_to_changes config.old (Ok (change ∷ []))).after) }
 {
-    match changer.simple_one(change) {
-        Ok(()) => write_config(text, changer.tracker().config()),
+    match next_config(config, StepKind::Simple, &[change]) {
+        Ok(next) => {
+            write_config(text, &next)?;
+            *config = next;
+            Ok(())
+        }
         Err(refused) => match refused {
             Refused::NoMemory => Err(NoMemory),
             _ => write_refused(text, refused),

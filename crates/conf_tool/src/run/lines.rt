@@ -19,7 +19,7 @@ use super::handler::Handler;
 use crate::line_reply::answer_line;
 use crate::status::Status;
 use crate::tool_fault::ToolFault;
-use conf_change::Changer;
+use conf_change::Config;
 use conf_session::SessionIds;
 use dd_file::device::Sink;
 use dd_file::fault::FileFault;
@@ -27,10 +27,10 @@ use dd_file::line::Line;
 use dd_file::writing::write_all;
 use std::alloc::Global;
 
-/// The state of the mode: the changer that makes the change of each line.
+/// The state of the mode: the configuration after the lines so far. No reply shows the progress of the members.
 #[derive(Drop)]
 pub(super) struct LineByLine {
-    changer: Changer<SessionIds>,
+    config: Config<SessionIds>,
     /// The reply to the last line.
     text: Vec<u8>,
 }
@@ -42,7 +42,7 @@ impl LineByLine {
             → ⟦<LineByLine as Handler<Line>>⟧.HasAnswered result (lines_output_from empty_configuration) [] buffered buffered }
     {
         LineByLine {
-            changer: Changer::new(alloc, 0),
+            config: Config::empty(alloc),
             text: Vec::new(alloc),
         }
     }
@@ -56,12 +56,12 @@ impl Handler<Line> for LineByLine {
 
     ghost mode = { OfLines };
 
-    ghost HasAnswered = { λ s total. WrotePrefix total (lines_output_from s.changer.tracker.config) };
+    ghost HasAnswered = { λ s total. WrotePrefix total (lines_output_from s.config) };
 
     // Replies to a line with the configuration after its change, or with the reason why the change is refused.
     fn answer<W: Sink>(&mut self, line: &Line, writer: &mut W) -> Result<(), ToolFault> {
         self.text.clear();
-        answer_line(&mut self.changer, line.as_slice(), &mut self.text)?;
+        answer_line(&mut self.config, line.as_slice(), &mut self.text)?;
         write_all(writer, self.text.as_slice())?;
         Ok(())
     }
@@ -76,7 +76,7 @@ impl Handler<Line> for LineByLine {
         clean_unless(fault)
     }
 
-    ghost stays = { λ s total. kept-prefix total (lines_output_from s.changer.tracker.config) };
+    ghost stays = { λ s total. kept-prefix total (lines_output_from s.config) };
 
-    ghost prefix = { λ s total. wrote-prefix total (lines_output_from s.changer.tracker.config) };
+    ghost prefix = { λ s total. wrote-prefix total (lines_output_from s.config) };
 }
