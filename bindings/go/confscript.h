@@ -229,8 +229,7 @@ struct confscript_answer {
 
 /*
  * How many numbers confscript_restore and confscript_step write at most, from the lengths that they are passed: an `out`
- * of as many is never too small. Each id of the configuration may be in two lists of the result, and so may the id
- * of each change.
+ * of as many is never too small. Each id that the configuration lists, and each change, adds at most two.
  */
 #define CONFSCRIPT_RESTORE_ROOM(configuration_len) CONFSCRIPT_STEP_ROOM(configuration_len, 0)
 #define CONFSCRIPT_STEP_ROOM(configuration_len, changes_len) \

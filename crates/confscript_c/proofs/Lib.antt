@@ -2,6 +2,7 @@ pub mod StepsResult
 pub mod PlanLeads
 pub mod ChangesRead
 pub mod ArraysRead
+pub mod RoomCounted
 pub mod PartsApplied
 pub mod StagesWritten
 pub mod StagesStepped

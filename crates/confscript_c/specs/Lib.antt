@@ -13,3 +13,4 @@ pub mod Version
 pub mod Numbers
 pub mod Stepped
 pub mod Stages
+pub mod Room

@@ -1,6 +1,6 @@
 //! Laws of paths that are applied, and of configurations and plans in numbers: what is true of all texts and arrays.
 //! Each is the contract of a function that does nothing.
-ghost use Rattle.std.specs.Prelude.{◌≡◌, ◌↔◌, ℕ, List, ◌++◌, true, Ok, Some};
+ghost use Rattle.std.specs.Prelude.{◌≡◌, ◌↔◌, ◌≤◌, ℕ, List, ◌++◌, length, true, Ok, Some};
 ghost use Rattle.std.specs.List.{All};
 ghost use Rattle.quorum_sets.specs.Ids.{Ids};
 ghost use Rattle.conf_change.specs.Configuration.{Configuration, has_voter, is_restorable, is_valid};
@@ -17,6 +17,7 @@ ghost use Rattle.confscript_c.specs.Applied.{apply_result};
 ghost use Rattle.confscript_c.specs.Numbers.{array_of, configuration_of, has_form, lists_in, numbers_of, restore_result, valid_configuration_of};
 ghost use Rattle.confscript_c.specs.Planning.{plan_result};
 ghost use Rattle.confscript_c.specs.PlanTexts.{current_or_answer, target_or_answer};
+ghost use Rattle.confscript_c.specs.Room.{restore_room, step_room};
 ghost use Rattle.confscript_c.specs.Stages.{stages_result, AreOfOnePath, AreStepped, IsOneProposal, IsStepped};
 ghost use Rattle.confscript_c.specs.Stepped.{step_result, StepsTo};
 ghost use Rattle.confscript_c.specs.declared.stepping.NumberedChange.{NumberedChange};
@@ -92,4 +93,16 @@ pub fn stages_are_steps()
     written_arrays_are_taken();
     raft_json::laws::proposed_step_leads_alike();
     conf_plan::laws::run_stays_valid();
+}
+
+/// What `confscript_restore` and `confscript_step` write fits into an array of as many numbers as the header's macros
+/// CONFSCRIPT_RESTORE_ROOM and CONFSCRIPT_STEP_ROOM compute of the lengths that are passed.
+pub fn results_have_room()
+    ensures restored { (numbers out : List ℕ) → restore_result numbers ≡ Ok out
+        → length out ≤ restore_room (length numbers) }
+    ensures stepped { (numbers out : List ℕ) (step : ℕ) (changes : List NumberedChange)
+        → step_result numbers step changes ≡ Ok out → length out ≤ step_room (length numbers) (length changes) }
+{
+    conf_change::laws::restored_is_described();
+    written_arrays_are_taken();
 }
