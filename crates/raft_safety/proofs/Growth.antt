@@ -40,12 +40,11 @@ IsKept-back c d f log low high more past order kept term leader after before lea
     f.back log term leader (omega arith) leads (kept term leader after (omega arith) (f.leads term leader leads))
 
 -- a server whose term may have risen
-pub IsServer-later : (first : Configuration) (c d : Cluster) → Follows c d → (old : Server) (term : ℕ) → old.term ≤ term → IsServer first c old → IsServer first d (record old { term = term })
-IsServer-later first c d f old term order s = record {
+pub IsServer-later : (c d : Cluster) → Follows c d → (old : Server) (term : ℕ) → old.term ≤ term → IsServer c old → IsServer d (record old { term = term })
+IsServer-later c d f old term order s = record {
   from_leaders = IsFromLeaders-later c d f old.log s.from_leaders;
   term = (let h : last_term old.log ≤ old.term = s.term in omega arith);
   stored = s.stored;
-  one_change_beyond = s.one_change_beyond;
   known = IsKnown-follows c d f (old.term + 1) (term + 1) (omega arith) old.committed s.known;
 }
 
@@ -66,7 +65,6 @@ IsElectedWith-later first c d f e now s = record {
   voted = λ voter h. f.votes _ (s.voted voter h);
   quorum = s.quorum;
   stored = s.stored;
-  one_change_beyond = s.one_change_beyond;
   known = IsKnown-follows c d f (e.request.term + 1) (e.request.term + 1) (omega arith) now.committed s.known;
 }
 
@@ -113,11 +111,11 @@ voters_keep-later c d f r voter term log keeps in_r voted acknowledged later own
     ])
 
 -- the servers after one has changed
-pub IsServer-each : (first : Configuration) (c d : Cluster) → Follows c d → AreInvariants first c → (n : ℕ) (value : Server) → IsServer first d value
-    → (k : ℕ) → IsServer first d (with_value c.servers n value k)
+pub IsServer-each : (first : Configuration) (c d : Cluster) → Follows c d → AreInvariants first c → (n : ℕ) (value : Server) → IsServer d value
+    → (k : ℕ) → IsServer d (with_value c.servers n value k)
 IsServer-each first c d f i n value new k =
-    with_value-each (IsServer first d) c.servers n value k (λ same. new)
-    (λ other. IsServer-later first c d f (c.servers k) (c.servers k).term (omega arith) (i.servers k))
+    with_value-each (IsServer d) c.servers n value k (λ same. new)
+    (λ other. IsServer-later c d f (c.servers k) (c.servers k).term (omega arith) (i.servers k))
 
 -- a part of what is known is known
 pub IsKnown-prefix : (c : Cluster) (bound : ℕ) (part log : Log) → IsPrefix part log → IsKnown c bound log → IsKnown c bound part

@@ -45,11 +45,10 @@ HasAcknowledged c term server log = (more : Log) × In (record { term = term; se
 
 -- ---- invariants
 -- of the state of a server
-pub record IsServer (first : Configuration) (c : Cluster) (state : Server) : Type 0 where
+pub record IsServer (c : Cluster) (state : Server) : Type 0 where
   pub from_leaders : IsFromLeaders c state.log
   pub term : last_term state.log ≤ state.term
   pub stored : IsPrefix state.committed state.log
-  pub one_change_beyond : IsOneChangeBeyond first state.log state.committed
   pub known : IsKnown c (state.term + 1) state.committed
 
 -- of a request for votes
@@ -68,7 +67,6 @@ pub record IsElectedWith (first : Configuration) (c : Cluster) (e : Election) (n
   pub voted : (voter : ℕ) → has e.votes voter ≡ true → HasVoted c e.request.term voter e.request.candidate
   pub quorum : IsQuorumAfter first e.request.committed e.votes
   pub stored : IsPrefix now.committed now.log
-  pub one_change_beyond : IsOneChangeBeyond first now.log now.committed
   pub known : IsKnown c (e.request.term + 1) now.committed
 
 abbrev pub IsElected : Configuration → Cluster → Election → Type 0
@@ -111,7 +109,7 @@ AreCountedBefore c =
 
 -- all of them
 pub record AreInvariants (first : Configuration) (c : Cluster) : Type 0 where
-  pub servers : (server : ℕ) → IsServer first c (c.servers server)
+  pub servers : (server : ℕ) → IsServer c (c.servers server)
   pub requests : (r : VoteRequest) → In r c.requests → IsRequest first c r
   pub one_request : (a b : VoteRequest) → In a c.requests → In b c.requests → a.term ≡ b.term → a.candidate ≡ b.candidate → a ≡ b
   pub elections : (e : Election) → In e c.elections → IsElected first c e

@@ -11,5 +11,8 @@ mod Claims
 mod Theorem
 mod Appending
 mod Etcd
+mod Disk
+mod Waiting
 mod NoVoters
+mod Library
 mod WorkedExamples

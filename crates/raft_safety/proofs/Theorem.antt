@@ -2,7 +2,7 @@
 use Rattle.std.proofs.Common.{◌≡◌, List, [], ◌∷◌, ◌++◌, refl, sym, subst, inl, inr, arith}
 use Rattle.conf_change.specs.Configuration.{Configuration}
 use Rattle.raft_safety.specs.Cluster.{Commitment, Cluster, In, new_cluster}
-use Rattle.raft_safety.specs.Steps.{Action, Campaign, SeeTerm, GrantVote, BecomeLeader, Propose, Receive, Commit, Restart, IsAllowed, AreAllowed, after_action, after_actions}
+use Rattle.raft_safety.specs.Steps.{Action, Campaign, SeeTerm, GrantVote, BecomeLeader, Learn, Propose, Receive, Commit, Restart, IsAllowed, AreAllowed, after_action, after_actions}
 use Rattle.raft_safety.specs.Claims.{ElectionSafety, LeaderCompleteness, CommittedIsStored, LogMatching, StateMachineSafety, CommitOneLog}
 use Rattle.raft_safety.proofs.Invariants.{AreInvariants}
 use Rattle.raft_safety.proofs.Safety.OneLeader.{ElectionSafety-from_invariants}
@@ -10,6 +10,7 @@ use Rattle.raft_safety.proofs.Steps.OneServer.{restart-keeps, see_term-keeps}
 use Rattle.raft_safety.proofs.Steps.Campaign.{campaign-keeps}
 use Rattle.raft_safety.proofs.Steps.GrantVote.{grant_vote-keeps}
 use Rattle.raft_safety.proofs.Steps.BecomeLeader.{become_leader-keeps}
+use Rattle.raft_safety.proofs.Steps.Learn.{learn-keeps}
 use Rattle.raft_safety.proofs.Steps.Propose.{propose-keeps}
 use Rattle.raft_safety.proofs.Steps.Receive.{receive-keeps}
 use Rattle.raft_safety.proofs.Steps.Commit.{commit-keeps}
@@ -18,7 +19,7 @@ use Rattle.raft_safety.proofs.Claims.{AreCommitmentsKept, LeaderCompleteness-fro
 -- ---- every state that is reached
 pub AreInvariants-new : (first : Configuration) → AreInvariants first new_cluster
 AreInvariants-new first = record {
-  servers = λ s. record { from_leaders = tt; term = omega arith; stored = refl; one_change_beyond = omega arith; known = inl refl };
+  servers = λ s. record { from_leaders = tt; term = omega arith; stored = refl; known = inl refl };
   requests = λ r x. absurd x;
   one_request = λ a b x y t s. absurd x;
   elections = λ e x. absurd x;
@@ -32,10 +33,11 @@ AreInvariants-new first = record {
 }
 
 action_keeps : (first : Configuration) (c : Cluster) (action : Action) → IsAllowed first c action → AreInvariants first c → AreInvariants first (after_action c action)
-action_keeps first c (Campaign server term) may i = campaign-keeps first c server term may i
+action_keeps first c (Campaign server term counted) may i = campaign-keeps first c server term counted may i
 action_keeps first c (SeeTerm server term) may i = see_term-keeps first c server term may i
 action_keeps first c (GrantVote voter request) may i = grant_vote-keeps first c voter request may i
 action_keeps first c (BecomeLeader request votes) may i = become_leader-keeps first c request votes may i
+action_keeps first c (Learn term leader known) may i = learn-keeps first c term leader known may i
 action_keeps first c (Propose term leader entry) may i = propose-keeps first c term leader entry may i
 action_keeps first c (Receive server term leader sent known after) may i = receive-keeps first c server term leader sent known after may i
 action_keeps first c (Commit leader commitment) may i = commit-keeps first c leader commitment may i
@@ -50,10 +52,11 @@ AreInvariants-reached first actions allowed = actions_keep first new_cluster act
 
 -- ---- two moments
 commitments_after_action : (c : Cluster) (action : Action) (m : Commitment) → In m c.commitments → In m (after_action c action).commitments
-commitments_after_action c (Campaign server term) m x = x
+commitments_after_action c (Campaign server term counted) m x = x
 commitments_after_action c (SeeTerm server term) m x = x
 commitments_after_action c (GrantVote voter request) m x = x
 commitments_after_action c (BecomeLeader request votes) m x = x
+commitments_after_action c (Learn term leader known) m x = x
 commitments_after_action c (Propose term leader entry) m x = x
 commitments_after_action c (Receive server term leader sent known after) m x = x
 commitments_after_action c (Commit leader commitment) m x = inr x

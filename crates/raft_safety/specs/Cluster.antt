@@ -17,7 +17,8 @@ pub record Vote : Type 0 where
   pub voter : ℕ
   pub candidate : ℕ
 
--- the candidate asked for votes in the term with this log, of which it knew a part to be committed, and had applied it
+-- the candidate asked for votes in the term with this log, of which it knew this part to be committed, and counts votes by
+-- the configuration after that
 pub record VoteRequest : Type 0 where
   pub term : ℕ
   pub candidate : ℕ

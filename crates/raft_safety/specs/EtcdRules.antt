@@ -9,7 +9,8 @@
 -- - an answer to a MsgApp that ends before what the server knows to be committed: Answer
 -- - a heartbeat: Heartbeat. It is not kept as a message: what it may have only grows, so one that comes late has less
 -- - a leader takes its own entries: Receive at its server, as at any other
--- - a Ready that is written: a part of Receive, Campaign and GrantVote, which leave their results durable
+-- - a Ready that is written: a part of Receive, Campaign and GrantVote, which leave their results durable at once. What may
+--   be done before it is written is in DiskRules.antt
 -- - ApplyConfChange at a leader: Apply. At any other server what is applied only matters when it campaigns
 -- - a restart, which applies entries again from a snapshot on: Restart; and what is applied again, when it campaigns
 -- - PreVote, CheckQuorum, reads, a leader that steps down: nothing; a transfer of leadership: Campaign of its target
@@ -76,26 +77,26 @@ pub record MaySend (e : EtcdCluster) (term leader : ℕ) (before entries : Log) 
   -- an append has entries of the leader's log, and what is before them there
   pub sent_of : IsPrefix (entries ++ before) (e.cluster.leaderships term leader).log
 
+-- the term is not past for the server: it ignores messages of past terms
+abbrev pub IsNotPast : EtcdCluster → ℕ → ℕ → Type 0
+IsNotPast e server term = (e.cluster.servers server).term ≤ term
+
 -- a server may take an append
 pub record MayTake (e : EtcdCluster) (server : ℕ) (append : Append) : Type 0 where
   pub sent : In append e.appends
-  -- a message of a past term is ignored
-  pub not_past : (e.cluster.servers server).term ≤ append.term
+  pub not_past : IsNotPast e server append.term
   -- an append is taken only where the log has an entry at its index, of its term
-  pub in_range : append.index ≤ length (e.cluster.servers server).log
   pub matches : term_at (e.cluster.servers server).log append.index ≡ append.index_term
 
 -- a server may answer an append that ends before what it knows to be committed, by that
 pub record MayAnswer (e : EtcdCluster) (server term leader : ℕ) : Type 0 where
   pub leads : Leads e.cluster term leader
-  -- a message of a past term is ignored
-  pub not_past : (e.cluster.servers server).term ≤ term
+  pub not_past : IsNotPast e server term
 
 -- a server may take a heartbeat
 pub record MayTakeHeartbeat (e : EtcdCluster) (server term leader : ℕ) (known : Log) : Type 0 where
   pub leads : Leads e.cluster term leader
-  -- a message of a past term is ignored
-  pub not_past : (e.cluster.servers server).term ≤ term
+  pub not_past : IsNotPast e server term
   -- a heartbeat has no more than the leader's commit index
   pub committed : IsPrefix known (e.cluster.leaderships term leader).committed
   -- nor more than what the server acknowledged in the term

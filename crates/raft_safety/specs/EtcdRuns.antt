@@ -29,12 +29,15 @@ append_of c term leader before entries = record {
 abbrev pub last_index : Append → ℕ
 last_index append = append.index + length append.entries
 
--- a server after an append: its log has the entries, and its commit index is the append's, but at most the last entry's;
--- it never falls
+-- what an append says is committed, of the log that has its entries: up to its commit index, but at most its last entry
+abbrev pub known_by : Log → Append → Log
+known_by log append = upto log (min append.commit (last_index append))
+
+-- a server after an append: its log has the entries, and its commit index is the append's; it never falls
 abbrev pub after_append : Server → Append → Server
 after_append old append =
     let log = with_entries old.log append.index append.entries in
-    record { term = append.term; log = log; committed = longer old.committed (upto log (min append.commit (last_index append))) }
+    record { term = append.term; log = log; committed = longer old.committed (known_by log append) }
 
 -- the cluster after another acknowledgement
 abbrev pub with_acknowledgement : Cluster → Acknowledgement → Cluster
@@ -44,12 +47,12 @@ with_acknowledgement c acknowledgement = record c { acknowledgements = acknowled
 abbrev pub commitment_of : EtcdCluster → ℕ → ℕ → Log → Ids → Commitment
 commitment_of e term leader log servers = record { term = term; log = log; counted = e.applied term leader; servers = servers }
 
--- what an action leaves. Where an append changes the log, the commit index is written with it, as one: it is durable. An
--- answer acknowledges what the server knows to be committed. A heartbeat acknowledges nothing
+-- what an action leaves. Where an append changes the log, the append's commit index is written with it, as one: it is
+-- durable. An answer acknowledges what the server knows to be committed. A heartbeat acknowledges nothing
 abbrev pub after_etcd_action : EtcdCluster → EtcdAction → EtcdCluster
 after_etcd_action e (Campaign server term applied) =
     record e {
-      cluster = after_action e.cluster (core.Campaign server term);
+      cluster = after_action e.cluster (core.Campaign server term (e.cluster.servers server).committed);
       candidacies = record { request = request_of e.cluster server term; applied = applied } ∷ e.candidacies;
     }
 after_etcd_action e (SeeTerm server term) = record e { cluster = after_action e.cluster (core.SeeTerm server term) }
@@ -65,7 +68,7 @@ after_etcd_action e (Receive server append) =
     let new = after_append old append in
     record e {
       cluster = with_acknowledgement (with_server e.cluster server new) (record { term = append.term; server = server; log = upto new.log (last_index append) });
-      durable = with_value e.durable server (if has_entries old.log append.index append.entries then e.durable server else new.committed);
+      durable = with_value e.durable server (if has_entries old.log append.index append.entries then e.durable server else longer (e.durable server) (known_by new.log append));
     }
 after_etcd_action e (Answer server term leader) =
     let old = e.cluster.servers server in

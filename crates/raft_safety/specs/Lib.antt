@@ -8,3 +8,9 @@ pub mod EtcdCluster
 pub mod EtcdRules
 pub mod EtcdRuns
 pub mod EtcdClaims
+pub mod DiskCluster
+pub mod DiskRules
+pub mod DiskRuns
+pub mod DiskClaims
+pub mod Waiting
+pub mod Library

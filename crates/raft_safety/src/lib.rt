@@ -3,17 +3,20 @@
 //!
 //! # The rules
 //!
-//! 1. A server votes once a term, for a candidate whose log is at least as up to date as its own.
-//! 2. A candidate that has a quorum of votes leads; it counts by the configuration after all that it knows to be
-//!    committed when it campaigns, so the changes of the voters there have to be applied before.
-//! 3. A leader appends entries of its own term, and one that changes the voters only once all such entries of its log
-//!    are committed.
-//! 4. A server takes a leader's log up to some index in place of its own, if it does not have that already; with it comes
-//!    what is committed of it, up to the last change of the voters.
-//! 5. A leader commits up to an entry of its own term once a quorum has acknowledged it; it counts by a committed part
-//!    of its log that has all changes of the voters but the last.
-//! 6. A restart keeps the term, the votes and the log, and so much of the commit index that at most one change of the
-//!    voters in the log is beyond it.
+//! 1. A server's term never falls, and it campaigns only in a later one. It ignores requests for votes, appends and
+//!    heartbeats of an earlier term; by any other, its term becomes theirs.
+//! 2. A server votes once a term, for a candidate whose log is at least as up to date as its own.
+//! 3. A candidate that has a quorum of votes leads; it counts by a committed part of its log that has all changes of the
+//!    voters but the last.
+//! 4. A leader appends entries of its own term.
+//! 5. A server takes a leader's log up to some index in place of its own, if it does not have that already, and maybe
+//!    learns how much of it is committed.
+//! 6. A leader commits up to an entry of its own term once a quorum has acknowledged it; it counts by a committed part
+//!    of its log that has all changes of the voters up to that entry but the last.
+//! 7. A restart keeps the term, the votes and the log. It may forget what is committed.
+//!
+//! They are the rules of a raft in which a configuration is in force when its entry is applied, as etcd's. In Ongaro's
+//! dissertation it is when the entry is appended, which is another rule, and not covered.
 //!
 //! # The theorem
 //!
@@ -22,10 +25,9 @@
 //!
 //! # Why it is true
 //!
-//! In etcd, unlike in Ongaro's dissertation, a configuration is in force when its entry is applied, not when it is
-//! appended. So one server may count by the newest configuration while another still counts by the oldest, and quorums of
-//! these need not share a member. Raft's own argument only asks that the quorum that elects a leader and the quorum that
-//! committed an entry share a server. How do they, then?
+//! One server may count by the newest configuration while another still counts by the oldest, and quorums of these need
+//! not share a member. Raft's own argument only asks that the quorum that elects a leader and the quorum that committed an
+//! entry share a server. How do they, then?
 //!
 //! Count the changes of the voters in a log. Two logs, one the beginning of the other, whose counts differ by at most one
 //! have the same voters or neighbours, so their quorums meet: that is what `conf_change` proves of its steps. Nothing else
@@ -39,17 +41,16 @@
 //!  log  ----------+----------------------+-------->
 //!        n            n+1                    n+2      changes so far
 //!        |             |
-//!        |             whoever committed change n+2 counted here: beyond it is the last change alone (rule 5)
+//!        |             whoever committed change n+2 counted here: beyond it is the last change alone (rule 6)
 //!        the candidate counts here
 //! ```
 //!
 //! The two configurations are neighbours, so some server acknowledged change n+2 and voted for the candidate. It votes for
-//! a log that has what it has itself (rule 1), so change n+2 is in the candidate's log. But in no log is there more than
-//! one change beyond what its server knows to be committed (rules 3, 4 and 6). So the candidate knew that change n+1 was
-//! committed, and counts by it (rule 2): by n+1 changes, and not by n.
+//! a log that has what it has itself (rule 2), so both changes are in the candidate's log. But at most one change there is
+//! beyond what the candidate counts by (rule 3): so it counts by n+1 changes at least, and not by n.
 //!
 //! *A leader has all that was committed in earlier terms.* Whoever committed an entry counted at most one change behind
-//! it (rule 5), and whoever won a later election did too, as was just seen. So the two quorums meet, and the server in
+//! it (rule 6), and whoever won a later election did too, as was just seen. So the two quorums meet, and the server in
 //! both voted for a log that has the entry: Raft's own argument.
 //!
 //! *A term has one leader.* What each of two winners counted by was committed in earlier terms, so each is at most one
@@ -65,9 +66,17 @@
 //! A run in which a voter is added is worked out in `proofs/WorkedExamples`, and so is what goes wrong without a rule.
 //!
 //! The second law is about the rules as etcd's raft means them, in which a server sees no log but its own: appends,
-//! heartbeats and snapshots (`EtcdCluster`, `EtcdRules`, `EtcdRuns`, `Appending`). Rules 2, 3 and 5 then speak of what
-//! is *applied*, and rules 4 and 6 follow: a leader's log has at most one change of the voters beyond what it has
-//! applied, each append has its commit index, and where an append changes a log, that index is durable with it.
+//! heartbeats and snapshots (`EtcdCluster`, `EtcdRules`, `EtcdRuns`, `Appending`). Who counts does not look into its log,
+//! but counts by what it has *applied*, and rules 3 and 6 follow: a leader proposes a change of the voters only once it has
+//! applied all earlier ones, a server campaigns only once it has applied those that it knows to be committed, each append
+//! has the leader's commit index, and where an append changes a log, that index is durable with it.
+//!
+//! The third law takes memory and disk apart (`DiskCluster`, `DiskRules`, `DiskRuns`): a server works in memory, and a
+//! crash loses what is not saved. It says what has to be saved before it is said, sent or applied, and what need not be.
+//!
+//! The fourth has one rule in place of all those on the configuration in force (`Waiting`): a change of the voters is
+//! proposed once every member has stored the one before. Two more tie the library to the rules: what it counts are the
+//! quorums that they speak of, and a `Changer` has the configuration after a log (`Library`).
 #![tactic(auto)]
 
 pub mod laws;

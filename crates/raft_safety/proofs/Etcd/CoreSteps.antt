@@ -7,17 +7,17 @@ use Rattle.std.proofs.lemmas.Bool.Decides.{nat_tests}
 use Rattle.quorum_sets.specs.Ids.{Ids}
 use Rattle.quorum_sets.specs.Voters.{Voters, is_quorum}
 use Rattle.conf_change.specs.Configuration.{Configuration}
-use Rattle.raft_safety.specs.Logs.{Entry, Log, IsPrefix, last_term, longer}
+use Rattle.raft_safety.specs.Logs.{Log, IsPrefix, last_term, longer}
 use Rattle.raft_safety.specs.Configurations.{voters_after, voter_changes, IsQuorumAfter, IsOneChangeBeyond}
 use Rattle.raft_safety.specs.Cluster.{Server, Leadership, Cluster, Leads}
-use Rattle.raft_safety.specs.Steps.{MayBecomeLeader, MayPropose, MayReceive, MayCommit, MayRestart, IsLogAfter}
+use Rattle.raft_safety.specs.Steps.{MayCampaign, MayBecomeLeader, MayReceive, MayCommit, IsLogAfter}
 use Rattle.raft_safety.specs.Appending.{upto, term_at, with_entries}
 use Rattle.raft_safety.specs.EtcdCluster.{Append, Candidacy, EtcdCluster}
-use Rattle.raft_safety.specs.EtcdRules.{MayBecomeLeaderApplied, MayProposeApplied, MayTake, MayAnswer, MayTakeHeartbeat, MayCommitApplied, MayRestartDurable}
-use Rattle.raft_safety.specs.EtcdRuns.{last_index, commitment_of}
-use Rattle.raft_safety.proofs.Logs.{IsPrefix-refl, IsPrefix-trans, IsPrefix-compare, IsPrefix-empty, IsPrefix-length, shorter-prefix}
+use Rattle.raft_safety.specs.EtcdRules.{MayBecomeLeaderApplied, MayTake, MayAnswer, MayTakeHeartbeat, MayCommitApplied, MayCampaignApplied}
+use Rattle.raft_safety.specs.EtcdRuns.{last_index, known_by, commitment_of}
+use Rattle.raft_safety.proofs.Logs.{IsPrefix-refl, IsPrefix-trans, IsPrefix-empty, shorter-prefix}
 use Rattle.raft_safety.proofs.Configurations.{voter_changes-prefix, voters_after-same}
-use Rattle.raft_safety.proofs.Invariants.{AreInvariants, IsElectedWith, IsElectedWith-leads, IsKept, log_of}
+use Rattle.raft_safety.proofs.Invariants.{AreInvariants, IsElectedWith-leads, IsKept, log_of}
 use Rattle.raft_safety.proofs.Safety.LedTerms.{led_terms-positive}
 use Rattle.raft_safety.proofs.Safety.KnownCommitted.{IsKnown-in_leader}
 use Rattle.raft_safety.proofs.FromLeaders.{IsFromLeaders-led, logs-match}
@@ -45,39 +45,36 @@ MayBecomeLeader-applied first e candidacy votes i may =
       quorum = quorum_same first candidacy.applied candidacy.request.committed votes (sym (voters_after-same first candidacy.applied candidacy.request.committed its.committed (omega arith))) may.quorum;
     }
 
-pub MayPropose-applied : (first : Configuration) (e : EtcdCluster) (term leader : ℕ) (entry : Entry) → AreEtcdInvariants first e → MayProposeApplied first e term leader entry → MayPropose first e.cluster term leader entry
-MayPropose-applied first e term leader entry i may =
-    let now : Leadership = e.cluster.leaderships term leader in
-    let s1 : voter_changes first (e.applied term leader) ≤ voter_changes first now.committed = voter_changes-prefix first (e.applied term leader) now.committed (i.applied term leader may.leads).committed in
-    let s2 : voter_changes first now.committed ≤ voter_changes first now.log = voter_changes-prefix first now.committed now.log (IsElectedWith-leads first e.cluster i.core term leader may.leads).stored in
-    record {
-      leads = may.leads;
-      own_term = may.own_term;
-      one_at_a_time = elim may.one_at_a_time [ inl idle ↦ inl idle | inr done ↦ inr (let d : voter_changes first now.log ≡ voter_changes first (e.applied term leader) = done in omega arith) ];
-    }
-
 pub MayCommit-applied : (first : Configuration) (e : EtcdCluster) (term leader : ℕ) (log : Log) (servers : Ids) → AreEtcdInvariants first e → MayCommitApplied first e term leader log servers
     → MayCommit first e.cluster leader (commitment_of e term leader log servers)
-MayCommit-applied first e term leader log servers i may = record {
-  leads = may.leads;
-  longer_than = may.longer_than;
-  in_log = may.in_log;
-  own_term = may.own_term;
-  acknowledged = may.acknowledged;
-  counted = (i.applied term leader may.leads).committed;
-  one_change_beyond = (i.applied term leader may.leads).one_change_beyond;
-  quorum = may.quorum;
-}
+MayCommit-applied first e term leader log servers i may =
+    let was = i.applied term leader may.leads in
+    let few : voter_changes first (log_of e.cluster term leader) ≤ voter_changes first (e.applied term leader) + 1 = was.one_change_beyond in
+    let part : voter_changes first log ≤ voter_changes first (log_of e.cluster term leader) = voter_changes-prefix first log (log_of e.cluster term leader) may.in_log in
+    record {
+      leads = may.leads;
+      longer_than = may.longer_than;
+      in_log = may.in_log;
+      own_term = may.own_term;
+      acknowledged = may.acknowledged;
+      counted = was.committed;
+      one_change_beyond = omega arith;
+      quorum = may.quorum;
+    }
 
-pub MayRestart-durable : (first : Configuration) (e : EtcdCluster) (server : ℕ) (known : Log) → AreEtcdInvariants first e → MayRestartDurable e server known → MayRestart first e.cluster server known
-MayRestart-durable first e server known i may =
-    let s : voter_changes first (e.durable server) ≤ voter_changes first known = voter_changes-prefix first (e.durable server) known may.at_least in
-    let few : voter_changes first (e.cluster.servers server).log ≤ voter_changes first (e.durable server) + 1 = (i.durable server).one_change_beyond in
-    record { known_of = may.at_most; one_change_beyond = omega arith }
+-- a candidate counts by all that it knows to be committed: beyond what is durable of that is at most one change
+pub MayCampaign-applied : (first : Configuration) (e : EtcdCluster) (server term : ℕ) (applied : Log) → AreEtcdInvariants first e → MayCampaignApplied first e server term applied
+    → MayCampaign first e.cluster server term (e.cluster.servers server).committed
+MayCampaign-applied first e server term applied i may =
+    let old : Server = e.cluster.servers server in
+    let was = i.durable server in
+    let few : voter_changes first old.log ≤ voter_changes first (e.durable server) + 1 = was.one_change_beyond in
+    let s : voter_changes first (e.durable server) ≤ voter_changes first old.committed = voter_changes-prefix first (e.durable server) old.committed was.committed in
+    record { later = may.later; committed = IsPrefix-refl old.committed; one_change_beyond = omega arith }
 
 -- ---- a heartbeat: the server has what it acknowledged
 pub MayReceive-heartbeat : (first : Configuration) (e : EtcdCluster) (server term leader : ℕ) (known : Log) → AreInvariants first e.cluster → MayTakeHeartbeat e server term leader known
-    → MayReceive first e.cluster server term leader known known (e.cluster.servers server).log × IsPrefix known (e.cluster.servers server).log
+    → MayReceive e.cluster server term leader known known (e.cluster.servers server).log × IsPrefix known (e.cluster.servers server).log
 MayReceive-heartbeat first e server term leader known i may =
     let its = i.acknowledgements _ may.acknowledged.1 in
     let high : (e.cluster.servers server).term ≤ term = may.not_past in
@@ -90,7 +87,6 @@ MayReceive-heartbeat first e server term leader known i may =
         sent_of = IsPrefix-trans known now.committed now.log may.committed (IsElectedWith-leads first e.cluster i term leader may.leads).stored;
         known_of = IsPrefix-refl known;
         committed = may.committed;
-        one_change_beyond = omega arith;
         taken = inl (stored, refl);
       },
       stored,
@@ -112,10 +108,10 @@ start_in first c i term leader server leads (entry ∷ start) of same =
     found.2 (IsPrefix-refl (entry ∷ start)) found.3 (found.4 ∙ same') in
     subst (λ (x : Log). IsPrefix x log) {x = found.0 ∷ found.1} match found.2
 
--- the server takes the leader's log up to the last entry, and of its commit index as much
+-- the server takes the leader's log up to the last entry, and of its commit index as much: at most one change is beyond
 pub MayReceive-append : (first : Configuration) (e : EtcdCluster) (server : ℕ) (a : Append) → AreInvariants first e.cluster → (its : IsAppend first e.cluster a) → MayTake e server a
     → let after = with_entries (e.cluster.servers server).log a.index a.entries in
-    MayReceive first e.cluster server a.term its.leader (upto after (last_index a)) (upto after (min a.commit (last_index a))) after
+    MayReceive e.cluster server a.term its.leader (upto after (last_index a)) (known_by after a) after × IsOneChangeBeyond first (upto after (last_index a)) (known_by after a)
 MayReceive-append first e server a i its may =
     let log : Log = (e.cluster.servers server).log in
     let L : Log = log_of e.cluster a.term its.leader in
@@ -135,72 +131,49 @@ MayReceive-append first e server a i its may =
       | inr takes ↦ subst (IsPrefix sent) (sym takes.1) (IsPrefix-refl sent)
     ] in
     let sent_is : upto after last ≡ sent = ap (upto after) (sym long) ∙ upto-prefix sent after in_after in
-    let with_known : (known : Log) → IsPrefix known sent → IsPrefix known (e.cluster.leaderships a.term its.leader).committed → IsOneChangeBeyond first sent known
-    → MayReceive first e.cluster server a.term its.leader (upto after last) known after
-    = λ known of committed few. subst (λ (x : Log). MayReceive first e.cluster server a.term its.leader x known after) (sym sent_is) (record {
-      leads = its.leads;
-      not_past = may.not_past;
-      sent_of = its.sent_of;
-      known_of = of;
-      committed = committed;
-      one_change_beyond = few;
-      taken = taken;
-    }) in
+    let Taken : Log → Log → Type 0 = λ x known. MayReceive e.cluster server a.term its.leader x known after × IsOneChangeBeyond first x known in
+    let with_known : (known : Log) → IsPrefix known sent → IsPrefix known (e.cluster.leaderships a.term its.leader).committed → IsOneChangeBeyond first sent known → Taken (upto after last) known
+    = λ known of committed few. subst (λ (x : Log). Taken x known) (sym sent_is) (
+      record {
+        leads = its.leads;
+        not_past = may.not_past;
+        sent_of = its.sent_of;
+        known_of = of;
+        committed = committed;
+        taken = taken;
+      },
+      few,
+    ) in
     let c_len : length its.known ≡ a.commit = its.commit in
     elim (cases_lt a.commit last) [
       | inl less ↦ (
           let part : IsPrefix its.known sent = shorter-prefix its.known sent L its.stored its.sent_of (omega arith) in
           let is : upto after (min a.commit last) ≡ its.known =
           ap (upto after) (min-eq_left (let h : a.commit ≤ last = omega arith in h) ∙ sym c_len) ∙ upto-prefix its.known after (IsPrefix-trans its.known sent after part in_after) in
-          subst (λ (x : Log). MayReceive first e.cluster server a.term its.leader (upto after last) x after) (sym is) (with_known its.known part its.committed its.one_change_beyond))
+          subst (Taken (upto after last)) (sym is) (with_known its.known part its.committed its.one_change_beyond))
       | inr not_less ↦ (
           let part : IsPrefix sent its.known = shorter-prefix sent its.known L its.sent_of its.stored (omega arith) in
           let is : upto after (min a.commit last) ≡ sent =
           ap (upto after) (min-eq_right not_less) ∙ sent_is in
-          subst (λ (x : Log). MayReceive first e.cluster server a.term its.leader (upto after last) x after) (sym is)
+          subst (Taken (upto after last)) (sym is)
           (with_known sent (IsPrefix-refl sent) (IsPrefix-trans sent its.known (e.cluster.leaderships a.term its.leader).committed part its.committed) (omega arith)))
     ]
 
--- ---- an answer to an old append: what the server knows to be committed is in the leader's log
+-- ---- an answer to an old append: what the server knows to be committed is in the leader's log, and nothing is learned
 pub MayReceive-answer : (first : Configuration) (e : EtcdCluster) (server term leader : ℕ) → AreInvariants first e.cluster → MayAnswer e server term leader
     → let old = e.cluster.servers server in
-    (known : Log) × MayReceive first e.cluster server term leader old.committed known old.log × (longer old.committed known ≡ old.committed)
+    MayReceive e.cluster server term leader old.committed [] old.log × (longer old.committed [] ≡ old.committed)
 MayReceive-answer first e server term leader i may =
     let old : Server = e.cluster.servers server in
     let was = i.servers server in
-    let L : Log = log_of e.cluster term leader in
-    let lc : Log = (e.cluster.leaderships term leader).committed in
-    let high : old.term ≤ term = may.not_past in
-    let in_L : IsPrefix old.committed L = IsKnown-in_leader first e.cluster i term leader (old.term + 1) old.committed may.leads was.known (omega arith) in
-    let its : IsElectedWith first e.cluster may.leads.0 (e.cluster.leaderships term leader) = IsElectedWith-leads first e.cluster i term leader may.leads in
-    let few : voter_changes first L ≤ voter_changes first lc + 1 = its.one_change_beyond in
-    let low : voter_changes first old.committed ≤ voter_changes first L = voter_changes-prefix first old.committed L in_L in
-    elim (IsPrefix-compare old.committed lc L in_L its.stored) [
-      | inl less ↦ (
-        old.committed,
-        record {
-          leads = may.leads;
-          not_past = may.not_past;
-          sent_of = in_L;
-          known_of = IsPrefix-refl old.committed;
-          committed = less;
-          one_change_beyond = omega arith;
-          taken = inl (was.stored, refl);
-        },
-        cond-false (nat_lt (length old.committed) (length old.committed)) old.committed old.committed (grind (arith, nat_tests)),
-      )
-      | inr more ↦ (
-        lc,
-        record {
-          leads = may.leads;
-          not_past = may.not_past;
-          sent_of = in_L;
-          known_of = more;
-          committed = IsPrefix-refl lc;
-          one_change_beyond = omega arith;
-          taken = inl (was.stored, refl);
-        },
-        (let h : length lc ≤ length old.committed = IsPrefix-length lc old.committed more in
-            cond-false (nat_lt (length old.committed) (length lc)) lc old.committed (grind (arith, nat_tests))),
-      )
-    ]
+    let high : old.term ≤ term = may.not_past in (
+      record {
+        leads = may.leads;
+        not_past = may.not_past;
+        sent_of = IsKnown-in_leader first e.cluster i term leader (old.term + 1) old.committed may.leads was.known (omega arith);
+        known_of = IsPrefix-empty old.committed;
+        committed = IsPrefix-empty (e.cluster.leaderships term leader).committed;
+        taken = inl (was.stored, refl);
+      },
+      cond-false (nat_lt (length old.committed) 0) [] old.committed (grind (arith, nat_tests)),
+    )

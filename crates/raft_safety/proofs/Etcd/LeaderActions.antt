@@ -1,24 +1,24 @@
 -- Each action of a leader keeps the invariants.
-use Rattle.std.proofs.Common.{◌≡◌, ℕ, ◌+◌, ◌≤◌, ◌<◌, ◌∷◌, ◌++◌, length, refl, sym, ap, subst, ◌∙◌, inl, inr, arith}
+use Rattle.std.proofs.Common.{◌≡◌, ℕ, ◌+◌, ◌≤◌, ◌∷◌, ◌++◌, refl, sym, ap, subst, ◌∙◌, inl, inr, arith}
 use Rattle.quorum_sets.specs.Ids.{Ids}
 use Rattle.conf_change.specs.Configuration.{Configuration}
 use Rattle.raft_safety.specs.Logs.{Entry, Log, IsPrefix}
 use Rattle.raft_safety.specs.Configurations.{voter_changes}
-use Rattle.raft_safety.specs.Cluster.{VoteRequest, Election, Leadership, Cluster, Leads, with_value}
-use Rattle.raft_safety.specs.Steps.{MaySeeTerm, MayGrantVote, MayReceive, after_action, with_server}
+use Rattle.raft_safety.specs.Cluster.{VoteRequest, Election, Leadership, Commitment, Cluster, with_value}
+use Rattle.raft_safety.specs.Steps.{MayCommit, after_action}
 use Rattle.raft_safety.specs.Steps as core
 use Rattle.raft_safety.specs.EtcdCluster.{Candidacy, EtcdCluster}
 use Rattle.raft_safety.specs.EtcdRules.{BecomeLeader, Propose, Send, Commit, Apply, MayBecomeLeaderApplied, MayProposeApplied, MaySend, MayCommitApplied, MayApply}
 use Rattle.raft_safety.specs.EtcdRuns.{commitment_of, after_etcd_action}
-use Rattle.raft_safety.proofs.Logs.{IsPrefix-refl, IsPrefix-trans, IsPrefix-compare, IsPrefix-length}
+use Rattle.raft_safety.proofs.Logs.{IsPrefix-refl, IsPrefix-trans}
 use Rattle.raft_safety.proofs.Configurations.{voter_changes-prefix, voter_changes-entry}
 use Rattle.raft_safety.proofs.Invariants.{IsElectedWith-leads, log_of}
 use Rattle.raft_safety.proofs.Steps.BecomeLeader.{become_leader-keeps}
 use Rattle.raft_safety.proofs.Steps.Propose.{propose-keeps}
-use Rattle.raft_safety.proofs.Steps.Commit.{commit-keeps}
+use Rattle.raft_safety.proofs.Steps.Commit.{commit-rises, commit-keeps}
 use Rattle.raft_safety.proofs.Etcd.Invariants.{IsApplied, IsAppend, AreEtcdInvariants}
-use Rattle.raft_safety.proofs.Etcd.CoreSteps.{MayBecomeLeader-applied, MayPropose-applied, MayCommit-applied}
-use Rattle.raft_safety.proofs.Etcd.Growth.{with_value-pair, pair-same, DoLeadersGrow, IsAppend-later}
+use Rattle.raft_safety.proofs.Etcd.CoreSteps.{MayBecomeLeader-applied, MayCommit-applied}
+use Rattle.raft_safety.proofs.Etcd.Growth.{with_value-pair, pair-same, DoLeadersGrow, become_leader-grows, propose-grows, commit-grows, IsAppend-later}
 
 pub become_leader-keeps_etcd : (first : Configuration) (e : EtcdCluster) (k : Candidacy) (votes : Ids) → MayBecomeLeaderApplied first e k votes → AreEtcdInvariants first e → AreEtcdInvariants first (after_etcd_action e (BecomeLeader k votes))
 become_leader-keeps_etcd first e k votes may i =
@@ -31,15 +31,7 @@ become_leader-keeps_etcd first e k votes may i =
     let few : voter_changes first r.log ≤ voter_changes first r.committed + 1 = asked.one_change_beyond in
     let same_steps : voter_changes first k.applied ≡ voter_changes first r.committed = its.all_applied in
     let new_applied : IsApplied first new.log new.committed k.applied = record { committed = its.committed; one_change_beyond = omega arith } in
-    let not_it : (t s : ℕ) → Leads c t s → t ≡ r.term → s ≡ r.candidate → ⊥ = λ t s l same_t same_s.
-    may.not_yet (l.0, l.1, l.2 ∙ same_t, l.3 ∙ same_s) in
-    let g : DoLeadersGrow c d = record {
-      leads = λ t s l. (l.0, inr l.1, l.2, l.3);
-      logs = λ t s l. with_value-pair (λ (q : Leadership). IsPrefix (log_of c t s) q.log) c.leaderships r.term r.candidate new t s
-          (λ same_t same_s. absurd (not_it t s l same_t same_s)) (λ other. IsPrefix-refl (log_of c t s));
-      committed = λ t s l. with_value-pair (λ (q : Leadership). IsPrefix (c.leaderships t s).committed q.committed) c.leaderships r.term r.candidate new t s
-          (λ same_t same_s. absurd (not_it t s l same_t same_s)) (λ other. IsPrefix-refl (c.leaderships t s).committed);
-    } in
+    let g : DoLeadersGrow c d = become_leader-grows c r votes may.not_yet in
     let now : ℕ → ℕ → Log = with_value e.applied r.term (with_value (e.applied r.term) r.candidate k.applied) in
     record {
       core = become_leader-keeps first c r votes (MayBecomeLeader-applied first e k votes i may) i.core;
@@ -72,20 +64,13 @@ propose-keeps_etcd first e term leader entry may i =
         | inr done ↦ (let k : voter_changes first now.log ≡ voter_changes first (e.applied term leader) = done in omega arith)
       ];
     } in
-    let g : DoLeadersGrow c d = record {
-      leads = λ t s l. l;
-      logs = λ t s l. with_value-pair (λ (q : Leadership). IsPrefix (log_of c t s) q.log) c.leaderships term leader new t s
-          (λ same_t same_s. pair-same (λ (a b : ℕ). IsPrefix (log_of c a b) new.log) term leader t s same_t same_s (inr (IsPrefix-refl now.log))) (λ other. IsPrefix-refl (log_of c t s));
-      committed = λ t s l. with_value-pair (λ (q : Leadership). IsPrefix (c.leaderships t s).committed q.committed) c.leaderships term leader new t s
-          (λ same_t same_s. pair-same (λ (a b : ℕ). IsPrefix (c.leaderships a b).committed new.committed) term leader t s same_t same_s (IsPrefix-refl now.committed)) (λ other. IsPrefix-refl (c.leaderships t s).committed);
-    } in
     record {
-      core = propose-keeps first c term leader entry (MayPropose-applied first e term leader entry i may) i.core;
+      core = propose-keeps first c term leader entry (record { own_term = may.own_term }) i.core;
       durable = i.durable;
       applied = λ t s l. with_value-pair (λ (q : Leadership). IsApplied first q.log q.committed (e.applied t s)) c.leaderships term leader new t s
           (λ same_t same_s. pair-same (λ (a b : ℕ). IsApplied first new.log new.committed (e.applied a b)) term leader t s same_t same_s new_applied) (λ other. i.applied t s l);
       candidacies = i.candidacies;
-      appends = λ a x. IsAppend-later first c d g a (i.appends a x);
+      appends = λ a x. IsAppend-later first c d (propose-grows c term leader entry) a (i.appends a x);
     }
 
 pub send-keeps : (first : Configuration) (e : EtcdCluster) (term leader : ℕ) (before entries : Log) → MaySend e term leader before entries → AreEtcdInvariants first e
@@ -94,7 +79,10 @@ send-keeps first e term leader before entries may i =
     let c : Cluster = e.cluster in
     let now : Leadership = c.leaderships term leader in
     let its = IsElectedWith-leads first c i.core term leader may.leads in
-    let few : voter_changes first now.log ≤ voter_changes first now.committed + 1 = its.one_change_beyond in
+    let was = i.applied term leader may.leads in
+    let s1 : voter_changes first now.log ≤ voter_changes first (e.applied term leader) + 1 = was.one_change_beyond in
+    let s2 : voter_changes first (e.applied term leader) ≤ voter_changes first now.committed = voter_changes-prefix first (e.applied term leader) now.committed was.committed in
+    let few : voter_changes first now.log ≤ voter_changes first now.committed + 1 = omega arith in
     let part : voter_changes first (entries ++ before) ≤ voter_changes first now.log = voter_changes-prefix first (entries ++ before) now.log may.sent_of in
     record {
       core = i.core;
@@ -119,38 +107,32 @@ send-keeps first e term leader before entries may i =
       ];
     }
 
+-- a commitment that Steps.antt allows
+pub commitment-keeps : (first : Configuration) (e : EtcdCluster) (leader : ℕ) (m : Commitment) → MayCommit first e.cluster leader m → AreEtcdInvariants first e
+    → AreEtcdInvariants first (record e { cluster = after_action e.cluster (core.Commit leader m) })
+commitment-keeps first e leader m may i =
+    let c : Cluster = e.cluster in
+    let now : Leadership = c.leaderships m.term leader in
+    let new : Leadership = record now { committed = m.log } in
+    let was = i.applied m.term leader may.leads in
+    let more : IsPrefix now.committed m.log = commit-rises first c leader m may i.core in
+    let new_applied : IsApplied first new.log new.committed (e.applied m.term leader) = record {
+      committed = IsPrefix-trans (e.applied m.term leader) now.committed m.log was.committed more;
+      one_change_beyond = was.one_change_beyond;
+    } in
+    record {
+      core = commit-keeps first c leader m may i.core;
+      durable = i.durable;
+      applied = λ t s l. with_value-pair (λ (q : Leadership). IsApplied first q.log q.committed (e.applied t s)) c.leaderships m.term leader new t s
+          (λ same_t same_s. pair-same (λ (a b : ℕ). IsApplied first new.log new.committed (e.applied a b)) m.term leader t s same_t same_s new_applied) (λ other. i.applied t s l);
+      candidacies = i.candidacies;
+      appends = λ a x. IsAppend-later first c (after_action c (core.Commit leader m)) (commit-grows c leader m more) a (i.appends a x);
+    }
+
 pub commit-keeps_etcd : (first : Configuration) (e : EtcdCluster) (term leader : ℕ) (log : Log) (servers : Ids) → MayCommitApplied first e term leader log servers → AreEtcdInvariants first e
     → AreEtcdInvariants first (after_etcd_action e (Commit term leader log servers))
 commit-keeps_etcd first e term leader log servers may i =
-    let c : Cluster = e.cluster in
-    let now : Leadership = c.leaderships term leader in
-    let new : Leadership = record now { committed = log } in
-    let d : Cluster = after_action c (core.Commit leader (commitment_of e term leader log servers)) in
-    let was = i.applied term leader may.leads in
-    let longer_than : length now.committed < length log = may.longer_than in
-    let more : IsPrefix now.committed log = elim (IsPrefix-compare now.committed log now.log (IsElectedWith-leads first c i.core term leader may.leads).stored may.in_log) [
-      | inl less ↦ less
-      | inr back ↦ (let h : length log ≤ length now.committed = IsPrefix-length log now.committed back in absurd (omega arith))
-    ] in
-    let new_applied : IsApplied first new.log new.committed (e.applied term leader) = record {
-      committed = IsPrefix-trans (e.applied term leader) now.committed log was.committed more;
-      one_change_beyond = was.one_change_beyond;
-    } in
-    let g : DoLeadersGrow c d = record {
-      leads = λ t s l. l;
-      logs = λ t s l. with_value-pair (λ (q : Leadership). IsPrefix (log_of c t s) q.log) c.leaderships term leader new t s
-          (λ same_t same_s. pair-same (λ (a b : ℕ). IsPrefix (log_of c a b) new.log) term leader t s same_t same_s (IsPrefix-refl now.log)) (λ other. IsPrefix-refl (log_of c t s));
-      committed = λ t s l. with_value-pair (λ (q : Leadership). IsPrefix (c.leaderships t s).committed q.committed) c.leaderships term leader new t s
-          (λ same_t same_s. pair-same (λ (a b : ℕ). IsPrefix (c.leaderships a b).committed new.committed) term leader t s same_t same_s more) (λ other. IsPrefix-refl (c.leaderships t s).committed);
-    } in
-    record {
-      core = commit-keeps first c leader (commitment_of e term leader log servers) (MayCommit-applied first e term leader log servers i may) i.core;
-      durable = i.durable;
-      applied = λ t s l. with_value-pair (λ (q : Leadership). IsApplied first q.log q.committed (e.applied t s)) c.leaderships term leader new t s
-          (λ same_t same_s. pair-same (λ (a b : ℕ). IsApplied first new.log new.committed (e.applied a b)) term leader t s same_t same_s new_applied) (λ other. i.applied t s l);
-      candidacies = i.candidacies;
-      appends = λ a x. IsAppend-later first c d g a (i.appends a x);
-    }
+    commitment-keeps first e leader (commitment_of e term leader log servers) (MayCommit-applied first e term leader log servers i may) i
 
 pub apply-keeps : (first : Configuration) (e : EtcdCluster) (term leader : ℕ) (log : Log) → MayApply e term leader log → AreEtcdInvariants first e
     → AreEtcdInvariants first (after_etcd_action e (Apply term leader log))

@@ -1,5 +1,5 @@
 -- Each action of a server keeps the invariants.
-use Rattle.std.proofs.Common.{◌≡◌, ℕ, ◌+◌, ◌≤◌, min, true, List, [], ◌∷◌, length, refl, sym, ap, subst, ◌∙◌, inl, inr, arith, if◌then◌else◌}
+use Rattle.std.proofs.Common.{◌≡◌, ℕ, ◌+◌, ◌≤◌, true, List, [], ◌∷◌, length, refl, sym, ap, subst, ◌∙◌, inl, inr, arith, if◌then◌else◌}
 use Rattle.std.specs.Prelude.{nat_eq}
 use Rattle.std.proofs.lemmas.Bool.{cond-true, cond_both, and_parts}
 use Rattle.conf_change.specs.Configuration.{Configuration}
@@ -11,7 +11,7 @@ use Rattle.raft_safety.specs.Steps as core
 use Rattle.raft_safety.specs.Appending.{upto, term_at, with_entry, has_entries, with_entries}
 use Rattle.raft_safety.specs.EtcdCluster.{Append, Candidacy, EtcdCluster}
 use Rattle.raft_safety.specs.EtcdRules.{Campaign, SeeTerm, GrantVote, Receive, Answer, Heartbeat, Restart, MayCampaignApplied, MayTake, MayAnswer, MayTakeHeartbeat, MayRestartDurable}
-use Rattle.raft_safety.specs.EtcdRuns.{request_of, last_index, after_append, after_etcd_action}
+use Rattle.raft_safety.specs.EtcdRuns.{request_of, last_index, known_by, after_append, after_etcd_action}
 use Rattle.raft_safety.proofs.Logs.{IsPrefix-refl, IsPrefix-trans, shorter-prefix, longer-each}
 use Rattle.raft_safety.proofs.Configurations.{voter_changes-prefix}
 use Rattle.raft_safety.proofs.Invariants.{IsKnown, IsServer, AreInvariants, IsElectedWith-leads, log_of}
@@ -23,7 +23,7 @@ use Rattle.raft_safety.proofs.Steps.OneServer.{with_server-keeps, see_term-keeps
 use Rattle.raft_safety.proofs.Steps.GrantVote.{grant_vote-keeps}
 use Rattle.raft_safety.proofs.Steps.Receive.{receive-keeps}
 use Rattle.raft_safety.proofs.Etcd.Invariants.{IsDurable, IsCandidacy, IsAppend, AreEtcdInvariants}
-use Rattle.raft_safety.proofs.Etcd.CoreSteps.{MayRestart-durable, MayReceive-heartbeat, MayReceive-append, MayReceive-answer}
+use Rattle.raft_safety.proofs.Etcd.CoreSteps.{MayCampaign-applied, MayReceive-heartbeat, MayReceive-append, MayReceive-answer}
 use Rattle.raft_safety.proofs.Etcd.Growth.{with_value-both, DoLeadersGrow, IsAppend-later}
 
 -- leaders stay as they are, and so does what holds of them, and of appends
@@ -70,7 +70,7 @@ campaign-keeps_etcd first e server term applied may i =
     let r : VoteRequest = request_of e.cluster server term in
     servers_kept first e i server new (record { term = term; voter = server; candidate = server } ∷ e.cluster.votes) (r ∷ e.cluster.requests) e.cluster.acknowledgements e.durable
     (record { request = r; applied = applied } ∷ e.candidacies)
-    (campaign-keeps first e.cluster server term (record { later = may.later }) i.core)
+    (campaign-keeps first e.cluster server term old.committed (MayCampaign-applied first e server term applied i may) i.core)
     (durable_kept first e i server new (i.durable server))
     (λ k x. elim x [
       | inl is ↦ subst (IsCandidacy first (r ∷ e.cluster.requests)) (sym is) (record { asked = inl refl; committed = may.committed; all_applied = may.all_applied })
@@ -95,7 +95,7 @@ pub restart-keeps_etcd : (first : Configuration) (e : EtcdCluster) (server : ℕ
 restart-keeps_etcd first e server known may i =
     let old : Server = e.cluster.servers server in
     let new : Server = record old { committed = known } in
-    server_kept first e i server new e.cluster.votes e.cluster.acknowledgements e.durable (restart-keeps first e.cluster server known (MayRestart-durable first e server known i may) i.core)
+    server_kept first e i server new e.cluster.votes e.cluster.acknowledgements e.durable (restart-keeps first e.cluster server known (record { known_of = may.at_most }) i.core)
     (durable_kept first e i server new (record { committed = may.at_least; one_change_beyond = (i.durable server).one_change_beyond }))
 
 pub answer-keeps : (first : Configuration) (e : EtcdCluster) (server term leader : ℕ) → MayAnswer e server term leader → AreEtcdInvariants first e
@@ -106,12 +106,12 @@ answer-keeps first e server term leader may i =
     let more : List Acknowledgement = record { term = term; server = server; log = old.committed } ∷ e.cluster.acknowledgements in
     let found = MayReceive-answer first e server term leader i.core may in
     server_kept first e i server new e.cluster.votes more e.durable
-    (subst (λ (x : Log). AreInvariants first (record (with_server e.cluster server (record { term = term; log = old.log; committed = x })) { acknowledgements = more })) found.2
-    (receive-keeps first e.cluster server term leader old.committed found.0 old.log found.1 i.core))
+    (subst (λ (x : Log). AreInvariants first (record (with_server e.cluster server (record { term = term; log = old.log; committed = x })) { acknowledgements = more })) found.1
+    (receive-keeps first e.cluster server term leader old.committed [] old.log found.0 i.core))
     (durable_kept first e i server new (i.durable server))
 
 -- what a server knows to be committed grows
-committed_grows : (first : Configuration) (c : Cluster) → AreInvariants first c → (server term leader : ℕ) (sent known after : Log) → MayReceive first c server term leader sent known after
+committed_grows : (first : Configuration) (c : Cluster) → AreInvariants first c → (server term leader : ℕ) (sent known after : Log) → MayReceive c server term leader sent known after
     → IsPrefix (c.servers server).committed (longer (c.servers server).committed known)
 committed_grows first c i server term leader sent known after may =
     let old : Server = c.servers server in
@@ -123,22 +123,18 @@ committed_grows first c i server term leader sent known after may =
     (λ not_less. IsPrefix-refl old.committed)
 
 -- a server that learns what is committed, and acknowledges nothing by that
-learn_keeps : (first : Configuration) (c : Cluster) (server term leader : ℕ) (known : Log) → MayReceive first c server term leader known known (c.servers server).log → IsPrefix known (c.servers server).log
+learn_keeps : (first : Configuration) (c : Cluster) (server term leader : ℕ) (known : Log) → MayReceive c server term leader known known (c.servers server).log → IsPrefix known (c.servers server).log
     → AreInvariants first c → AreInvariants first (with_server c server (record { term = term; log = (c.servers server).log; committed = longer (c.servers server).committed known }))
 learn_keeps first c server term leader known may stored i =
     let old : Server = c.servers server in
     let new : Server = record { term = term; log = old.log; committed = longer old.committed known } in
     let d : Cluster = with_server c server new in
-    let was : IsServer first c old = i.servers server in
+    let was : IsServer c old = i.servers server in
     let order : old.term ≤ term = may.not_past in
-    let few : voter_changes first old.log ≤ voter_changes first old.committed + 1 = was.one_change_beyond in
-    let more : voter_changes first old.committed ≤ voter_changes first new.committed =
-    voter_changes-prefix first old.committed new.committed (committed_grows first c i server term leader known known old.log may) in
     with_server-keeps first c server new order refl i (λ (f : Follows c d). record {
       from_leaders = IsFromLeaders-later c d f old.log was.from_leaders;
       term = (let h : last_term old.log ≤ old.term = was.term in omega arith);
       stored = longer-each (λ (x : Log). IsPrefix x old.log) old.committed known (λ less. stored) (λ not_less. was.stored);
-      one_change_beyond = omega arith;
       known = longer-each (IsKnown d (term + 1)) old.committed known
           (λ less. IsKnown-follows c d f (term + 1) (term + 1) (omega arith) known
           (IsKnown-prefix c (term + 1) known (c.leaderships term leader).committed may.committed
@@ -173,20 +169,44 @@ take-keeps first e server a may i =
     let old : Server = e.cluster.servers server in
     let new : Server = after_append old a in
     let sent : Log = upto new.log (last_index a) in
-    let known : Log = upto new.log (min a.commit (last_index a)) in
-    let received : MayReceive first e.cluster server a.term its.leader sent known new.log = MayReceive-append first e server a i.core its may in
+    let known : Log = known_by new.log a in
+    let found = MayReceive-append first e server a i.core its may in
+    let received : MayReceive e.cluster server a.term its.leader sent known new.log = found.0 in
     let d : Cluster = after_action e.cluster (core.Receive server a.term its.leader sent known new.log) in
     let kept : AreInvariants first d = receive-keeps first e.cluster server a.term its.leader sent known new.log received i.core in
-    let new_is : IsServer first d new = subst (IsServer first d) (with_value-here e.cluster.servers server new) (kept.servers server) in
+    let new_is : IsServer d new = subst (IsServer d) (with_value-here e.cluster.servers server new) (kept.servers server) in
     let was = i.durable server in
-    let few : voter_changes first old.log ≤ voter_changes first (e.durable server) + 1 = was.one_change_beyond in
-    let written : Log = if has_entries old.log a.index a.entries then e.durable server else new.committed in
+    let durable : Log = e.durable server in
+    let few : voter_changes first old.log ≤ voter_changes first durable + 1 = was.one_change_beyond in
+    let few_sent : voter_changes first sent ≤ voter_changes first known + 1 = found.1 in
+    let L : Log = log_of e.cluster a.term its.leader in
+    let order : old.term ≤ a.term = may.not_past in
+    let old_in : IsPrefix old.committed L = IsKnown-in_leader first e.cluster i.core a.term its.leader (old.term + 1) old.committed its.leads (i.core.servers server).known (omega arith) in
+    let durable_in : IsPrefix durable L = IsPrefix-trans durable old.committed L was.committed old_in in
+    let known_in : IsPrefix known L = IsPrefix-trans known sent L received.known_of received.sent_of in
+    let grows : IsPrefix old.committed new.committed = committed_grows first e.cluster i.core server a.term its.leader sent known new.log received in
+    let known_new : IsPrefix known new.committed = longer-each (IsPrefix known) old.committed known (λ less. IsPrefix-refl known) (λ not_less. shorter-prefix known old.committed L known_in old_in not_less) in
+    let written : Log = if has_entries old.log a.index a.entries then durable else longer durable known in
     let new_durable : IsDurable first new.log new.committed written =
-    cond_both (has_entries old.log a.index a.entries) (e.durable server) new.committed (IsDurable first new.log new.committed)
+    cond_both (has_entries old.log a.index a.entries) durable (longer durable known) (IsDurable first new.log new.committed)
     (λ yes. record {
-      committed = IsPrefix-trans (e.durable server) old.committed new.committed was.committed (committed_grows first e.cluster i.core server a.term its.leader sent known new.log received);
-      one_change_beyond = subst (λ (x : Log). IsOneChangeBeyond first x (e.durable server)) (sym (entries_stay old.log a.index a.entries yes)) few;
+      committed = IsPrefix-trans durable old.committed new.committed was.committed grows;
+      one_change_beyond = subst (λ (x : Log). IsOneChangeBeyond first x durable) (sym (entries_stay old.log a.index a.entries yes)) few;
     })
-    (λ no. record { committed = IsPrefix-refl new.committed; one_change_beyond = new_is.one_change_beyond }) in
+    (λ no. record {
+      committed = longer-each (λ (x : Log). IsPrefix x new.committed) durable known (λ less. known_new) (λ not_less. IsPrefix-trans durable old.committed new.committed was.committed grows);
+      one_change_beyond = elim received.taken [
+        | inl keeps ↦ subst (λ (x : Log). IsOneChangeBeyond first x (longer durable known)) (sym keeps.1) (longer-each (IsOneChangeBeyond first old.log) durable known
+            (λ less.
+            let s : voter_changes first durable ≤ voter_changes first known = voter_changes-prefix first durable known (shorter-prefix durable known L durable_in known_in (omega arith)) in
+            omega arith)
+            (λ not_less. few))
+        | inr takes ↦ subst (λ (x : Log). IsOneChangeBeyond first x (longer durable known)) (sym takes.1) (longer-each (IsOneChangeBeyond first sent) durable known
+            (λ less. few_sent)
+            (λ not_less.
+            let s : voter_changes first known ≤ voter_changes first durable = voter_changes-prefix first known durable (shorter-prefix known durable L known_in durable_in not_less) in
+            omega arith))
+      ];
+    }) in
     server_kept first e i server new e.cluster.votes (record { term = a.term; server = server; log = sent } ∷ e.cluster.acknowledgements) (with_value e.durable server written) kept
     (λ k. with_value-both (λ (x : Server) (y : Log). IsDurable first x.log x.committed y) e.cluster.servers e.durable server new written k (λ same. new_durable) (λ other. i.durable k))

@@ -18,7 +18,7 @@ use Rattle.raft_safety.proofs.Etcd.ServerActions.{campaign-keeps_etcd, see_term-
 use Rattle.raft_safety.proofs.Etcd.LeaderActions.{become_leader-keeps_etcd, propose-keeps_etcd, send-keeps, commit-keeps_etcd, apply-keeps}
 
 -- ---- every state that is reached
-new_holds : (first : Configuration) → AreEtcdInvariants first new_etcd_cluster
+pub new_holds : (first : Configuration) → AreEtcdInvariants first new_etcd_cluster
 new_holds first = record {
   core = AreInvariants-new first;
   durable = λ server. record { committed = refl; one_change_beyond = omega arith };
@@ -27,7 +27,7 @@ new_holds first = record {
   appends = λ a x. absurd x;
 }
 
-action_keeps : (first : Configuration) (e : EtcdCluster) (action : EtcdAction) → IsAllowedByEtcd first e action → AreEtcdInvariants first e → AreEtcdInvariants first (after_etcd_action e action)
+pub action_keeps : (first : Configuration) (e : EtcdCluster) (action : EtcdAction) → IsAllowedByEtcd first e action → AreEtcdInvariants first e → AreEtcdInvariants first (after_etcd_action e action)
 action_keeps first e (Campaign server term applied) may i = campaign-keeps_etcd first e server term applied may i
 action_keeps first e (SeeTerm server term) may i = see_term-keeps_etcd first e server term may i
 action_keeps first e (GrantVote voter request) may i = grant_vote-keeps_etcd first e voter request may i
@@ -41,7 +41,7 @@ action_keeps first e (Commit term leader log servers) may i = commit-keeps_etcd 
 action_keeps first e (Apply term leader log) may i = apply-keeps first e term leader log may i
 action_keeps first e (Restart server known) may i = restart-keeps_etcd first e server known may i
 
-actions_keep : (first : Configuration) (e : EtcdCluster) (actions : List EtcdAction) → AreAllowedByEtcd first e actions → AreEtcdInvariants first e → AreEtcdInvariants first (after_etcd_actions e actions)
+pub actions_keep : (first : Configuration) (e : EtcdCluster) (actions : List EtcdAction) → AreAllowedByEtcd first e actions → AreEtcdInvariants first e → AreEtcdInvariants first (after_etcd_actions e actions)
 actions_keep first e [] allowed i = i
 actions_keep first e (action ∷ actions) allowed i = actions_keep first (after_etcd_action e action) actions allowed.1 (action_keeps first e action allowed.0 i)
 

@@ -41,7 +41,7 @@ become_leader-keeps first c r votes may i =
       terms = λ s. omega arith;
     } in
     record {
-      servers = λ s. IsServer-later first c d f (c.servers s) (c.servers s).term (omega arith) (i.servers s);
+      servers = λ s. IsServer-later c d f (c.servers s) (c.servers s).term (omega arith) (i.servers s);
       requests = λ a x. IsRequest-later first c d f a (i.requests a x);
       one_request = i.one_request;
       elections = λ e x. elim x [
@@ -51,7 +51,6 @@ become_leader-keeps first c r votes may i =
           voted = may.voted;
           quorum = may.quorum;
           stored = asked.stored;
-          one_change_beyond = asked.one_change_beyond;
           known = IsKnown-follows c d f r.term (r.term + 1) (omega arith) r.committed asked.known;
         }))
         | inr in_c ↦ subst (IsElectedWith first d e) (stays e.request.term e.request.candidate (e, in_c, refl, refl))

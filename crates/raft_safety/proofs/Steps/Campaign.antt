@@ -1,23 +1,24 @@
 -- The step Campaign keeps the invariants.
 use Rattle.std.proofs.Common.{◌≡◌, ℕ, ◌+◌, ◌≤◌, ◌<◌, refl, sym, ap, subst, ◌∙◌, inl, inr, arith}
 use Rattle.conf_change.specs.Configuration.{Configuration}
-use Rattle.raft_safety.specs.Logs.{IsPrefix, last_term}
+use Rattle.raft_safety.specs.Logs.{Log, IsPrefix, last_term}
 use Rattle.raft_safety.specs.Cluster.{VoteRequest, Cluster, In, Server, Vote, with_value}
 use Rattle.raft_safety.proofs.Invariants.{HasVoted, AreInvariants, log_of, HasAcknowledged, IsServer, IsRequest, IsVote}
 use Rattle.raft_safety.specs.Steps.{Campaign, MayCampaign, after_action}
 use Rattle.raft_safety.proofs.Updates.{with_value-here, with_value-term_rises, with_value-log_stays}
-use Rattle.raft_safety.proofs.Growth.{Follows, IsFromLeaders-later, IsKnown-follows, IsKept-back, IsServer-later, IsRequest-later, IsElectedWith-later, IsVote-later, IsCommitment-later, IsAcknowledged-later, voters_keep-later, IsServer-each}
+use Rattle.raft_safety.proofs.Growth.{Follows, IsFromLeaders-later, IsKnown-follows, IsKept-back, IsServer-later, IsRequest-later, IsElectedWith-later, IsVote-later, IsCommitment-later, IsAcknowledged-later, voters_keep-later, IsServer-each, IsKnown-prefix}
 use Rattle.raft_safety.proofs.Safety.LedTerms.{last_term-acknowledged}
-use Rattle.raft_safety.proofs.Logs.{IsPrefix-refl}
+use Rattle.raft_safety.proofs.Logs.{IsPrefix-refl, IsPrefix-trans}
 
-pub campaign-keeps : (first : Configuration) (c : Cluster) (server term : ℕ) → MayCampaign c server term → AreInvariants first c → AreInvariants first (after_action c (Campaign server term))
-campaign-keeps first c server term may i =
+pub campaign-keeps : (first : Configuration) (c : Cluster) (server term : ℕ) (counted : Log) → MayCampaign first c server term counted → AreInvariants first c
+    → AreInvariants first (after_action c (Campaign server term counted))
+campaign-keeps first c server term counted may i =
     let old : Server = c.servers server in
     let new : Server = record old { term = term } in
-    let d : Cluster = after_action c (Campaign server term) in
-    let was : IsServer first c old = i.servers server in
+    let d : Cluster = after_action c (Campaign server term counted) in
     let later : old.term < term = may.later in
-    let r : VoteRequest = record { term = term; candidate = server; log = old.log; committed = old.committed } in
+    let was : IsServer c old = i.servers server in
+    let r : VoteRequest = record { term = term; candidate = server; log = old.log; committed = counted } in
     let f : Follows c d = record {
       leads = λ t s l. l;
       logs = λ t s l. IsPrefix-refl (log_of c t s);
@@ -35,14 +36,14 @@ campaign-keeps first c server term may i =
     no_vote server (subst (λ (q : ℕ). HasVoted c q server server) t (subst (λ (q : ℕ). HasVoted c a.term q q) s (i.requests a in_a).own_vote)) in
     let known_term : last_term old.log ≤ old.term = was.term in
     record {
-      servers = IsServer-each first c d f i server new (IsServer-later first c d f old term (omega arith) was);
+      servers = IsServer-each first c d f i server new (IsServer-later c d f old term (omega arith) was);
       requests = λ a x. elim x [
         | inl is ↦ subst (IsRequest first d) (sym is) (record {
           from_leaders = IsFromLeaders-later c d f old.log was.from_leaders;
           term = omega arith;
-          stored = was.stored;
-          one_change_beyond = was.one_change_beyond;
-          known = IsKnown-follows c d f (old.term + 1) term (omega arith) old.committed was.known;
+          stored = IsPrefix-trans counted old.committed old.log may.committed was.stored;
+          one_change_beyond = may.one_change_beyond;
+          known = IsKnown-follows c d f (old.term + 1) term (omega arith) counted (IsKnown-prefix c (old.term + 1) counted old.committed may.committed was.known);
           own_vote = inl refl;
         })
         | inr in_c ↦ IsRequest-later first c d f a (i.requests a in_c)

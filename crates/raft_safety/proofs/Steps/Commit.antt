@@ -2,15 +2,23 @@
 use Rattle.std.proofs.Common.{◌≡◌, ℕ, ◌+◌, ◌≤◌, ◌<◌, ◌∷◌, refl, sym, subst, inl, inr, arith, length, []}
 use Rattle.conf_change.specs.Configuration.{Configuration}
 use Rattle.raft_safety.specs.Logs.{Log, IsPrefix, Entry}
-use Rattle.raft_safety.specs.Configurations.{voter_changes}
 use Rattle.raft_safety.specs.Cluster.{Election, Commitment, Cluster, In, Leadership}
-use Rattle.raft_safety.proofs.Configurations.{voter_changes-prefix}
-use Rattle.raft_safety.proofs.Invariants.{AreInvariants, log_of, IsElectedWith, IsCommitment}
+use Rattle.raft_safety.proofs.Invariants.{AreInvariants, log_of, IsElectedWith, IsElectedWith-leads, IsCommitment}
 use Rattle.raft_safety.specs.Steps.{Commit, MayCommit, after_action}
 use Rattle.raft_safety.proofs.Updates.{with_leadership-each, leadership-same, with_leadership-here}
 use Rattle.raft_safety.proofs.Growth.{Follows, IsServer-later, IsRequest-later, IsElectedWith-later, IsVote-later, IsCommitment-later, IsAcknowledged-later, voters_keep-later}
 use Rattle.raft_safety.proofs.Safety.LedTerms.{last_term-acknowledged}
 use Rattle.raft_safety.proofs.Logs.{IsPrefix-refl, IsPrefix-trans, IsPrefix-compare, IsPrefix-length}
+
+-- what is committed was committed before, and more
+pub commit-rises : (first : Configuration) (c : Cluster) (leader : ℕ) (m : Commitment) → MayCommit first c leader m → AreInvariants first c → IsPrefix (c.leaderships m.term leader).committed m.log
+commit-rises first c leader m may i =
+    let now : Leadership = c.leaderships m.term leader in
+    let longer_than : length now.committed < length m.log = may.longer_than in
+    elim (IsPrefix-compare now.committed m.log now.log (IsElectedWith-leads first c i m.term leader may.leads).stored may.in_log) [
+      | inl less ↦ less
+      | inr more ↦ (let h : length m.log ≤ length now.committed = IsPrefix-length m.log now.committed more in absurd (omega arith))
+    ]
 
 pub commit-keeps : (first : Configuration) (c : Cluster) (leader : ℕ) (m : Commitment) → MayCommit first c leader m → AreInvariants first c → AreInvariants first (after_action c (Commit leader m))
 commit-keeps first c leader m may i =
@@ -20,14 +28,8 @@ commit-keeps first c leader m may i =
     let el : Election = may.leads.0 in
     let its_term : el.request.term ≡ m.term = may.leads.2 in
     let its : IsElectedWith first c el now = subst (IsElectedWith first c el) (leadership-same c m.term leader el.request.term el.request.candidate its_term may.leads.3) (i.elections el may.leads.1) in
-    let before : IsPrefix now.committed m.log = elim (IsPrefix-compare now.committed m.log now.log its.stored may.in_log) [
-      | inl less ↦ less
-      | inr more ↦ (let h : length m.log ≤ length now.committed = IsPrefix-length m.log now.committed more in let g : length now.committed < length m.log = may.longer_than in absurd (omega arith))
-    ] in
+    let before : IsPrefix now.committed m.log = commit-rises first c leader m may i in
     let counted_in : IsPrefix m.counted m.log = IsPrefix-trans m.counted now.committed m.log may.counted before in
-    let s1 : voter_changes first m.counted ≤ voter_changes first m.log = voter_changes-prefix first m.counted m.log counted_in in
-    let s2 : voter_changes first m.log ≤ voter_changes first now.log = voter_changes-prefix first m.log now.log may.in_log in
-    let s3 : voter_changes first now.log ≤ voter_changes first m.counted + 1 = may.one_change_beyond in
     let f : Follows c d = record {
       leads = λ t s l. l;
       logs = λ t s l. with_leadership-each c m.term leader new (λ (q : Leadership). IsPrefix (log_of c t s) q.log) t s
@@ -52,7 +54,7 @@ commit-keeps first c leader m may i =
           (h.0, inr h.1, (let g : h.0.term ≤ found.0.term = h.2 in let k : found.0.term < el.request.term + 1 = found.2 in omega arith), h.3, h.4))
     ] in
     record {
-      servers = λ s. IsServer-later first c d f (c.servers s) (c.servers s).term (omega arith) (i.servers s);
+      servers = λ s. IsServer-later c d f (c.servers s) (c.servers s).term (omega arith) (i.servers s);
       requests = λ a x. IsRequest-later first c d f a (i.requests a x);
       one_request = i.one_request;
       elections = λ e x.
@@ -66,7 +68,6 @@ commit-keeps first c leader m may i =
             voted = it.voted;
             quorum = it.quorum;
             stored = may.in_log;
-            one_change_beyond = omega arith;
             known = inr (m, inl refl, (let g : e.request.term ≡ m.term = same_t in omega arith), IsPrefix-refl m.log);
           })
           later;
@@ -81,7 +82,7 @@ commit-keeps first c leader m may i =
           own_term = may.own_term;
           counted = counted_in;
           shorter = (let h : length m.counted ≤ length now.committed = IsPrefix-length m.counted now.committed may.counted in let g : length now.committed < length m.log = may.longer_than in omega arith);
-          one_change_beyond = omega arith;
+          one_change_beyond = may.one_change_beyond;
           quorum = may.quorum;
           acknowledged = may.acknowledged;
         })

@@ -19,7 +19,7 @@ grant_vote-keeps first c voter r may i =
     let old : Server = c.servers voter in
     let new : Server = record old { term = r.term } in
     let d : Cluster = after_action c (GrantVote voter r) in
-    let was : IsServer first c old = i.servers voter in
+    let was : IsServer c old = i.servers voter in
     let order : old.term ≤ r.term = may.not_past in
     let f : Follows c d = record {
       leads = λ t s l. l;
@@ -33,7 +33,7 @@ grant_vote-keeps first c voter r may i =
       terms = with_value-term_rises c.servers voter new order;
     } in
     record {
-      servers = IsServer-each first c d f i voter new (IsServer-later first c d f old r.term order was);
+      servers = IsServer-each first c d f i voter new (IsServer-later c d f old r.term order was);
       requests = λ a x. IsRequest-later first c d f a (i.requests a x);
       one_request = i.one_request;
       elections = λ e x. IsElectedWith-later first c d f e (c.leaderships e.request.term e.request.candidate) (i.elections e x);

@@ -12,7 +12,7 @@ use Rattle.raft_safety.proofs.Safety.LedTerms.{last_term-acknowledged}
 use Rattle.raft_safety.proofs.Logs.{IsPrefix-refl, IsPrefix-trans}
 
 pub with_server-keeps : (first : Configuration) (c : Cluster) (server : ℕ) (new : Server) → (c.servers server).term ≤ new.term → (c.servers server).log ≡ new.log
-    → AreInvariants first c → (Follows c (with_server c server new) → IsServer first (with_server c server new) new) → AreInvariants first (with_server c server new)
+    → AreInvariants first c → (Follows c (with_server c server new) → IsServer (with_server c server new) new) → AreInvariants first (with_server c server new)
 with_server-keeps first c server new rises stays i holds =
     let d : Cluster = with_server c server new in
     let f : Follows c d = record {
@@ -40,16 +40,15 @@ with_server-keeps first c server new rises stays i holds =
       counted_before = i.counted_before;
     }
 
-pub restart-keeps : (first : Configuration) (c : Cluster) (server : ℕ) (known : Log) → MayRestart first c server known → AreInvariants first c → AreInvariants first (after_action c (Restart server known))
+pub restart-keeps : (first : Configuration) (c : Cluster) (server : ℕ) (known : Log) → MayRestart c server known → AreInvariants first c → AreInvariants first (after_action c (Restart server known))
 restart-keeps first c server known may i =
     let old : Server = c.servers server in
     let d : Cluster = after_action c (Restart server known) in
-    let was : IsServer first c old = i.servers server in
+    let was : IsServer c old = i.servers server in
     with_server-keeps first c server (record old { committed = known }) (omega arith) refl i (λ (f : Follows c d). record {
       from_leaders = IsFromLeaders-later c d f old.log was.from_leaders;
       term = was.term;
       stored = IsPrefix-trans known old.committed old.log may.known_of was.stored;
-      one_change_beyond = may.one_change_beyond;
       known = IsKnown-follows c d f (old.term + 1) (old.term + 1) (omega arith) known (IsKnown-prefix c (old.term + 1) known old.committed may.known_of was.known);
     })
 
@@ -58,4 +57,4 @@ see_term-keeps first c server term may i =
     let old : Server = c.servers server in
     let higher : old.term < term = may.higher in
     with_server-keeps first c server (record old { term = term }) (omega arith) refl i
-    (λ f. IsServer-later first c (after_action c (SeeTerm server term)) f old term (omega arith) (i.servers server))
+    (λ f. IsServer-later c (after_action c (SeeTerm server term)) f old term (omega arith) (i.servers server))

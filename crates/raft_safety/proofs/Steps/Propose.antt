@@ -1,18 +1,16 @@
 -- The step Propose keeps the invariants.
-use Rattle.std.proofs.Common.{◌≡◌, ℕ, ◌+◌, ◌≤◌, ◌∷◌, refl, sym, ap, subst, ◌∙◌, inl, inr, arith}
+use Rattle.std.proofs.Common.{◌≡◌, ℕ, ◌∷◌, refl, sym, ap, subst, ◌∙◌, inl, inr, arith}
 use Rattle.conf_change.specs.Configuration.{Configuration}
 use Rattle.raft_safety.specs.Logs.{IsPrefix, last_term, Entry}
-use Rattle.raft_safety.specs.Configurations.{voter_changes}
 use Rattle.raft_safety.specs.Cluster.{Cluster, Leadership}
 use Rattle.raft_safety.proofs.Invariants.{AreInvariants, log_of, IsElectedWith}
 use Rattle.raft_safety.specs.Steps.{Propose, MayPropose, after_action}
-use Rattle.raft_safety.proofs.Configurations.{voter_changes-entry}
 use Rattle.raft_safety.proofs.Updates.{with_leadership-each, leadership-same}
 use Rattle.raft_safety.proofs.Growth.{Follows, IsServer-later, IsRequest-later, IsElectedWith-later, IsVote-later, IsCommitment-later, IsAcknowledged-later, voters_keep-later}
 use Rattle.raft_safety.proofs.Safety.LedTerms.{last_term-acknowledged}
 use Rattle.raft_safety.proofs.Logs.{IsPrefix-refl}
 
-pub propose-keeps : (first : Configuration) (c : Cluster) (term leader : ℕ) (entry : Entry) → MayPropose first c term leader entry → AreInvariants first c
+pub propose-keeps : (first : Configuration) (c : Cluster) (term leader : ℕ) (entry : Entry) → MayPropose term entry → AreInvariants first c
     → AreInvariants first (after_action c (Propose term leader entry))
 propose-keeps first c term leader entry may i =
     let now : Leadership = c.leaderships term leader in
@@ -38,7 +36,7 @@ propose-keeps first c term leader entry may i =
       terms = λ s. omega arith;
     } in
     record {
-      servers = λ s. IsServer-later first c d f (c.servers s) (c.servers s).term (omega arith) (i.servers s);
+      servers = λ s. IsServer-later c d f (c.servers s) (c.servers s).term (omega arith) (i.servers s);
       requests = λ a x. IsRequest-later first c d f a (i.requests a x);
       one_request = i.one_request;
       elections = λ e x.
@@ -52,13 +50,6 @@ propose-keeps first c term leader entry may i =
             voted = it.voted;
             quorum = it.quorum;
             stored = inr it.stored;
-            one_change_beyond =
-                (let h : voter_changes first now.log ≤ voter_changes first now.committed + 1 = it.one_change_beyond in
-                let g : voter_changes first (entry ∷ now.log) ≤ voter_changes first now.log + 1 = voter_changes-entry first entry now.log in
-                elim may.one_at_a_time [
-                  | inl idle ↦ (let k : voter_changes first (entry ∷ now.log) ≡ voter_changes first now.log = idle in omega arith)
-                  | inr done ↦ (let k : voter_changes first now.log ≡ voter_changes first now.committed = done in omega arith)
-                ]);
             known = it.known;
           })
           later;

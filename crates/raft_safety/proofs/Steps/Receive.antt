@@ -3,9 +3,7 @@ use Rattle.std.proofs.Common.{◌≡◌, ℕ, ◌+◌, ◌≤◌, sym, ap, subst
 use Rattle.std.proofs.lemmas.Bool.{cases_lt}
 use Rattle.conf_change.specs.Configuration.{Configuration}
 use Rattle.raft_safety.specs.Logs.{Log, IsPrefix, last_term, longer}
-use Rattle.raft_safety.specs.Configurations.{IsOneChangeBeyond, voter_changes}
 use Rattle.raft_safety.specs.Cluster.{Election, Acknowledgement, Cluster, In, Leads, Server}
-use Rattle.raft_safety.proofs.Configurations.{voter_changes-prefix}
 use Rattle.raft_safety.proofs.Invariants.{IsKnown, AreInvariants, log_of, IsServer, IsFromLeaders, IsAcknowledged}
 use Rattle.raft_safety.specs.Steps.{after_action, Receive, MayReceive}
 use Rattle.raft_safety.proofs.Updates.{with_value-here, with_value-each, with_value-term_rises}
@@ -14,15 +12,15 @@ use Rattle.raft_safety.proofs.Safety.OneLeader.{log_of-one_leader}
 use Rattle.raft_safety.proofs.Safety.KnownCommitted.{IsKnown-in_leader}
 use Rattle.raft_safety.proofs.Safety.LedTerms.{last_term-led, last_term-acknowledged}
 use Rattle.raft_safety.proofs.FromLeaders.{IsFromLeaders-led}
-use Rattle.raft_safety.proofs.Logs.{IsPrefix-refl, IsPrefix-trans, IsPrefix-compare, shorter-prefix, longer-each}
+use Rattle.raft_safety.proofs.Logs.{IsPrefix-refl, IsPrefix-trans, IsPrefix-compare, longer-each}
 
-pub receive-keeps : (first : Configuration) (c : Cluster) (server term leader : ℕ) (sent known after : Log) → MayReceive first c server term leader sent known after
+pub receive-keeps : (first : Configuration) (c : Cluster) (server term leader : ℕ) (sent known after : Log) → MayReceive c server term leader sent known after
     → AreInvariants first c → AreInvariants first (after_action c (Receive server term leader sent known after))
 receive-keeps first c server term leader sent known after may i =
     let old : Server = c.servers server in
     let new : Server = record { term = term; log = after; committed = longer old.committed known } in
     let d : Cluster = after_action c (Receive server term leader sent known after) in
-    let was : IsServer first c old = i.servers server in
+    let was : IsServer c old = i.servers server in
     let order : old.term ≤ term = may.not_past in
     let L : Log = log_of c term leader in
     let el : Election = may.leads.0 in
@@ -42,23 +40,16 @@ receive-keeps first c server term leader sent known after may i =
       commitments = λ m x. x;
       terms = with_value-term_rises c.servers server new order;
     } in
-    let few : voter_changes first sent ≤ voter_changes first known + 1 = may.one_change_beyond in
-    let few_old : voter_changes first old.log ≤ voter_changes first old.committed + 1 = was.one_change_beyond in
     let new_known : IsKnown d (term + 1) new.committed = longer-each (IsKnown d (term + 1)) old.committed known
     (λ less. IsKnown-follows c d f (term + 1) (term + 1) (omega arith) known (IsKnown-prefix c (term + 1) known (c.leaderships term leader).committed may.committed its_known))
     (λ not_less. IsKnown-follows c d f (old.term + 1) (term + 1) (omega arith) old.committed was.known) in
-    let new_server : IsServer first d new = elim may.taken [
+    let new_server : IsServer d new = elim may.taken [
       | inl keeps ↦ (
           let whole : IsPrefix known old.log = IsPrefix-trans known sent old.log may.known_of keeps.0 in
           record {
             from_leaders = IsFromLeaders-later c d f after (subst (IsFromLeaders c) (sym keeps.1) was.from_leaders);
             term = (let e : last_term after ≡ last_term old.log = ap last_term keeps.1 in let h : last_term old.log ≤ old.term = was.term in omega arith);
             stored = subst (IsPrefix new.committed) (sym keeps.1) (longer-each (λ (x : Log). IsPrefix x old.log) old.committed known (λ less. whole) (λ not_less. was.stored));
-            one_change_beyond = subst (λ (x : Log). IsOneChangeBeyond first x new.committed) (sym keeps.1) (longer-each (IsOneChangeBeyond first old.log) old.committed known
-                (λ less.
-                let s : voter_changes first old.committed ≤ voter_changes first known = voter_changes-prefix first old.committed known (shorter-prefix old.committed known L old_in known_in (omega arith)) in
-                omega arith)
-                (λ not_less. few_old));
             known = new_known;
           })
       | inr takes ↦ record {
@@ -69,18 +60,13 @@ receive-keeps first c server term leader sent known after may i =
               | inl less ↦ less
               | inr more ↦ absurd (takes.0 (IsPrefix-trans sent old.committed old.log more was.stored))
             ]));
-        one_change_beyond = subst (λ (x : Log). IsOneChangeBeyond first x new.committed) (sym takes.1) (longer-each (IsOneChangeBeyond first sent) old.committed known
-            (λ less. few)
-            (λ not_less.
-            let s : voter_changes first known ≤ voter_changes first old.committed = voter_changes-prefix first known old.committed (shorter-prefix known old.committed L known_in old_in not_less) in
-            omega arith));
         known = new_known;
       }
     ] in
     let here : d.servers server ≡ new = with_value-here c.servers server new in
     record {
-      servers = λ k. with_value-each (IsServer first d) c.servers server new k (λ same. new_server)
-          (λ other. IsServer-later first c d f (c.servers k) (c.servers k).term (omega arith) (i.servers k));
+      servers = λ k. with_value-each (IsServer d) c.servers server new k (λ same. new_server)
+          (λ other. IsServer-later c d f (c.servers k) (c.servers k).term (omega arith) (i.servers k));
       requests = λ a x. IsRequest-later first c d f a (i.requests a x);
       one_request = i.one_request;
       elections = λ e x. IsElectedWith-later first c d f e (c.leaderships e.request.term e.request.candidate) (i.elections e x);

@@ -82,11 +82,11 @@ by_four = record { term = 1; log = used; counted = added; servers = ids_of (1 �
 
 abbrev run : List Action
 run =
-    Campaign 1 1 ∷ GrantVote 2 first_request ∷ BecomeLeader first_request (ids_of (1 ∷ 2 ∷ []))
+    Campaign 1 1 [] ∷ GrantVote 2 first_request ∷ BecomeLeader first_request (ids_of (1 ∷ 2 ∷ []))
     ∷ Propose 1 1 add ∷ Receive 1 1 1 added [] added ∷ Receive 2 1 1 added [] added ∷ Commit 1 by_three
     ∷ Propose 1 1 (command 1 7) ∷ Receive 1 1 1 used added used ∷ Receive 2 1 1 used added used ∷ Receive 4 1 1 used added used ∷ Commit 1 by_four
     ∷ Receive 4 1 1 used used used ∷ Restart 4 added
-    ∷ SeeTerm 3 2 ∷ Campaign 4 2 ∷ GrantVote 1 second_request ∷ GrantVote 3 second_request ∷ BecomeLeader second_request (ids_of (1 ∷ 3 ∷ 4 ∷ []))
+    ∷ SeeTerm 3 2 ∷ Campaign 4 2 added ∷ GrantVote 1 second_request ∷ GrantVote 3 second_request ∷ BecomeLeader second_request (ids_of (1 ∷ 3 ∷ 4 ∷ []))
     ∷ []
 
 -- server 2 does not know yet that the command is committed; server 4 forgot it, and leads with it
@@ -116,8 +116,8 @@ used_is_new is = let long : length used ≤ length added = IsPrefix-length used 
 used_is_all_new : IsPrefix used [] → ⊥
 used_is_all_new is = cc
 
-campaigns_1 : MayCampaign (state 0) 1 1
-campaigns_1 = record { later = omega arith }
+campaigns_1 : MayCampaign three (state 0) 1 1 []
+campaigns_1 = record { later = omega arith; committed = refl; one_change_beyond = omega arith }
 
 votes_2 : MayGrantVote (state 1) 2 first_request
 votes_2 = record { asked = inl refl; not_past = omega arith; once = once-from_votes (state 1) 1 2 1 refl; up_to_date = inr (refl, omega arith) }
@@ -131,28 +131,26 @@ leads_1 = record {
 }
 
 -- the change
-adds_4 : MayPropose three (state 3) 1 1 add
-adds_4 = record { leads = (first_election, inl refl, refl, refl); own_term = refl; one_at_a_time = inr refl }
+adds_4 : MayPropose 1 add
+adds_4 = record { own_term = refl }
 
-takes_change_1 : MayReceive three (state 4) 1 1 1 added [] added
+takes_change_1 : MayReceive (state 4) 1 1 1 added [] added
 takes_change_1 = record {
   leads = (first_election, inl refl, refl, refl);
   not_past = omega arith;
   sent_of = inl refl;
   known_of = inr refl;
   committed = refl;
-  one_change_beyond = voter_changes-entry three add [];
   taken = inr (added_is_new, refl);
 }
 
-takes_change_2 : MayReceive three (state 5) 2 1 1 added [] added
+takes_change_2 : MayReceive (state 5) 2 1 1 added [] added
 takes_change_2 = record {
   leads = (first_election, inl refl, refl, refl);
   not_past = omega arith;
   sent_of = inl refl;
   known_of = inr refl;
   committed = refl;
-  one_change_beyond = voter_changes-entry three add [];
   taken = inr (added_is_new, refl);
 }
 
@@ -169,42 +167,39 @@ commits_change = record {
 }
 
 -- the command
-proposes_command : MayPropose three (state 7) 1 1 (command 1 7)
-proposes_command = record { leads = (first_election, inl refl, refl, refl); own_term = refl; one_at_a_time = inl voter_changes-used }
+proposes_command : MayPropose 1 (command 1 7)
+proposes_command = record { own_term = refl }
 
 at_most_one : IsOneChangeBeyond three used added
 at_most_one = let same = voter_changes-used in omega arith
 
-takes_command_1 : MayReceive three (state 8) 1 1 1 used added used
+takes_command_1 : MayReceive (state 8) 1 1 1 used added used
 takes_command_1 = record {
   leads = (first_election, inl refl, refl, refl);
   not_past = omega arith;
   sent_of = inl refl;
   known_of = inr (inl refl);
   committed = inl refl;
-  one_change_beyond = at_most_one;
   taken = inr (used_is_new, refl);
 }
 
-takes_command_2 : MayReceive three (state 9) 2 1 1 used added used
+takes_command_2 : MayReceive (state 9) 2 1 1 used added used
 takes_command_2 = record {
   leads = (first_election, inl refl, refl, refl);
   not_past = omega arith;
   sent_of = inl refl;
   known_of = inr (inl refl);
   committed = inl refl;
-  one_change_beyond = at_most_one;
   taken = inr (used_is_new, refl);
 }
 
-takes_all_4 : MayReceive three (state 10) 4 1 1 used added used
+takes_all_4 : MayReceive (state 10) 4 1 1 used added used
 takes_all_4 = record {
   leads = (first_election, inl refl, refl, refl);
   not_past = omega arith;
   sent_of = inl refl;
   known_of = inr (inl refl);
   committed = inl refl;
-  one_change_beyond = at_most_one;
   taken = inr (used_is_all_new, refl);
 }
 
@@ -221,26 +216,25 @@ commits_command = record {
 }
 
 -- a heartbeat, which says that the command is committed; then the restart
-hears_4 : MayReceive three (state 12) 4 1 1 used used used
+hears_4 : MayReceive (state 12) 4 1 1 used used used
 hears_4 = record {
   leads = (first_election, inl refl, refl, refl);
   not_past = omega arith;
   sent_of = inl refl;
   known_of = inl refl;
   committed = inl refl;
-  one_change_beyond = omega arith;
   taken = inl (inl refl, refl);
 }
 
-restarts_4 : MayRestart three (state 13) 4 added
-restarts_4 = record { known_of = inr (inl refl); one_change_beyond = at_most_one }
+restarts_4 : MayRestart (state 13) 4 added
+restarts_4 = record { known_of = inr (inl refl) }
 
 -- the second election
 sees_3 : MaySeeTerm (state 14) 3 2
 sees_3 = record { higher = omega arith }
 
-campaigns_4 : MayCampaign (state 15) 4 2
-campaigns_4 = record { later = omega arith }
+campaigns_4 : MayCampaign three (state 15) 4 2 added
+campaigns_4 = record { later = omega arith; committed = inl refl; one_change_beyond = at_most_one }
 
 votes_1 : MayGrantVote (state 16) 1 second_request
 votes_1 = record { asked = inl refl; not_past = omega arith; once = once-from_votes (state 16) 2 1 4 refl; up_to_date = inr (refl, omega arith) }

@@ -81,10 +81,10 @@ sends_change : MaySend (state 4) 1 1 [] added
 sends_change = record { leads = (first_election, inl refl, refl, refl); sent_of = inl refl }
 
 takes_change_1 : MayTake (state 5) 1 change
-takes_change_1 = record { sent = inl refl; not_past = omega arith; in_range = omega arith; matches = refl }
+takes_change_1 = record { sent = inl refl; not_past = omega arith; matches = refl }
 
 takes_change_2 : MayTake (state 6) 2 change
-takes_change_2 = record { sent = inl refl; not_past = omega arith; in_range = omega arith; matches = refl }
+takes_change_2 = record { sent = inl refl; not_past = omega arith; matches = refl }
 
 commits_change : MayCommitApplied three (state 7) 1 1 added (ids_of (1 ∷ 2 ∷ []))
 commits_change = record {
@@ -110,13 +110,13 @@ sends_all : MaySend (state 11) 1 1 [] used
 sends_all = record { leads = (first_election, inl refl, refl, refl); sent_of = inl refl }
 
 takes_command_1 : MayTake (state 12) 1 next
-takes_command_1 = record { sent = inr (inl refl); not_past = omega arith; in_range = omega arith; matches = refl }
+takes_command_1 = record { sent = inr (inl refl); not_past = omega arith; matches = refl }
 
 takes_command_2 : MayTake (state 13) 2 next
-takes_command_2 = record { sent = inr (inl refl); not_past = omega arith; in_range = omega arith; matches = refl }
+takes_command_2 = record { sent = inr (inl refl); not_past = omega arith; matches = refl }
 
 takes_all_4 : MayTake (state 14) 4 all
-takes_all_4 = record { sent = inl refl; not_past = omega arith; in_range = omega arith; matches = refl }
+takes_all_4 = record { sent = inl refl; not_past = omega arith; matches = refl }
 
 commits_command : MayCommitApplied three (state 15) 1 1 used (ids_of (1 ∷ 2 ∷ 4 ∷ []))
 commits_command = record {

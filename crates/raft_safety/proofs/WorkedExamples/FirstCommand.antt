@@ -38,28 +38,26 @@ state n = after_actions after_election (take n command_of_1)
 pub with_x_not_in_nothing : IsPrefix with_x [] → ⊥
 with_x_not_in_nothing is = cc
 
-proposes_x : MayPropose three (state 0) 1 1 x
-proposes_x = record { leads = (first_election, inl refl, refl, refl); own_term = refl; one_at_a_time = inr refl }
+proposes_x : MayPropose 1 x
+proposes_x = record { own_term = refl }
 
-takes_1 : MayReceive three (state 1) 1 1 1 with_x [] with_x
+takes_1 : MayReceive (state 1) 1 1 1 with_x [] with_x
 takes_1 = record {
   leads = (first_election, inl refl, refl, refl);
   not_past = omega arith;
   sent_of = inl refl;
   known_of = inr refl;
   committed = refl;
-  one_change_beyond = voter_changes-entry three x [];
   taken = inr (with_x_not_in_nothing, refl);
 }
 
-takes_2 : MayReceive three (state 2) 2 1 1 with_x [] with_x
+takes_2 : MayReceive (state 2) 2 1 1 with_x [] with_x
 takes_2 = record {
   leads = (first_election, inl refl, refl, refl);
   not_past = omega arith;
   sent_of = inl refl;
   known_of = inr refl;
   committed = refl;
-  one_change_beyond = voter_changes-entry three x [];
   taken = inr (with_x_not_in_nothing, refl);
 }
 

@@ -14,7 +14,7 @@ first_request = record { term = 1; candidate = 1; log = []; committed = [] }
 
 abbrev election : List Action
 election =
-    Campaign 1 1 ∷ GrantVote 2 first_request ∷ BecomeLeader first_request (ids_of (1 ∷ 2 ∷ [])) ∷ []
+    Campaign 1 1 [] ∷ GrantVote 2 first_request ∷ BecomeLeader first_request (ids_of (1 ∷ 2 ∷ [])) ∷ []
 
 abbrev pub after_election : Cluster
 after_election = after_actions new_cluster election
@@ -27,8 +27,8 @@ abbrev pub first_election : Election
 first_election = record { request = first_request; votes = ids_of (1 ∷ 2 ∷ []) }
 
 -- ---- each action is allowed
-campaigns_1 : MayCampaign (state 0) 1 1
-campaigns_1 = record { later = omega arith }
+campaigns_1 : MayCampaign three (state 0) 1 1 []
+campaigns_1 = record { later = omega arith; committed = refl; one_change_beyond = omega arith }
 
 votes_2 : MayGrantVote (state 1) 2 first_request
 votes_2 = record { asked = inl refl; not_past = omega arith; once = once-from_votes (state 1) 1 2 1 refl; up_to_date = inr (refl, omega arith) }

@@ -35,25 +35,23 @@ moved_not_in_added is = let long : length moved ≤ length added = IsPrefix-leng
 moved_not_in_nothing : IsPrefix moved [] → ⊥
 moved_not_in_nothing is = cc
 
-takes_moved_1 : MayReceive one (state 0) 1 1 1 moved added moved
+takes_moved_1 : MayReceive (state 0) 1 1 1 moved added moved
 takes_moved_1 = record {
   leads = (first_election, inl refl, refl, refl);
   not_past = omega arith;
   sent_of = inl refl;
   known_of = inr (inl refl);
   committed = inl refl;
-  one_change_beyond = voter_changes-entry one remove added;
   taken = inr (moved_not_in_added, refl);
 }
 
-takes_moved_2 : MayReceive one (state 1) 2 1 1 moved added moved
+takes_moved_2 : MayReceive (state 1) 2 1 1 moved added moved
 takes_moved_2 = record {
   leads = (first_election, inl refl, refl, refl);
   not_past = omega arith;
   sent_of = inl refl;
   known_of = inr (inl refl);
   committed = inl refl;
-  one_change_beyond = voter_changes-entry one remove added;
   taken = inr (moved_not_in_nothing, refl);
 }
 
@@ -69,14 +67,13 @@ commits_moved = record {
   quorum = IsQuorumAfter-of one added both (ids_of (1 ∷ 2 ∷ [])) configuration_after-added (simp written_out refl);
 }
 
-learns_moved_2 : MayReceive one (state 3) 2 1 1 moved moved moved
+learns_moved_2 : MayReceive (state 3) 2 1 1 moved moved moved
 learns_moved_2 = record {
   leads = (first_election, inl refl, refl, refl);
   not_past = omega arith;
   sent_of = inl refl;
   known_of = inl refl;
   committed = inl refl;
-  one_change_beyond = omega arith;
   taken = inl (inl refl, refl);
 }
 

@@ -20,7 +20,7 @@ added_by_1 = record { term = 1; log = added; counted = []; servers = ids_of (1 �
 
 abbrev proposals : List Action
 proposals =
-    Campaign 1 1 ∷ BecomeLeader first_request (ids_of (1 ∷ [])) ∷ Propose 1 1 add ∷ Receive 1 1 1 added [] added ∷ Commit 1 added_by_1
+    Campaign 1 1 [] ∷ BecomeLeader first_request (ids_of (1 ∷ [])) ∷ Propose 1 1 add ∷ Receive 1 1 1 added [] added ∷ Commit 1 added_by_1
     ∷ Propose 1 1 remove ∷ []
 
 abbrev pub after_proposals : Cluster
@@ -37,8 +37,8 @@ first_election = record { request = first_request; votes = ids_of (1 ∷ []) }
 pub added_not_in_nothing : IsPrefix added [] → ⊥
 added_not_in_nothing is = cc
 
-campaigns_1 : MayCampaign (state 0) 1 1
-campaigns_1 = record { later = omega arith }
+campaigns_1 : MayCampaign one (state 0) 1 1 []
+campaigns_1 = record { later = omega arith; committed = refl; one_change_beyond = omega arith }
 
 leads_1 : MayBecomeLeader one (state 1) first_request (ids_of (1 ∷ []))
 leads_1 = record {
@@ -48,17 +48,16 @@ leads_1 = record {
   quorum = IsQuorumAfter-of one [] one (ids_of (1 ∷ [])) configuration_after-first (simp written_out refl);
 }
 
-proposes_added : MayPropose one (state 2) 1 1 add
-proposes_added = record { leads = (first_election, inl refl, refl, refl); own_term = refl; one_at_a_time = inr refl }
+proposes_added : MayPropose 1 add
+proposes_added = record { own_term = refl }
 
-takes_added : MayReceive one (state 3) 1 1 1 added [] added
+takes_added : MayReceive (state 3) 1 1 1 added [] added
 takes_added = record {
   leads = (first_election, inl refl, refl, refl);
   not_past = omega arith;
   sent_of = inl refl;
   known_of = inr refl;
   committed = refl;
-  one_change_beyond = voter_changes-entry one add [];
   taken = inr (added_not_in_nothing, refl);
 }
 
@@ -74,8 +73,8 @@ commits_added = record {
   quorum = IsQuorumAfter-of one [] one (ids_of (1 ∷ [])) configuration_after-first (simp written_out refl);
 }
 
-proposes_moved : MayPropose one (state 5) 1 1 remove
-proposes_moved = record { leads = (first_election, inl refl, refl, refl); own_term = refl; one_at_a_time = inr refl }
+proposes_moved : MayPropose 1 remove
+proposes_moved = record { own_term = refl }
 
 proposals_are_allowed : AreAllowed one new_cluster proposals
 proposals_are_allowed = (campaigns_1, (leads_1, (proposes_added, (takes_added, (commits_added, (proposes_moved, tt))))))

@@ -15,7 +15,7 @@ use Rattle.raft_safety.specs.Steps.{Action, Campaign, BecomeLeader, Receive, Com
 use Rattle.raft_safety.specs.Claims.{LeaderCompleteness}
 use Rattle.raft_safety.proofs.Configurations.{voter_changes-entry}
 use Rattle.raft_safety.proofs.WorkedExamples.SmallRuns.{IsQuorumAfter-of, OfEach-has, not_yet-from_elections}
-use Rattle.raft_safety.proofs.WorkedExamples.TwoServers.{one, second, remove, added, moved, configuration_after-first, configuration_after-moved}
+use Rattle.raft_safety.proofs.WorkedExamples.TwoServers.{one, second, added, moved, configuration_after-first, configuration_after-moved, add}
 use Rattle.raft_safety.proofs.WorkedExamples.SecondVoter.{first_election, after_proposals}
 
 -- ---- the run
@@ -27,7 +27,7 @@ moved_by_2 = record { term = 1; log = moved; counted = moved; servers = ids_of (
 
 abbrev run : List Action
 run =
-    Receive 2 1 1 moved added moved ∷ Commit 1 moved_by_2 ∷ Campaign 1 2 ∷ BecomeLeader old_request (ids_of (1 ∷ [])) ∷ []
+    Receive 2 1 1 moved added moved ∷ Commit 1 moved_by_2 ∷ Campaign 1 2 [] ∷ BecomeLeader old_request (ids_of (1 ∷ [])) ∷ []
 
 -- the cluster after so many actions of the run
 abbrev state : ℕ → Cluster
@@ -43,19 +43,18 @@ moved_not_in_added is = let long : length moved ≤ length added = IsPrefix-leng
 moved_not_in_nothing : IsPrefix moved [] → ⊥
 moved_not_in_nothing is = cc
 
-takes_moved_2 : MayReceive one (state 0) 2 1 1 moved added moved
+takes_moved_2 : MayReceive (state 0) 2 1 1 moved added moved
 takes_moved_2 = record {
   leads = (first_election, inl refl, refl, refl);
   not_past = omega arith;
   sent_of = inl refl;
   known_of = inr (inl refl);
   committed = inl refl;
-  one_change_beyond = voter_changes-entry one remove added;
   taken = inr (moved_not_in_nothing, refl);
 }
 
-campaigns_1 : MayCampaign (state 2) 1 2
-campaigns_1 = record { later = omega arith }
+campaigns_1 : MayCampaign one (state 2) 1 2 []
+campaigns_1 = record { later = omega arith; committed = refl; one_change_beyond = voter_changes-entry one add [] }
 
 leads_1 : MayBecomeLeader one (state 3) old_request (ids_of (1 ∷ []))
 leads_1 = record {
@@ -73,7 +72,7 @@ record MayCountUncommitted (first : Configuration) (c : Cluster) (leader : ℕ) 
   in_log : IsPrefix m.log (c.leaderships m.term leader).log
   own_term : last_term m.log ≡ m.term
   acknowledged : (server : ℕ) → has m.servers server ≡ true → (log : Log) × In (record { term = m.term; server = server; log = log }) c.acknowledgements × IsPrefix m.log log
-  one_change_beyond : IsOneChangeBeyond first (c.leaderships m.term leader).log m.counted
+  one_change_beyond : IsOneChangeBeyond first m.log m.counted
   quorum : IsQuorumAfter first m.counted m.servers
 
 -- with the field that is left out, it is the guard

@@ -30,7 +30,7 @@ x_by_two = record { term = 1; log = with_x; counted = []; servers = ids_of (1 �
 
 abbrev run : List Action
 run =
-    Propose 1 1 x ∷ Commit 1 x_by_two ∷ Campaign 3 2 ∷ GrantVote 2 third_request ∷ BecomeLeader third_request (ids_of (2 ∷ 3 ∷ [])) ∷ []
+    Propose 1 1 x ∷ Commit 1 x_by_two ∷ Campaign 3 2 [] ∷ GrantVote 2 third_request ∷ BecomeLeader third_request (ids_of (2 ∷ 3 ∷ [])) ∷ []
 
 -- the cluster after so many actions of the run
 abbrev state : ℕ → Cluster
@@ -40,11 +40,11 @@ abbrev third_election : Election
 third_election = record { request = third_request; votes = ids_of (2 ∷ 3 ∷ []) }
 
 -- ---- each action but one is allowed
-proposes_x : MayPropose three (state 0) 1 1 x
-proposes_x = record { leads = (first_election, inl refl, refl, refl); own_term = refl; one_at_a_time = inr refl }
+proposes_x : MayPropose 1 x
+proposes_x = record { own_term = refl }
 
-campaigns_3 : MayCampaign (state 2) 3 2
-campaigns_3 = record { later = omega arith }
+campaigns_3 : MayCampaign three (state 2) 3 2 []
+campaigns_3 = record { later = omega arith; committed = refl; one_change_beyond = omega arith }
 
 votes_2 : MayGrantVote (state 3) 2 third_request
 votes_2 = record { asked = inl refl; not_past = omega arith; once = once-from_votes (state 3) 2 2 3 refl; up_to_date = inr (refl, omega arith) }
@@ -65,7 +65,7 @@ record MayCommitUnacknowledged (first : Configuration) (c : Cluster) (leader : �
   in_log : IsPrefix m.log (c.leaderships m.term leader).log
   own_term : last_term m.log ≡ m.term
   counted : IsPrefix m.counted (c.leaderships m.term leader).committed
-  one_change_beyond : IsOneChangeBeyond first (c.leaderships m.term leader).log m.counted
+  one_change_beyond : IsOneChangeBeyond first m.log m.counted
   quorum : IsQuorumAfter first m.counted m.servers
 
 -- with the field that is left out, it is the guard

@@ -73,7 +73,7 @@ sends_added : MaySend (state 3) 1 1 [] added
 sends_added = record { leads = (first_election, inl refl, refl, refl); sent_of = inl refl }
 
 takes_added : MayTake (state 4) 1 change
-takes_added = record { sent = inl refl; not_past = omega arith; in_range = omega arith; matches = refl }
+takes_added = record { sent = inl refl; not_past = omega arith; matches = refl }
 
 commits_added : MayCommitApplied one (state 5) 1 1 added (ids_of (1 ∷ []))
 commits_added = record {
@@ -95,10 +95,10 @@ sends_moved : MaySend (state 8) 1 1 [] moved
 sends_moved = record { leads = (first_election, inl refl, refl, refl); sent_of = inl refl }
 
 takes_moved_1 : MayTake (state 9) 1 changes
-takes_moved_1 = record { sent = inl refl; not_past = omega arith; in_range = omega arith; matches = refl }
+takes_moved_1 = record { sent = inl refl; not_past = omega arith; matches = refl }
 
 takes_moved_2 : MayTake (state 10) 2 changes
-takes_moved_2 = record { sent = inl refl; not_past = omega arith; in_range = omega arith; matches = refl }
+takes_moved_2 = record { sent = inl refl; not_past = omega arith; matches = refl }
 
 commits_moved : MayCommitApplied one (state 11) 1 1 moved (ids_of (1 ∷ 2 ∷ []))
 commits_moved = record {

@@ -2,7 +2,7 @@
 -- of term 1, stores y at index 1. Server 1 is elected in term 2 by servers 1 and 2, and proposes a and b. It sends b as what comes
 -- after a, and server 3 puts it after y: two logs have the same entry at index 2, and different ones before it, after fifteen
 -- actions.
-use Rattle.std.proofs.Common.{◌≡◌, ℕ, ◌≤◌, ◌∷◌, List, [], length, refl, ap, inl, inr, arith}
+use Rattle.std.proofs.Common.{◌≡◌, ℕ, ◌≤◌, ◌∷◌, List, [], refl, ap, inl, inr, arith}
 use Rattle.std.specs.Prelude.{take, drop}
 use Rattle.quorum_sets.specs.Ids.{ids_of}
 use Rattle.quorum_sets.proofs.Offered.{written_out}
@@ -104,7 +104,7 @@ sends_y : MaySend (state 4) 1 3 [] with_y
 sends_y = record { leads = (third_election, inl refl, refl, refl); sent_of = inl refl }
 
 takes_y_3 : MayTake (state 5) 3 append_y
-takes_y_3 = record { sent = inl refl; not_past = omega arith; in_range = omega arith; matches = refl }
+takes_y_3 = record { sent = inl refl; not_past = omega arith; matches = refl }
 
 campaigns_1 : MayCampaignApplied three (state 6) 1 2 []
 campaigns_1 = record { later = omega arith; committed = refl; all_applied = refl }
@@ -133,22 +133,21 @@ sends_both : MaySend (state 13) 2 1 [] with_b
 sends_both = record { leads = (first_election, inl refl, refl, refl); sent_of = inl refl }
 
 takes_both_1 : MayTake (state 14) 1 append_both
-takes_both_1 = record { sent = inl refl; not_past = omega arith; in_range = omega arith; matches = refl }
+takes_both_1 = record { sent = inl refl; not_past = omega arith; matches = refl }
 
 -- ---- the one that is not
 -- what is asked of taking an append, but that the entry before it has the leader's term
 record MayTakeUnmatched (e : EtcdCluster) (server : ℕ) (append : Append) : Type 0 where
   sent : In append e.appends
   not_past : (e.cluster.servers server).term ≤ append.term
-  in_range : append.index ≤ length (e.cluster.servers server).log
 
 -- with the field that is left out, it is the guard
 with_the_rule : (e : EtcdCluster) (server : ℕ) (append : Append) → MayTakeUnmatched e server append
     → term_at (e.cluster.servers server).log append.index ≡ append.index_term → MayTake e server append
-with_the_rule e server append may matches = record { sent = may.sent; not_past = may.not_past; in_range = may.in_range; matches = matches }
+with_the_rule e server append may matches = record { sent = may.sent; not_past = may.not_past; matches = matches }
 
 takes_b_3 : MayTakeUnmatched (state 12) 3 append_b
-takes_b_3 = record { sent = inl refl; not_past = omega arith; in_range = omega arith }
+takes_b_3 = record { sent = inl refl; not_past = omega arith }
 
 is_refused : MayTake (state 12) 3 append_b → ⊥
 is_refused may = let terms = may.matches in cc

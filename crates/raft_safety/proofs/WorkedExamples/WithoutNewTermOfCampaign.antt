@@ -1,10 +1,13 @@
 -- Without the rule that a campaign is in a later term than the server's own. Server 1 leads term 1 by its own vote and that
 -- of server 2. Server 2, in the same term, campaigns and so votes for itself too, and wins with server 3: term 1 has two
 -- leaders, after six actions.
-use Rattle.std.proofs.Common.{ℕ, List, [], ◌∷◌, refl, inl, inr, arith}
+use Rattle.std.proofs.Common.{ℕ, ◌<◌, List, [], ◌∷◌, refl, inl, inr, arith}
 use Rattle.std.specs.Prelude.{take, drop}
 use Rattle.quorum_sets.specs.Ids.{ids_of}
 use Rattle.quorum_sets.proofs.Offered.{written_out}
+use Rattle.conf_change.specs.Configuration.{Configuration}
+use Rattle.raft_safety.specs.Logs.{Log, IsPrefix}
+use Rattle.raft_safety.specs.Configurations.{IsOneChangeBeyond}
 use Rattle.raft_safety.specs.Cluster.{VoteRequest, Election, Cluster}
 use Rattle.raft_safety.specs.Steps.{Action, Campaign, GrantVote, BecomeLeader, MayCampaign, MayGrantVote, MayBecomeLeader, AreAllowed, after_actions}
 use Rattle.raft_safety.specs.Claims.{ElectionSafety}
@@ -18,7 +21,7 @@ second_request = record { term = 1; candidate = 2; log = []; committed = [] }
 
 abbrev run : List Action
 run =
-    Campaign 2 1 ∷ GrantVote 3 second_request ∷ BecomeLeader second_request (ids_of (2 ∷ 3 ∷ [])) ∷ []
+    Campaign 2 1 [] ∷ GrantVote 3 second_request ∷ BecomeLeader second_request (ids_of (2 ∷ 3 ∷ [])) ∷ []
 
 -- the cluster after so many actions of the run
 abbrev state : ℕ → Cluster
@@ -40,11 +43,24 @@ leads_2 = record {
 }
 
 -- ---- the one that is not
-is_refused : MayCampaign (state 0) 2 1 → ⊥
+-- what is asked of a campaign, but that the term is new
+record MayCampaignAgain (first : Configuration) (c : Cluster) (server term : ℕ) (counted : Log) : Type 0 where
+  committed : IsPrefix counted (c.servers server).committed
+  one_change_beyond : IsOneChangeBeyond first (c.servers server).log counted
+
+-- with the field that is left out, it is the guard
+with_the_rule : (first : Configuration) (c : Cluster) (server term : ℕ) (counted : Log) → MayCampaignAgain first c server term counted → (c.servers server).term < term
+    → MayCampaign first c server term counted
+with_the_rule first c server term counted may later = record { later = later; committed = may.committed; one_change_beyond = may.one_change_beyond }
+
+campaigns_2 : MayCampaignAgain three (state 0) 2 1 []
+campaigns_2 = record { committed = refl; one_change_beyond = omega arith }
+
+is_refused : MayCampaign three (state 0) 2 1 [] → ⊥
 is_refused may = let later = may.later in omega arith
 
-all_but_one : (AreAllowed three after_election (take 0 run)) × (AreAllowed three (state 1) (drop 1 run))
-all_but_one = (tt, (votes_3, (leads_2, tt)))
+all_but_one : MayCampaignAgain three (state 0) 2 1 [] × (AreAllowed three (state 1) (drop 1 run))
+all_but_one = (campaigns_2, (votes_3, (leads_2, tt)))
 
 -- ---- two leaders of a term
 two_leaders : ElectionSafety (state 3) → ⊥

@@ -68,10 +68,10 @@ sends : MaySend (state 4) 1 1 [] moved
 sends = record { leads = (first_election, inl refl, refl, refl); sent_of = inl refl }
 
 takes_1 : MayTake (state 5) 1 changes
-takes_1 = record { sent = inl refl; not_past = omega arith; in_range = omega arith; matches = refl }
+takes_1 = record { sent = inl refl; not_past = omega arith; matches = refl }
 
 takes_2 : MayTake (state 6) 2 changes
-takes_2 = record { sent = inl refl; not_past = omega arith; in_range = omega arith; matches = refl }
+takes_2 = record { sent = inl refl; not_past = omega arith; matches = refl }
 
 commits_moved : MayCommitApplied one (state 7) 1 1 moved (ids_of (1 ∷ []))
 commits_moved = record {

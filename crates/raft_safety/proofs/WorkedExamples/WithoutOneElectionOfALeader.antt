@@ -11,7 +11,6 @@ use Rattle.raft_safety.specs.Configurations.{IsQuorumAfter}
 use Rattle.raft_safety.specs.Cluster.{VoteRequest, Cluster, In, Leads}
 use Rattle.raft_safety.specs.Steps.{Action, BecomeLeader, Propose, Receive, MayBecomeLeader, MayPropose, MayReceive, AreAllowed, after_actions}
 use Rattle.raft_safety.specs.Claims.{LogMatching}
-use Rattle.raft_safety.proofs.Configurations.{voter_changes-entry}
 use Rattle.raft_safety.proofs.WorkedExamples.SmallRuns.{command, first_byte, IsQuorumAfter-of, OfEach-has}
 use Rattle.raft_safety.proofs.WorkedExamples.AddedVoter.{three, configuration_after-nothing}
 use Rattle.raft_safety.proofs.WorkedExamples.FirstElection.{first_request, first_election, after_election}
@@ -45,31 +44,29 @@ with_x_not_in_nothing is = cc
 with_z_not_in_nothing : IsPrefix with_z [] → ⊥
 with_z_not_in_nothing is = cc
 
-proposes_x : MayPropose three (state 0) 1 1 x
-proposes_x = record { leads = (first_election, inl refl, refl, refl); own_term = refl; one_at_a_time = inr refl }
+proposes_x : MayPropose 1 x
+proposes_x = record { own_term = refl }
 
-takes_x_1 : MayReceive three (state 1) 1 1 1 with_x [] with_x
+takes_x_1 : MayReceive (state 1) 1 1 1 with_x [] with_x
 takes_x_1 = record {
   leads = (first_election, inl refl, refl, refl);
   not_past = omega arith;
   sent_of = inl refl;
   known_of = inr refl;
   committed = refl;
-  one_change_beyond = voter_changes-entry three x [];
   taken = inr (with_x_not_in_nothing, refl);
 }
 
-proposes_z : MayPropose three (state 3) 1 1 z
-proposes_z = record { leads = (first_election, inl refl, refl, refl); own_term = refl; one_at_a_time = inr refl }
+proposes_z : MayPropose 1 z
+proposes_z = record { own_term = refl }
 
-takes_z_2 : MayReceive three (state 4) 2 1 1 with_z [] with_z
+takes_z_2 : MayReceive (state 4) 2 1 1 with_z [] with_z
 takes_z_2 = record {
   leads = (first_election, inl refl, refl, refl);
   not_past = omega arith;
   sent_of = inl refl;
   known_of = inr refl;
   committed = refl;
-  one_change_beyond = voter_changes-entry three z [];
   taken = inr (with_z_not_in_nothing, refl);
 }
 

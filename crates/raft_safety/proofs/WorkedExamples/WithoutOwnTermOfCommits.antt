@@ -43,10 +43,10 @@ x_in_term_3 = record { term = 3; log = with_x; counted = []; servers = ids_of (1
 
 abbrev run : List Action
 run =
-    Propose 1 1 x ∷ Receive 1 1 1 with_x [] with_x ∷ Campaign 3 2 ∷ GrantVote 2 third_request
-    ∷ BecomeLeader third_request (ids_of (2 ∷ 3 ∷ [])) ∷ Propose 2 3 y ∷ Receive 3 2 3 with_y [] with_y ∷ Campaign 1 3
+    Propose 1 1 x ∷ Receive 1 1 1 with_x [] with_x ∷ Campaign 3 2 [] ∷ GrantVote 2 third_request
+    ∷ BecomeLeader third_request (ids_of (2 ∷ 3 ∷ [])) ∷ Propose 2 3 y ∷ Receive 3 2 3 with_y [] with_y ∷ Campaign 1 3 []
     ∷ GrantVote 2 later_request ∷ BecomeLeader later_request (ids_of (1 ∷ 2 ∷ [])) ∷ Receive 1 3 1 with_x [] with_x
-    ∷ Receive 2 3 1 with_x [] with_x ∷ Commit 1 x_in_term_3 ∷ Campaign 3 4 ∷ GrantVote 2 last_request
+    ∷ Receive 2 3 1 with_x [] with_x ∷ Commit 1 x_in_term_3 ∷ Campaign 3 4 [] ∷ GrantVote 2 last_request
     ∷ BecomeLeader last_request (ids_of (2 ∷ 3 ∷ [])) ∷ []
 
 -- the cluster after so many actions of the run
@@ -69,22 +69,21 @@ with_x_not_in_nothing is = cc
 with_y_not_in_nothing : IsPrefix with_y [] → ⊥
 with_y_not_in_nothing is = cc
 
-proposes_x : MayPropose three (state 0) 1 1 x
-proposes_x = record { leads = (first_election, inl refl, refl, refl); own_term = refl; one_at_a_time = inr refl }
+proposes_x : MayPropose 1 x
+proposes_x = record { own_term = refl }
 
-takes_x_1 : MayReceive three (state 1) 1 1 1 with_x [] with_x
+takes_x_1 : MayReceive (state 1) 1 1 1 with_x [] with_x
 takes_x_1 = record {
   leads = (first_election, inl refl, refl, refl);
   not_past = omega arith;
   sent_of = inl refl;
   known_of = inr refl;
   committed = refl;
-  one_change_beyond = voter_changes-entry three x [];
   taken = inr (with_x_not_in_nothing, refl);
 }
 
-campaigns_3 : MayCampaign (state 2) 3 2
-campaigns_3 = record { later = omega arith }
+campaigns_3 : MayCampaign three (state 2) 3 2 []
+campaigns_3 = record { later = omega arith; committed = refl; one_change_beyond = omega arith }
 
 votes_for_3 : MayGrantVote (state 3) 2 third_request
 votes_for_3 = record { asked = inl refl; not_past = omega arith; once = once-from_votes (state 3) 2 2 3 refl; up_to_date = inr (refl, omega arith) }
@@ -97,22 +96,21 @@ leads_3 = record {
   quorum = IsQuorumAfter-of three [] three (ids_of (2 ∷ 3 ∷ [])) configuration_after-nothing (simp written_out refl);
 }
 
-proposes_y : MayPropose three (state 5) 2 3 y
-proposes_y = record { leads = (third_election, inl refl, refl, refl); own_term = refl; one_at_a_time = inr refl }
+proposes_y : MayPropose 2 y
+proposes_y = record { own_term = refl }
 
-takes_y_3 : MayReceive three (state 6) 3 2 3 with_y [] with_y
+takes_y_3 : MayReceive (state 6) 3 2 3 with_y [] with_y
 takes_y_3 = record {
   leads = (third_election, inl refl, refl, refl);
   not_past = omega arith;
   sent_of = inl refl;
   known_of = inr refl;
   committed = refl;
-  one_change_beyond = voter_changes-entry three y [];
   taken = inr (with_y_not_in_nothing, refl);
 }
 
-campaigns_again_1 : MayCampaign (state 7) 1 3
-campaigns_again_1 = record { later = omega arith }
+campaigns_again_1 : MayCampaign three (state 7) 1 3 []
+campaigns_again_1 = record { later = omega arith; committed = refl; one_change_beyond = voter_changes-entry three x [] }
 
 votes_for_1 : MayGrantVote (state 8) 2 later_request
 votes_for_1 = record { asked = inl refl; not_past = omega arith; once = once-from_votes (state 8) 3 2 1 refl; up_to_date = inl (omega arith) }
@@ -125,30 +123,28 @@ leads_again_1 = record {
   quorum = IsQuorumAfter-of three [] three (ids_of (1 ∷ 2 ∷ [])) configuration_after-nothing (simp written_out refl);
 }
 
-still_has_x_1 : MayReceive three (state 10) 1 3 1 with_x [] with_x
+still_has_x_1 : MayReceive (state 10) 1 3 1 with_x [] with_x
 still_has_x_1 = record {
   leads = (later_election, inl refl, refl, refl);
   not_past = omega arith;
   sent_of = inl refl;
   known_of = inr refl;
   committed = refl;
-  one_change_beyond = voter_changes-entry three x [];
   taken = inl (inl refl, refl);
 }
 
-takes_x_2 : MayReceive three (state 11) 2 3 1 with_x [] with_x
+takes_x_2 : MayReceive (state 11) 2 3 1 with_x [] with_x
 takes_x_2 = record {
   leads = (later_election, inl refl, refl, refl);
   not_past = omega arith;
   sent_of = inl refl;
   known_of = inr refl;
   committed = refl;
-  one_change_beyond = voter_changes-entry three x [];
   taken = inr (with_x_not_in_nothing, refl);
 }
 
-campaigns_again_3 : MayCampaign (state 13) 3 4
-campaigns_again_3 = record { later = omega arith }
+campaigns_again_3 : MayCampaign three (state 13) 3 4 []
+campaigns_again_3 = record { later = omega arith; committed = refl; one_change_beyond = voter_changes-entry three y [] }
 
 votes_again_for_3 : MayGrantVote (state 14) 2 last_request
 votes_again_for_3 = record { asked = inl refl; not_past = omega arith; once = once-from_votes (state 14) 4 2 3 refl; up_to_date = inl (omega arith) }
@@ -169,7 +165,7 @@ record MayCommitOfPastTerms (first : Configuration) (c : Cluster) (leader : ℕ)
   in_log : IsPrefix m.log (c.leaderships m.term leader).log
   acknowledged : (server : ℕ) → has m.servers server ≡ true → (log : Log) × In (record { term = m.term; server = server; log = log }) c.acknowledgements × IsPrefix m.log log
   counted : IsPrefix m.counted (c.leaderships m.term leader).committed
-  one_change_beyond : IsOneChangeBeyond first (c.leaderships m.term leader).log m.counted
+  one_change_beyond : IsOneChangeBeyond first m.log m.counted
   quorum : IsQuorumAfter first m.counted m.servers
 
 -- with the field that is left out, it is the guard

@@ -30,7 +30,7 @@ x_by_one = record { term = 1; log = with_x; counted = []; servers = ids_of (1 �
 
 abbrev run : List Action
 run =
-    Propose 1 1 x ∷ Receive 1 1 1 with_x [] with_x ∷ Commit 1 x_by_one ∷ Campaign 3 2 ∷ GrantVote 2 third_request
+    Propose 1 1 x ∷ Receive 1 1 1 with_x [] with_x ∷ Commit 1 x_by_one ∷ Campaign 3 2 [] ∷ GrantVote 2 third_request
     ∷ BecomeLeader third_request (ids_of (2 ∷ 3 ∷ [])) ∷ []
 
 -- the cluster after so many actions of the run
@@ -44,22 +44,21 @@ third_election = record { request = third_request; votes = ids_of (2 ∷ 3 ∷ [
 with_x_not_in_nothing : IsPrefix with_x [] → ⊥
 with_x_not_in_nothing is = cc
 
-proposes_x : MayPropose three (state 0) 1 1 x
-proposes_x = record { leads = (first_election, inl refl, refl, refl); own_term = refl; one_at_a_time = inr refl }
+proposes_x : MayPropose 1 x
+proposes_x = record { own_term = refl }
 
-takes_1 : MayReceive three (state 1) 1 1 1 with_x [] with_x
+takes_1 : MayReceive (state 1) 1 1 1 with_x [] with_x
 takes_1 = record {
   leads = (first_election, inl refl, refl, refl);
   not_past = omega arith;
   sent_of = inl refl;
   known_of = inr refl;
   committed = refl;
-  one_change_beyond = voter_changes-entry three x [];
   taken = inr (with_x_not_in_nothing, refl);
 }
 
-campaigns_3 : MayCampaign (state 3) 3 2
-campaigns_3 = record { later = omega arith }
+campaigns_3 : MayCampaign three (state 3) 3 2 []
+campaigns_3 = record { later = omega arith; committed = refl; one_change_beyond = omega arith }
 
 votes_2 : MayGrantVote (state 4) 2 third_request
 votes_2 = record { asked = inl refl; not_past = omega arith; once = once-from_votes (state 4) 2 2 3 refl; up_to_date = inr (refl, omega arith) }
@@ -81,7 +80,7 @@ record MayCommitAlone (first : Configuration) (c : Cluster) (leader : ℕ) (m : 
   own_term : last_term m.log ≡ m.term
   acknowledged : (server : ℕ) → has m.servers server ≡ true → (log : Log) × In (record { term = m.term; server = server; log = log }) c.acknowledgements × IsPrefix m.log log
   counted : IsPrefix m.counted (c.leaderships m.term leader).committed
-  one_change_beyond : IsOneChangeBeyond first (c.leaderships m.term leader).log m.counted
+  one_change_beyond : IsOneChangeBeyond first m.log m.counted
 
 -- with the field that is left out, it is the guard
 with_the_rule : (first : Configuration) (c : Cluster) (leader : ℕ) (m : Commitment) → MayCommitAlone first c leader m

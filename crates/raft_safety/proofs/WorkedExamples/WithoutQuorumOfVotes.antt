@@ -19,7 +19,7 @@ third_request = record { term = 1; candidate = 3; log = []; committed = [] }
 
 abbrev run : List Action
 run =
-    Campaign 3 1 ∷ BecomeLeader third_request (ids_of (3 ∷ [])) ∷ []
+    Campaign 3 1 [] ∷ BecomeLeader third_request (ids_of (3 ∷ [])) ∷ []
 
 -- the cluster after so many actions of the run
 abbrev state : ℕ → Cluster
@@ -29,8 +29,8 @@ abbrev third_election : Election
 third_election = record { request = third_request; votes = ids_of (3 ∷ []) }
 
 -- ---- each action but one is allowed
-campaigns_3 : MayCampaign (state 0) 3 1
-campaigns_3 = record { later = omega arith }
+campaigns_3 : MayCampaign three (state 0) 3 1 []
+campaigns_3 = record { later = omega arith; committed = refl; one_change_beyond = omega arith }
 
 -- ---- the one that is not
 -- what is asked of who becomes leader, but that the votes are a quorum

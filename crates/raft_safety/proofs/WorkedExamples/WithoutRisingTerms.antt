@@ -17,7 +17,7 @@ second_request = record { term = 1; candidate = 2; log = []; committed = [] }
 
 abbrev run : List Action
 run =
-    SeeTerm 2 0 ∷ Campaign 2 1 ∷ GrantVote 3 second_request ∷ BecomeLeader second_request (ids_of (2 ∷ 3 ∷ [])) ∷ []
+    SeeTerm 2 0 ∷ Campaign 2 1 [] ∷ GrantVote 3 second_request ∷ BecomeLeader second_request (ids_of (2 ∷ 3 ∷ [])) ∷ []
 
 -- the cluster after so many actions of the run
 abbrev state : ℕ → Cluster
@@ -27,8 +27,8 @@ abbrev second_election : Election
 second_election = record { request = second_request; votes = ids_of (2 ∷ 3 ∷ []) }
 
 -- ---- each action but one is allowed
-campaigns_2 : MayCampaign (state 1) 2 1
-campaigns_2 = record { later = omega arith }
+campaigns_2 : MayCampaign three (state 1) 2 1 []
+campaigns_2 = record { later = omega arith; committed = refl; one_change_beyond = omega arith }
 
 votes_3 : MayGrantVote (state 2) 3 second_request
 votes_3 = record { asked = inl refl; not_past = omega arith; once = once-from_votes (state 2) 1 3 2 refl; up_to_date = inr (refl, omega arith) }

@@ -5,9 +5,7 @@ use Rattle.std.proofs.Common.{ℕ, ◌≤◌, List, [], ◌∷◌, refl, inl, in
 use Rattle.std.specs.Prelude.{take, drop}
 use Rattle.quorum_sets.specs.Ids.{ids_of}
 use Rattle.quorum_sets.proofs.Offered.{written_out}
-use Rattle.conf_change.specs.Configuration.{Configuration}
 use Rattle.raft_safety.specs.Logs.{Entry, Log, IsPrefix}
-use Rattle.raft_safety.specs.Configurations.{IsOneChangeBeyond}
 use Rattle.raft_safety.specs.Cluster.{VoteRequest, Election, Commitment, Cluster, Leads}
 use Rattle.raft_safety.specs.Steps.{Action, Campaign, GrantVote, BecomeLeader, Propose, Receive, Commit, MayCampaign, MayGrantVote, MayBecomeLeader, MayPropose, MayReceive, MayCommit, IsLogAfter, AreAllowed, after_actions}
 use Rattle.raft_safety.specs.Claims.{LeaderCompleteness}
@@ -31,7 +29,7 @@ x_by_two = record { term = 1; log = with_x; counted = []; servers = ids_of (1 �
 
 abbrev run : List Action
 run =
-    Propose 1 1 x ∷ Campaign 3 2 ∷ GrantVote 2 third_request ∷ BecomeLeader third_request (ids_of (2 ∷ 3 ∷ []))
+    Propose 1 1 x ∷ Campaign 3 2 [] ∷ GrantVote 2 third_request ∷ BecomeLeader third_request (ids_of (2 ∷ 3 ∷ []))
     ∷ Receive 1 1 1 with_x [] with_x ∷ Receive 2 1 1 with_x [] with_x ∷ Commit 1 x_by_two ∷ []
 
 -- the cluster after so many actions of the run
@@ -45,11 +43,11 @@ third_election = record { request = third_request; votes = ids_of (2 ∷ 3 ∷ [
 with_x_not_in_nothing : IsPrefix with_x [] → ⊥
 with_x_not_in_nothing is = cc
 
-proposes_x : MayPropose three (state 0) 1 1 x
-proposes_x = record { leads = (first_election, inl refl, refl, refl); own_term = refl; one_at_a_time = inr refl }
+proposes_x : MayPropose 1 x
+proposes_x = record { own_term = refl }
 
-campaigns_3 : MayCampaign (state 1) 3 2
-campaigns_3 = record { later = omega arith }
+campaigns_3 : MayCampaign three (state 1) 3 2 []
+campaigns_3 = record { later = omega arith; committed = refl; one_change_beyond = omega arith }
 
 votes_2 : MayGrantVote (state 2) 2 third_request
 votes_2 = record { asked = inl refl; not_past = omega arith; once = once-from_votes (state 2) 2 2 3 refl; up_to_date = inr (refl, omega arith) }
@@ -62,14 +60,13 @@ leads_3 = record {
   quorum = IsQuorumAfter-of three [] three (ids_of (2 ∷ 3 ∷ [])) configuration_after-nothing (simp written_out refl);
 }
 
-takes_1 : MayReceive three (state 4) 1 1 1 with_x [] with_x
+takes_1 : MayReceive (state 4) 1 1 1 with_x [] with_x
 takes_1 = record {
   leads = (first_election, inr (inl refl), refl, refl);
   not_past = omega arith;
   sent_of = inl refl;
   known_of = inr refl;
   committed = refl;
-  one_change_beyond = voter_changes-entry three x [];
   taken = inr (with_x_not_in_nothing, refl);
 }
 
@@ -87,42 +84,39 @@ commits_x = record {
 
 -- ---- the one that is not
 -- what is asked of taking a leader's log, but that the leader's term is not past
-record MayTakeFromPast (first : Configuration) (c : Cluster) (server term leader : ℕ) (sent known after : Log) : Type 0 where
+record MayTakeFromPast (c : Cluster) (server term leader : ℕ) (sent known after : Log) : Type 0 where
   leads : Leads c term leader
   sent_of : IsPrefix sent (c.leaderships term leader).log
   known_of : IsPrefix known sent
   committed : IsPrefix known (c.leaderships term leader).committed
-  one_change_beyond : IsOneChangeBeyond first sent known
   taken : IsLogAfter (c.servers server).log sent after
 
 -- with the field that is left out, it is the guard
-with_the_rule : (first : Configuration) (c : Cluster) (server term leader : ℕ) (sent known after : Log) → MayTakeFromPast first c server term leader sent known after
-    → (c.servers server).term ≤ term → MayReceive first c server term leader sent known after
-with_the_rule first c server term leader sent known after may not_past = record {
+with_the_rule : (c : Cluster) (server term leader : ℕ) (sent known after : Log) → MayTakeFromPast c server term leader sent known after
+    → (c.servers server).term ≤ term → MayReceive c server term leader sent known after
+with_the_rule c server term leader sent known after may not_past = record {
   leads = may.leads;
   not_past = not_past;
   sent_of = may.sent_of;
   known_of = may.known_of;
   committed = may.committed;
-  one_change_beyond = may.one_change_beyond;
   taken = may.taken;
 }
 
-takes_from_past_leader : MayTakeFromPast three (state 5) 2 1 1 with_x [] with_x
+takes_from_past_leader : MayTakeFromPast (state 5) 2 1 1 with_x [] with_x
 takes_from_past_leader = record {
   leads = (first_election, inr (inl refl), refl, refl);
   sent_of = inl refl;
   known_of = inr refl;
   committed = refl;
-  one_change_beyond = voter_changes-entry three x [];
   taken = inr (with_x_not_in_nothing, refl);
 }
 
-is_refused : MayReceive three (state 5) 2 1 1 with_x [] with_x → ⊥
+is_refused : MayReceive (state 5) 2 1 1 with_x [] with_x → ⊥
 is_refused may = let not_past = may.not_past in omega arith
 
 all_but_one : (AreAllowed three after_election (take 5 run))
-    × MayTakeFromPast three (state 5) 2 1 1 with_x [] with_x
+    × MayTakeFromPast (state 5) 2 1 1 with_x [] with_x
     × (AreAllowed three (state 6) (drop 6 run))
 all_but_one = ((proposes_x, (campaigns_3, (votes_2, (leads_3, (takes_1, tt))))), takes_from_past_leader, (commits_x, tt))
 

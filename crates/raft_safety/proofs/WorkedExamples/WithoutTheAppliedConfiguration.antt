@@ -11,8 +11,9 @@ use Rattle.raft_safety.specs.Configurations.{IsQuorumAfter}
 use Rattle.raft_safety.specs.Cluster.{VoteRequest, Election, Cluster, In, Leads}
 use Rattle.raft_safety.specs.Steps.{Action, Campaign, BecomeLeader, MayCampaign, MayBecomeLeader, AreAllowed, after_actions}
 use Rattle.raft_safety.specs.Claims.{ElectionSafety}
+use Rattle.raft_safety.proofs.Configurations.{voter_changes-entry}
 use Rattle.raft_safety.proofs.WorkedExamples.SmallRuns.{IsQuorumAfter-of, IsQuorumAfter-not, OfEach-has, not_yet-from_elections}
-use Rattle.raft_safety.proofs.WorkedExamples.TwoServers.{one, both, second, added, moved, configuration_after-first, configuration_after-added, configuration_after-moved}
+use Rattle.raft_safety.proofs.WorkedExamples.TwoServers.{one, both, second, added, moved, configuration_after-first, configuration_after-added, configuration_after-moved, remove}
 use Rattle.raft_safety.proofs.WorkedExamples.MovedVoter.{after_move}
 
 -- ---- the run
@@ -24,7 +25,7 @@ late_request = record { term = 2; candidate = 1; log = moved; committed = added 
 
 abbrev run : List Action
 run =
-    Campaign 2 2 ∷ BecomeLeader second_request (ids_of (2 ∷ [])) ∷ Campaign 1 2 ∷ BecomeLeader late_request (ids_of (1 ∷ [])) ∷ []
+    Campaign 2 2 moved ∷ BecomeLeader second_request (ids_of (2 ∷ [])) ∷ Campaign 1 2 added ∷ BecomeLeader late_request (ids_of (1 ∷ [])) ∷ []
 
 -- the cluster after so many actions of the run
 abbrev state : ℕ → Cluster
@@ -37,8 +38,8 @@ abbrev late_election : Election
 late_election = record { request = late_request; votes = ids_of (1 ∷ []) }
 
 -- ---- each action but one is allowed
-campaigns_2 : MayCampaign (state 0) 2 2
-campaigns_2 = record { later = omega arith }
+campaigns_2 : MayCampaign one (state 0) 2 2 moved
+campaigns_2 = record { later = omega arith; committed = inl refl; one_change_beyond = omega arith }
 
 leads_2 : MayBecomeLeader one (state 1) second_request (ids_of (2 ∷ []))
 leads_2 = record {
@@ -48,8 +49,8 @@ leads_2 = record {
   quorum = IsQuorumAfter-of one moved second (ids_of (2 ∷ [])) configuration_after-moved (simp written_out refl);
 }
 
-campaigns_1 : MayCampaign (state 2) 1 2
-campaigns_1 = record { later = omega arith }
+campaigns_1 : MayCampaign one (state 2) 1 2 added
+campaigns_1 = record { later = omega arith; committed = inl refl; one_change_beyond = voter_changes-entry one remove added }
 
 -- ---- the one that is not
 -- what is asked of who becomes leader, but that the votes are a quorum of another configuration: the first

@@ -15,7 +15,7 @@ use Rattle.raft_safety.specs.Steps.{Action, Campaign, BecomeLeader, Propose, Rec
 use Rattle.raft_safety.specs.Claims.{LeaderCompleteness}
 use Rattle.raft_safety.proofs.Configurations.{voter_changes-none}
 use Rattle.raft_safety.proofs.WorkedExamples.SmallRuns.{command, IsQuorumAfter-of, OfEach-has, not_yet-from_elections}
-use Rattle.raft_safety.proofs.WorkedExamples.TwoServers.{one, second, add, remove, added, moved, configuration_after-first, configuration_after-moved, voter_changes-first, voter_changes-added, voter_changes-moved}
+use Rattle.raft_safety.proofs.WorkedExamples.TwoServers.{one, second, add, remove, added, moved, configuration_after-first, configuration_after-moved, voter_changes-first, voter_changes-moved}
 use Rattle.raft_safety.proofs.WorkedExamples.SecondVoter.{first_election, after_proposals}
 
 -- ---- the run
@@ -33,7 +33,7 @@ x_by_1 = record { term = 1; log = with_x; counted = []; servers = ids_of (1 ∷ 
 
 abbrev run : List Action
 run =
-    Propose 1 1 x ∷ Receive 1 1 1 with_x added with_x ∷ Commit 1 x_by_1 ∷ Receive 2 1 1 moved moved moved ∷ Campaign 2 2
+    Propose 1 1 x ∷ Receive 1 1 1 with_x added with_x ∷ Commit 1 x_by_1 ∷ Receive 2 1 1 moved moved moved ∷ Campaign 2 2 moved
     ∷ BecomeLeader second_request (ids_of (2 ∷ [])) ∷ []
 
 -- the cluster after so many actions of the run
@@ -58,33 +58,31 @@ with_x_not_in_added is = let long : length with_x ≤ length added = IsPrefix-le
 moved_not_in_nothing : IsPrefix moved [] → ⊥
 moved_not_in_nothing is = cc
 
-proposes_x : MayPropose one (state 0) 1 1 x
-proposes_x = record { leads = (first_election, inl refl, refl, refl); own_term = refl; one_at_a_time = inl no_change }
+proposes_x : MayPropose 1 x
+proposes_x = record { own_term = refl }
 
-takes_x_1 : MayReceive one (state 1) 1 1 1 with_x added with_x
+takes_x_1 : MayReceive (state 1) 1 1 1 with_x added with_x
 takes_x_1 = record {
   leads = (first_election, inl refl, refl, refl);
   not_past = omega arith;
   sent_of = inl refl;
   known_of = inr (inr (inl refl));
   committed = inl refl;
-  one_change_beyond = (let more = two_changes in let fewer = voter_changes-added in omega arith);
   taken = inr (with_x_not_in_added, refl);
 }
 
-takes_moved_2 : MayReceive one (state 3) 2 1 1 moved moved moved
+takes_moved_2 : MayReceive (state 3) 2 1 1 moved moved moved
 takes_moved_2 = record {
   leads = (first_election, inl refl, refl, refl);
   not_past = omega arith;
   sent_of = inr (inl refl);
   known_of = inl refl;
   committed = inr (inl refl);
-  one_change_beyond = omega arith;
   taken = inr (moved_not_in_nothing, refl);
 }
 
-campaigns_2 : MayCampaign (state 4) 2 2
-campaigns_2 = record { later = omega arith }
+campaigns_2 : MayCampaign one (state 4) 2 2 moved
+campaigns_2 = record { later = omega arith; committed = inl refl; one_change_beyond = omega arith }
 
 leads_2 : MayBecomeLeader one (state 5) second_request (ids_of (2 ∷ []))
 leads_2 = record {
@@ -107,7 +105,7 @@ record MayCountByAnOldOne (first : Configuration) (c : Cluster) (leader : ℕ) (
 
 -- with the field that is left out, it is the guard
 with_the_rule : (first : Configuration) (c : Cluster) (leader : ℕ) (m : Commitment) → MayCountByAnOldOne first c leader m
-    → IsOneChangeBeyond first (c.leaderships m.term leader).log m.counted → MayCommit first c leader m
+    → IsOneChangeBeyond first m.log m.counted → MayCommit first c leader m
 with_the_rule first c leader m may one_change_beyond = record {
   leads = may.leads;
   longer_than = may.longer_than;

@@ -5,13 +5,10 @@ use Rattle.std.proofs.Common.{◌≡◌, ℕ, ◌≤◌, List, [], ◌∷◌, re
 use Rattle.std.specs.Prelude.{take, drop}
 use Rattle.quorum_sets.specs.Ids.{ids_of}
 use Rattle.quorum_sets.proofs.Offered.{written_out}
-use Rattle.conf_change.specs.Configuration.{Configuration}
 use Rattle.raft_safety.specs.Logs.{Entry, Log, IsPrefix, last_term}
-use Rattle.raft_safety.specs.Configurations.{IsOneChangeBeyond}
 use Rattle.raft_safety.specs.Cluster.{VoteRequest, Election, Cluster, Leads}
 use Rattle.raft_safety.specs.Steps.{Action, Campaign, GrantVote, BecomeLeader, Propose, Receive, MayCampaign, MayGrantVote, MayBecomeLeader, MayPropose, MayReceive, IsLogAfter, AreAllowed, after_actions}
 use Rattle.raft_safety.specs.Claims.{CommittedIsStored}
-use Rattle.raft_safety.proofs.Configurations.{voter_changes-entry}
 use Rattle.raft_safety.proofs.WorkedExamples.SmallRuns.{command, IsQuorumAfter-of, OfEach-has, once-from_votes, not_yet-from_elections}
 use Rattle.raft_safety.proofs.WorkedExamples.AddedVoter.{three, configuration_after-nothing}
 use Rattle.raft_safety.proofs.WorkedExamples.FirstElection.{first_election, after_election}
@@ -34,7 +31,7 @@ third_request = record { term = 2; candidate = 3; log = []; committed = [] }
 
 abbrev run : List Action
 run =
-    Propose 1 1 x ∷ Receive 1 1 1 with_x with_x with_x ∷ Campaign 3 2 ∷ GrantVote 2 third_request
+    Propose 1 1 x ∷ Receive 1 1 1 with_x with_x with_x ∷ Campaign 3 2 [] ∷ GrantVote 2 third_request
     ∷ BecomeLeader third_request (ids_of (2 ∷ 3 ∷ [])) ∷ Propose 2 3 y ∷ Receive 1 2 3 with_y [] with_y ∷ []
 
 -- the cluster after so many actions of the run
@@ -52,11 +49,11 @@ with_y_not_in_with_x : IsPrefix with_y with_x → ⊥
 with_y_not_in_with_x (inl is) = let terms : last_term with_y ≡ last_term with_x = ap last_term is in omega arith
 with_y_not_in_with_x (inr is) = cc
 
-proposes_x : MayPropose three (state 0) 1 1 x
-proposes_x = record { leads = (first_election, inl refl, refl, refl); own_term = refl; one_at_a_time = inr refl }
+proposes_x : MayPropose 1 x
+proposes_x = record { own_term = refl }
 
-campaigns_3 : MayCampaign (state 2) 3 2
-campaigns_3 = record { later = omega arith }
+campaigns_3 : MayCampaign three (state 2) 3 2 []
+campaigns_3 = record { later = omega arith; committed = refl; one_change_beyond = omega arith }
 
 votes_2 : MayGrantVote (state 3) 2 third_request
 votes_2 = record { asked = inl refl; not_past = omega arith; once = once-from_votes (state 3) 2 2 3 refl; up_to_date = inr (refl, omega arith) }
@@ -69,58 +66,54 @@ leads_3 = record {
   quorum = IsQuorumAfter-of three [] three (ids_of (2 ∷ 3 ∷ [])) configuration_after-nothing (simp written_out refl);
 }
 
-proposes_y : MayPropose three (state 5) 2 3 y
-proposes_y = record { leads = (third_election, inl refl, refl, refl); own_term = refl; one_at_a_time = inr refl }
+proposes_y : MayPropose 2 y
+proposes_y = record { own_term = refl }
 
-takes_y_1 : MayReceive three (state 6) 1 2 3 with_y [] with_y
+takes_y_1 : MayReceive (state 6) 1 2 3 with_y [] with_y
 takes_y_1 = record {
   leads = (third_election, inl refl, refl, refl);
   not_past = omega arith;
   sent_of = inl refl;
   known_of = inr refl;
   committed = refl;
-  one_change_beyond = voter_changes-entry three y [];
   taken = inr (with_y_not_in_with_x, refl);
 }
 
 -- ---- the one that is not
 -- what is asked of taking a leader's log, but that the leader committed what is learned to be
-record MayLearnTooMuch (first : Configuration) (c : Cluster) (server term leader : ℕ) (sent known after : Log) : Type 0 where
+record MayLearnTooMuch (c : Cluster) (server term leader : ℕ) (sent known after : Log) : Type 0 where
   leads : Leads c term leader
   not_past : (c.servers server).term ≤ term
   sent_of : IsPrefix sent (c.leaderships term leader).log
   known_of : IsPrefix known sent
-  one_change_beyond : IsOneChangeBeyond first sent known
   taken : IsLogAfter (c.servers server).log sent after
 
 -- with the field that is left out, it is the guard
-with_the_rule : (first : Configuration) (c : Cluster) (server term leader : ℕ) (sent known after : Log) → MayLearnTooMuch first c server term leader sent known after
-    → IsPrefix known (c.leaderships term leader).committed → MayReceive first c server term leader sent known after
-with_the_rule first c server term leader sent known after may committed = record {
+with_the_rule : (c : Cluster) (server term leader : ℕ) (sent known after : Log) → MayLearnTooMuch c server term leader sent known after
+    → IsPrefix known (c.leaderships term leader).committed → MayReceive c server term leader sent known after
+with_the_rule c server term leader sent known after may committed = record {
   leads = may.leads;
   not_past = may.not_past;
   sent_of = may.sent_of;
   known_of = may.known_of;
   committed = committed;
-  one_change_beyond = may.one_change_beyond;
   taken = may.taken;
 }
 
-learns_x_1 : MayLearnTooMuch three (state 1) 1 1 1 with_x with_x with_x
+learns_x_1 : MayLearnTooMuch (state 1) 1 1 1 with_x with_x with_x
 learns_x_1 = record {
   leads = (first_election, inl refl, refl, refl);
   not_past = omega arith;
   sent_of = inl refl;
   known_of = inl refl;
-  one_change_beyond = omega arith;
   taken = inr (with_x_not_in_nothing, refl);
 }
 
-is_refused : MayReceive three (state 1) 1 1 1 with_x with_x with_x → ⊥
+is_refused : MayReceive (state 1) 1 1 1 with_x with_x with_x → ⊥
 is_refused may = with_x_not_in_nothing may.committed
 
 all_but_one : (AreAllowed three after_election (take 1 run))
-    × MayLearnTooMuch three (state 1) 1 1 1 with_x with_x with_x
+    × MayLearnTooMuch (state 1) 1 1 1 with_x with_x with_x
     × (AreAllowed three (state 2) (drop 2 run))
 all_but_one = ((proposes_x, tt), learns_x_1, (campaigns_3, (votes_2, (leads_3, (proposes_y, (takes_y_1, tt))))))
 

@@ -3,13 +3,10 @@
 -- six actions.
 use Rattle.std.proofs.Common.{◌≡◌, ℕ, ◌≤◌, List, [], ◌∷◌, refl, ap, inl, inr, arith}
 use Rattle.std.specs.Prelude.{take, drop}
-use Rattle.conf_change.specs.Configuration.{Configuration}
 use Rattle.raft_safety.specs.Logs.{Entry, Log, IsPrefix}
-use Rattle.raft_safety.specs.Configurations.{IsOneChangeBeyond}
 use Rattle.raft_safety.specs.Cluster.{Cluster, Leads}
 use Rattle.raft_safety.specs.Steps.{Action, Propose, Receive, MayPropose, MayReceive, IsLogAfter, AreAllowed, after_actions}
 use Rattle.raft_safety.specs.Claims.{LogMatching}
-use Rattle.raft_safety.proofs.Configurations.{voter_changes-entry}
 use Rattle.raft_safety.proofs.WorkedExamples.SmallRuns.{command, first_byte}
 use Rattle.raft_safety.proofs.WorkedExamples.AddedVoter.{three}
 use Rattle.raft_safety.proofs.WorkedExamples.FirstElection.{first_election, after_election}
@@ -42,58 +39,54 @@ with_z_not_in_nothing is = cc
 with_x_not_in_nothing : IsPrefix with_x [] → ⊥
 with_x_not_in_nothing is = cc
 
-proposes_x : MayPropose three (state 1) 1 1 x
-proposes_x = record { leads = (first_election, inl refl, refl, refl); own_term = refl; one_at_a_time = inr refl }
+proposes_x : MayPropose 1 x
+proposes_x = record { own_term = refl }
 
-takes_1 : MayReceive three (state 2) 1 1 1 with_x [] with_x
+takes_1 : MayReceive (state 2) 1 1 1 with_x [] with_x
 takes_1 = record {
   leads = (first_election, inl refl, refl, refl);
   not_past = omega arith;
   sent_of = inl refl;
   known_of = inr refl;
   committed = refl;
-  one_change_beyond = voter_changes-entry three x [];
   taken = inr (with_x_not_in_nothing, refl);
 }
 
 -- ---- the one that is not
 -- what is asked of taking a leader's log, but that the leader has it
-record MayTakeAnything (first : Configuration) (c : Cluster) (server term leader : ℕ) (sent known after : Log) : Type 0 where
+record MayTakeAnything (c : Cluster) (server term leader : ℕ) (sent known after : Log) : Type 0 where
   leads : Leads c term leader
   not_past : (c.servers server).term ≤ term
   known_of : IsPrefix known sent
   committed : IsPrefix known (c.leaderships term leader).committed
-  one_change_beyond : IsOneChangeBeyond first sent known
   taken : IsLogAfter (c.servers server).log sent after
 
 -- with the field that is left out, it is the guard
-with_the_rule : (first : Configuration) (c : Cluster) (server term leader : ℕ) (sent known after : Log) → MayTakeAnything first c server term leader sent known after
-    → IsPrefix sent (c.leaderships term leader).log → MayReceive first c server term leader sent known after
-with_the_rule first c server term leader sent known after may sent_of = record {
+with_the_rule : (c : Cluster) (server term leader : ℕ) (sent known after : Log) → MayTakeAnything c server term leader sent known after
+    → IsPrefix sent (c.leaderships term leader).log → MayReceive c server term leader sent known after
+with_the_rule c server term leader sent known after may sent_of = record {
   leads = may.leads;
   not_past = may.not_past;
   sent_of = sent_of;
   known_of = may.known_of;
   committed = may.committed;
-  one_change_beyond = may.one_change_beyond;
   taken = may.taken;
 }
 
-takes_2 : MayTakeAnything three (state 0) 2 1 1 with_z [] with_z
+takes_2 : MayTakeAnything (state 0) 2 1 1 with_z [] with_z
 takes_2 = record {
   leads = (first_election, inl refl, refl, refl);
   not_past = omega arith;
   known_of = inr refl;
   committed = refl;
-  one_change_beyond = voter_changes-entry three z [];
   taken = inr (with_z_not_in_nothing, refl);
 }
 
-is_refused : MayReceive three (state 0) 2 1 1 with_z [] with_z → ⊥
+is_refused : MayReceive (state 0) 2 1 1 with_z [] with_z → ⊥
 is_refused may = with_z_not_in_nothing may.sent_of
 
 all_but_one : (AreAllowed three after_election (take 0 run))
-    × MayTakeAnything three (state 0) 2 1 1 with_z [] with_z
+    × MayTakeAnything (state 0) 2 1 1 with_z [] with_z
     × (AreAllowed three (state 1) (drop 1 run))
 all_but_one = (tt, takes_2, (proposes_x, (takes_1, tt)))
 

@@ -10,10 +10,11 @@ use Rattle.raft_safety.specs.Configurations.{IsQuorumAfter}
 use Rattle.raft_safety.specs.Cluster.{VoteRequest, Election, Cluster, In, Leads}
 use Rattle.raft_safety.specs.Steps.{Action, Campaign, GrantVote, BecomeLeader, MayCampaign, MayGrantVote, MayBecomeLeader, AreAllowed, after_actions}
 use Rattle.raft_safety.specs.Claims.{LeaderCompleteness}
+use Rattle.raft_safety.proofs.Configurations.{voter_changes-entry}
 use Rattle.raft_safety.proofs.WorkedExamples.SmallRuns.{IsQuorumAfter-of, OfEach-has, once-from_votes, not_yet-from_elections}
 use Rattle.raft_safety.proofs.WorkedExamples.AddedVoter.{three, configuration_after-nothing}
 use Rattle.raft_safety.proofs.WorkedExamples.FirstElection.{first_request}
-use Rattle.raft_safety.proofs.WorkedExamples.FirstCommand.{with_x, x_by_two, after_command, with_x_not_in_nothing}
+use Rattle.raft_safety.proofs.WorkedExamples.FirstCommand.{x, with_x, x_by_two, after_command, with_x_not_in_nothing}
 
 -- ---- the run
 abbrev second_request : VoteRequest
@@ -24,7 +25,7 @@ invented_request = record { term = 2; candidate = 2; log = []; committed = [] }
 
 abbrev run : List Action
 run =
-    Campaign 2 2 ∷ GrantVote 3 second_request ∷ BecomeLeader invented_request (ids_of (2 ∷ 3 ∷ [])) ∷ []
+    Campaign 2 2 [] ∷ GrantVote 3 second_request ∷ BecomeLeader invented_request (ids_of (2 ∷ 3 ∷ [])) ∷ []
 
 -- the cluster after so many actions of the run
 abbrev state : ℕ → Cluster
@@ -34,8 +35,8 @@ abbrev invented_election : Election
 invented_election = record { request = invented_request; votes = ids_of (2 ∷ 3 ∷ []) }
 
 -- ---- each action but one is allowed
-campaigns_2 : MayCampaign (state 0) 2 2
-campaigns_2 = record { later = omega arith }
+campaigns_2 : MayCampaign three (state 0) 2 2 []
+campaigns_2 = record { later = omega arith; committed = refl; one_change_beyond = voter_changes-entry three x [] }
 
 votes_3 : MayGrantVote (state 1) 3 second_request
 votes_3 = record { asked = inl refl; not_past = omega arith; once = once-from_votes (state 1) 2 3 2 refl; up_to_date = inl (omega arith) }

@@ -30,7 +30,7 @@ y_by_two = record { term = 2; log = with_y; counted = []; servers = ids_of (2 �
 
 abbrev run : List Action
 run =
-    Campaign 3 2 ∷ GrantVote 2 third_request ∷ BecomeLeader third_request (ids_of (2 ∷ 3 ∷ [])) ∷ Propose 2 3 y
+    Campaign 3 2 [] ∷ GrantVote 2 third_request ∷ BecomeLeader third_request (ids_of (2 ∷ 3 ∷ [])) ∷ Propose 2 3 y
     ∷ Receive 3 2 3 with_y [] with_y ∷ Receive 2 2 3 with_y [] with_y ∷ Commit 3 y_by_two ∷ []
 
 -- the cluster after so many actions of the run
@@ -48,8 +48,8 @@ with_y_not_in_with_x : IsPrefix with_y with_x → ⊥
 with_y_not_in_with_x (inl is) = let terms : last_term with_y ≡ last_term with_x = ap last_term is in omega arith
 with_y_not_in_with_x (inr is) = cc
 
-campaigns_3 : MayCampaign (state 0) 3 2
-campaigns_3 = record { later = omega arith }
+campaigns_3 : MayCampaign three (state 0) 3 2 []
+campaigns_3 = record { later = omega arith; committed = refl; one_change_beyond = omega arith }
 
 leads_3 : MayBecomeLeader three (state 2) third_request (ids_of (2 ∷ 3 ∷ []))
 leads_3 = record {
@@ -59,28 +59,26 @@ leads_3 = record {
   quorum = IsQuorumAfter-of three [] three (ids_of (2 ∷ 3 ∷ [])) configuration_after-nothing (simp written_out refl);
 }
 
-proposes_y : MayPropose three (state 3) 2 3 y
-proposes_y = record { leads = (third_election, inl refl, refl, refl); own_term = refl; one_at_a_time = inr refl }
+proposes_y : MayPropose 2 y
+proposes_y = record { own_term = refl }
 
-takes_3 : MayReceive three (state 4) 3 2 3 with_y [] with_y
+takes_3 : MayReceive (state 4) 3 2 3 with_y [] with_y
 takes_3 = record {
   leads = (third_election, inl refl, refl, refl);
   not_past = omega arith;
   sent_of = inl refl;
   known_of = inr refl;
   committed = refl;
-  one_change_beyond = voter_changes-entry three y [];
   taken = inr (with_y_not_in_nothing, refl);
 }
 
-takes_2 : MayReceive three (state 5) 2 2 3 with_y [] with_y
+takes_2 : MayReceive (state 5) 2 2 3 with_y [] with_y
 takes_2 = record {
   leads = (third_election, inl refl, refl, refl);
   not_past = omega arith;
   sent_of = inl refl;
   known_of = inr refl;
   committed = refl;
-  one_change_beyond = voter_changes-entry three y [];
   taken = inr (with_y_not_in_with_x, refl);
 }
 

@@ -23,7 +23,7 @@ invented_request = record { term = 2; candidate = 3; log = with_x; committed = [
 
 abbrev run : List Action
 run =
-    GrantVote 2 invented_request ∷ Campaign 3 2 ∷ BecomeLeader third_request (ids_of (2 ∷ 3 ∷ [])) ∷ []
+    GrantVote 2 invented_request ∷ Campaign 3 2 [] ∷ BecomeLeader third_request (ids_of (2 ∷ 3 ∷ [])) ∷ []
 
 -- the cluster after so many actions of the run
 abbrev state : ℕ → Cluster
@@ -33,8 +33,8 @@ abbrev third_election : Election
 third_election = record { request = third_request; votes = ids_of (2 ∷ 3 ∷ []) }
 
 -- ---- each action but one is allowed
-campaigns_3 : MayCampaign (state 1) 3 2
-campaigns_3 = record { later = omega arith }
+campaigns_3 : MayCampaign three (state 1) 3 2 []
+campaigns_3 = record { later = omega arith; committed = refl; one_change_beyond = omega arith }
 
 leads_3 : MayBecomeLeader three (state 2) third_request (ids_of (2 ∷ 3 ∷ []))
 leads_3 = record {

@@ -21,7 +21,7 @@ second_request = record { term = 1; candidate = 2; log = []; committed = [] }
 
 abbrev run : List Action
 run =
-    Campaign 1 1 ∷ Campaign 2 1 ∷ GrantVote 3 first_request ∷ BecomeLeader first_request (ids_of (1 ∷ 3 ∷ []))
+    Campaign 1 1 [] ∷ Campaign 2 1 [] ∷ GrantVote 3 first_request ∷ BecomeLeader first_request (ids_of (1 ∷ 3 ∷ []))
     ∷ BecomeLeader second_request (ids_of (2 ∷ 3 ∷ [])) ∷ []
 
 -- the cluster after so many actions of the run
@@ -35,11 +35,11 @@ abbrev second_election : Election
 second_election = record { request = second_request; votes = ids_of (2 ∷ 3 ∷ []) }
 
 -- ---- each action but one is allowed
-campaigns_1 : MayCampaign (state 0) 1 1
-campaigns_1 = record { later = omega arith }
+campaigns_1 : MayCampaign three (state 0) 1 1 []
+campaigns_1 = record { later = omega arith; committed = refl; one_change_beyond = omega arith }
 
-campaigns_2 : MayCampaign (state 1) 2 1
-campaigns_2 = record { later = omega arith }
+campaigns_2 : MayCampaign three (state 1) 2 1 []
+campaigns_2 = record { later = omega arith; committed = refl; one_change_beyond = omega arith }
 
 votes_3 : MayGrantVote (state 2) 3 first_request
 votes_3 = record { asked = inr (inl refl); not_past = omega arith; once = once-from_votes (state 2) 1 3 1 refl; up_to_date = inr (refl, omega arith) }

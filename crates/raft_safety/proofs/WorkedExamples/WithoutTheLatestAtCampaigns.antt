@@ -1,8 +1,7 @@
--- Without the rule that after a restart at most one change in the log is beyond what is known to be committed. Server 1 was the
--- only voter; that server 2 is added, and server 1 removed, is committed by both, and server 2 is elected in term 2 by itself,
--- as it may. Server 1 restarts and knows nothing to be committed: it counts as if nothing had changed, and elects itself in
--- term 2 too, after fifteen actions.
-use Rattle.std.proofs.Common.{ℕ, ◌+◌, ◌≤◌, List, [], ◌∷◌, refl, inl, inr, arith}
+-- Without the rule that at most one change in a candidate's log is beyond what it counts by. Server 1 was the only voter; that
+-- server 2 is added, and server 1 removed, is committed by both, and server 2 is elected in term 2 by itself, as it may. Server 1
+-- counts as if nothing had changed, and elects itself in term 2 too, after fourteen actions.
+use Rattle.std.proofs.Common.{ℕ, ◌+◌, ◌<◌, ◌≤◌, List, [], ◌∷◌, refl, inl, inr, arith}
 use Rattle.std.specs.Prelude.{take, drop}
 use Rattle.quorum_sets.specs.Ids.{ids_of}
 use Rattle.quorum_sets.proofs.Offered.{written_out}
@@ -10,7 +9,7 @@ use Rattle.conf_change.specs.Configuration.{Configuration}
 use Rattle.raft_safety.specs.Logs.{Log, IsPrefix}
 use Rattle.raft_safety.specs.Configurations.{IsOneChangeBeyond, voter_changes}
 use Rattle.raft_safety.specs.Cluster.{VoteRequest, Election, Cluster}
-use Rattle.raft_safety.specs.Steps.{Action, Campaign, BecomeLeader, Restart, MayCampaign, MayBecomeLeader, MayRestart, AreAllowed, after_actions}
+use Rattle.raft_safety.specs.Steps.{Action, Campaign, BecomeLeader, MayCampaign, MayBecomeLeader, AreAllowed, after_actions}
 use Rattle.raft_safety.specs.Claims.{ElectionSafety}
 use Rattle.raft_safety.proofs.WorkedExamples.SmallRuns.{IsQuorumAfter-of, OfEach-has, not_yet-from_elections}
 use Rattle.raft_safety.proofs.WorkedExamples.TwoServers.{one, second, moved, configuration_after-first, configuration_after-moved, voter_changes-first, voter_changes-moved}
@@ -25,8 +24,7 @@ old_request = record { term = 2; candidate = 1; log = moved; committed = [] }
 
 abbrev run : List Action
 run =
-    Restart 1 [] ∷ Campaign 2 2 ∷ BecomeLeader second_request (ids_of (2 ∷ [])) ∷ Campaign 1 2
-    ∷ BecomeLeader old_request (ids_of (1 ∷ [])) ∷ []
+    Campaign 2 2 moved ∷ BecomeLeader second_request (ids_of (2 ∷ [])) ∷ Campaign 1 2 [] ∷ BecomeLeader old_request (ids_of (1 ∷ [])) ∷ []
 
 -- the cluster after so many actions of the run
 abbrev state : ℕ → Cluster
@@ -39,51 +37,49 @@ abbrev old_election : Election
 old_election = record { request = old_request; votes = ids_of (1 ∷ []) }
 
 -- ---- each action but one is allowed
-campaigns_2 : MayCampaign (state 1) 2 2
-campaigns_2 = record { later = omega arith }
+campaigns_2 : MayCampaign one (state 0) 2 2 moved
+campaigns_2 = record { later = omega arith; committed = inl refl; one_change_beyond = omega arith }
 
-leads_2 : MayBecomeLeader one (state 2) second_request (ids_of (2 ∷ []))
+leads_2 : MayBecomeLeader one (state 1) second_request (ids_of (2 ∷ []))
 leads_2 = record {
   asked = inl refl;
-  not_yet = not_yet-from_elections (state 2) 2 2 refl;
+  not_yet = not_yet-from_elections (state 1) 2 2 refl;
   voted = OfEach-has _ (2 ∷ []) (inl refl, tt);
   quorum = IsQuorumAfter-of one moved second (ids_of (2 ∷ [])) configuration_after-moved (simp written_out refl);
 }
 
-campaigns_1 : MayCampaign (state 3) 1 2
-campaigns_1 = record { later = omega arith }
-
-leads_1 : MayBecomeLeader one (state 4) old_request (ids_of (1 ∷ []))
+leads_1 : MayBecomeLeader one (state 3) old_request (ids_of (1 ∷ []))
 leads_1 = record {
   asked = inl refl;
-  not_yet = not_yet-from_elections (state 4) 2 1 refl;
+  not_yet = not_yet-from_elections (state 3) 2 1 refl;
   voted = OfEach-has _ (1 ∷ []) (inl refl, tt);
   quorum = IsQuorumAfter-of one [] one (ids_of (1 ∷ [])) configuration_after-first (simp written_out refl);
 }
 
 -- ---- the one that is not
--- what is asked of a restart, but that at most one change in the log is beyond what is known to be committed
-record MayForget (first : Configuration) (c : Cluster) (server : ℕ) (known : Log) : Type 0 where
-  known_of : IsPrefix known (c.servers server).committed
+-- what is asked of a campaign, but how many changes are beyond what the candidate counts by
+record MayCampaignByAnOldOne (c : Cluster) (server term : ℕ) (counted : Log) : Type 0 where
+  later : (c.servers server).term < term
+  committed : IsPrefix counted (c.servers server).committed
 
 -- with the field that is left out, it is the guard
-with_the_rule : (first : Configuration) (c : Cluster) (server : ℕ) (known : Log) → MayForget first c server known
-    → IsOneChangeBeyond first (c.servers server).log known → MayRestart first c server known
-with_the_rule first c server known may one_change_beyond = record { known_of = may.known_of; one_change_beyond = one_change_beyond }
+with_the_rule : (first : Configuration) (c : Cluster) (server term : ℕ) (counted : Log) → MayCampaignByAnOldOne c server term counted
+    → IsOneChangeBeyond first (c.servers server).log counted → MayCampaign first c server term counted
+with_the_rule first c server term counted may one_change_beyond = record { later = may.later; committed = may.committed; one_change_beyond = one_change_beyond }
 
-restarts_1 : MayForget one (state 0) 1 []
-restarts_1 = record { known_of = inr refl }
+campaigns_1 : MayCampaignByAnOldOne (state 2) 1 2 []
+campaigns_1 = record { later = omega arith; committed = inr refl }
 
-is_refused : MayRestart one (state 0) 1 [] → ⊥
+is_refused : MayCampaign one (state 2) 1 2 [] → ⊥
 is_refused may =
     let beyond : voter_changes one moved ≤ voter_changes one [] + 1 = may.one_change_beyond in
     let two = voter_changes-moved in
     let none = voter_changes-first in
     omega arith
 
-all_but_one : (AreAllowed one after_move (take 0 run)) × MayForget one (state 0) 1 [] × (AreAllowed one (state 1) (drop 1 run))
-all_but_one = (tt, restarts_1, (campaigns_2, (leads_2, (campaigns_1, (leads_1, tt)))))
+all_but_one : (AreAllowed one after_move (take 2 run)) × MayCampaignByAnOldOne (state 2) 1 2 [] × (AreAllowed one (state 3) (drop 3 run))
+all_but_one = ((campaigns_2, (leads_2, tt)), campaigns_1, (leads_1, tt))
 
 -- ---- two leaders of a term
-two_leaders : ElectionSafety (state 5) → ⊥
+two_leaders : ElectionSafety (state 4) → ⊥
 two_leaders claim = let same = claim 2 2 1 (second_election, inr (inl refl), refl, refl) (old_election, inl refl, refl, refl) in cc

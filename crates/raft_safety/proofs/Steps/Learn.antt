@@ -1,0 +1,63 @@
+-- The step Learn keeps the invariants.
+use Rattle.std.proofs.Common.{ℕ, ◌+◌, sym, subst, refl, arith}
+use Rattle.conf_change.specs.Configuration.{Configuration}
+use Rattle.raft_safety.specs.Logs.{Log, IsPrefix}
+use Rattle.raft_safety.specs.Cluster.{Leadership, Cluster}
+use Rattle.raft_safety.specs.Steps.{Learn, MayLearn, after_action}
+use Rattle.raft_safety.proofs.Logs.{IsPrefix-refl}
+use Rattle.raft_safety.proofs.Updates.{with_leadership-each, leadership-same}
+use Rattle.raft_safety.proofs.Growth.{Follows, IsServer-later, IsRequest-later, IsElectedWith-later, IsVote-later, IsCommitment-later, IsAcknowledged-later, voters_keep-later, IsKnown-prefix}
+use Rattle.raft_safety.proofs.Invariants.{IsKnown, IsElectedWith, AreInvariants, log_of}
+use Rattle.raft_safety.proofs.Safety.KnownCommitted.{IsKnown-in_leader}
+use Rattle.raft_safety.proofs.Safety.LedTerms.{last_term-acknowledged}
+
+pub learn-keeps : (first : Configuration) (c : Cluster) (term leader : ℕ) (known : Log) → MayLearn c term leader known → AreInvariants first c
+    → AreInvariants first (after_action c (Learn term leader known))
+learn-keeps first c term leader known may i =
+    let is_known : IsKnown c (term + 1) known = subst (λ (t : ℕ). IsKnown c (t + 1) known) may.same_term
+    (IsKnown-prefix c ((c.servers leader).term + 1) known (c.servers leader).committed may.known_of (i.servers leader).known) in
+    let in_log : IsPrefix known (log_of c term leader) = IsKnown-in_leader first c i term leader (term + 1) known may.leads is_known (omega arith) in
+    let now : Leadership = c.leaderships term leader in
+    let new : Leadership = record now { committed = known } in
+    let d : Cluster = after_action c (Learn term leader known) in
+    let f : Follows c d = record {
+      leads = λ t s l. l;
+      logs = λ t s l. with_leadership-each c term leader new (λ (q : Leadership). IsPrefix (log_of c t s) q.log) t s
+          (λ same_t same_s. subst (λ (q : Leadership). IsPrefix q.log now.log) (sym (leadership-same c term leader t s same_t same_s)) (IsPrefix-refl now.log))
+          (IsPrefix-refl (log_of c t s));
+      back = λ log t s past l. with_leadership-each c term leader new (λ (q : Leadership). IsPrefix log q.log → IsPrefix log (log_of c t s)) t s
+          (λ same_t same_s p. subst (λ (q : Leadership). IsPrefix log q.log) (sym (leadership-same c term leader t s same_t same_s)) p)
+          (λ p. p);
+      elections = λ e x. x;
+      votes = λ v x. x;
+      requests = λ r x. x;
+      acknowledgements = λ a x. x;
+      commitments = λ m x. x;
+      terms = λ s. omega arith;
+    } in
+    record {
+      servers = λ s. IsServer-later c d f (c.servers s) (c.servers s).term (omega arith) (i.servers s);
+      requests = λ a x. IsRequest-later first c d f a (i.requests a x);
+      one_request = i.one_request;
+      elections = λ e x.
+          let later = IsElectedWith-later first c d f e (c.leaderships e.request.term e.request.candidate) (i.elections e x) in
+          with_leadership-each c term leader new (IsElectedWith first d e) e.request.term e.request.candidate
+          (λ same_t same_s.
+          let it : IsElectedWith first d e now = subst (IsElectedWith first d e) (leadership-same c term leader e.request.term e.request.candidate same_t same_s) later in
+          record {
+            asked = it.asked;
+            grown = it.grown;
+            voted = it.voted;
+            quorum = it.quorum;
+            stored = in_log;
+            known = subst (λ (t : ℕ). IsKnown d (t + 1) known) (sym same_t) is_known;
+          })
+          later;
+      one_election = i.one_election;
+      votes = λ v x. IsVote-later c d f v (i.votes v x);
+      one_vote = i.one_vote;
+      acknowledgements = λ a x. IsAcknowledged-later c d f a (last_term-acknowledged first c i a x) refl (i.acknowledgements a x);
+      voters_keep = λ a voter low log in_a voted ack before own kept led. voters_keep-later c d f a voter low log i.voters_keep in_a voted ack before own kept led;
+      commitments = λ n x. IsCommitment-later first c d f n (i.commitments n x);
+      counted_before = i.counted_before;
+    }

@@ -1,0 +1,255 @@
+-- Each action keeps the invariants.
+use Rattle.std.proofs.Common.{◌≡◌, ℕ, ◌+◌, ◌≤◌, [], ◌∷◌, sym, ap, subst, inl, inr, arith}
+use Rattle.quorum_sets.specs.Ids.{Ids}
+use Rattle.conf_change.specs.Configuration.{Configuration}
+use Rattle.raft_safety.specs.Logs.{Entry, Log, IsPrefix, longer}
+use Rattle.raft_safety.specs.Configurations.{voter_changes}
+use Rattle.raft_safety.specs.Cluster.{Server, VoteRequest, Election, Leadership, Commitment, Cluster, In, Leads, with_value}
+use Rattle.raft_safety.specs.Steps.{MayBecomeLeader, MayLearn, MayReceive, after_action}
+use Rattle.raft_safety.specs.Steps as core
+use Rattle.raft_safety.specs.Waiting.{WaitingCluster, WaitingAction, Join, Campaign, SeeTerm, GrantVote, BecomeLeader, Learn, Propose, Receive, Commit, Store, Crash, MayCampaignWaiting, MayLearnWaiting, MayProposeWaiting, MayCommitWaiting, IsBetween, IsAllowedWaiting, after_waiting}
+use Rattle.raft_safety.proofs.Logs.{IsPrefix-refl, IsPrefix-trans, shorter-prefix, longer-each}
+use Rattle.raft_safety.proofs.Configurations.{voter_changes-prefix, voter_changes-entry}
+use Rattle.raft_safety.proofs.Updates.{with_value-each, with_leadership-each, leadership-same, with_leadership-here}
+use Rattle.raft_safety.proofs.Etcd.Growth.{with_value-both}
+use Rattle.raft_safety.proofs.Invariants.{IsFromLeaders, AreInvariants, log_of}
+use Rattle.raft_safety.proofs.Safety.KnownCommitted.{IsKnown-in_leader}
+use Rattle.raft_safety.proofs.Steps.OneServer.{see_term-keeps}
+use Rattle.raft_safety.proofs.Steps.Campaign.{campaign-keeps}
+use Rattle.raft_safety.proofs.Steps.Learn.{learn-keeps}
+use Rattle.raft_safety.proofs.Steps.GrantVote.{grant_vote-keeps}
+use Rattle.raft_safety.proofs.Steps.BecomeLeader.{become_leader-keeps}
+use Rattle.raft_safety.proofs.Steps.Propose.{propose-keeps}
+use Rattle.raft_safety.proofs.Steps.Receive.{receive-keeps}
+use Rattle.raft_safety.proofs.Steps.Commit.{commit-keeps}
+
+-- ---- the invariants
+-- in no leader's log is more than one change that the member has not stored
+abbrev pub HasChanges : Configuration → Cluster → Log → Type 0
+HasChanges first c stored = (term leader : ℕ) → Leads c term leader → voter_changes first (log_of c term leader) ≤ voter_changes first stored + 1
+
+pub record AreWaitingInvariants (first : Configuration) (w : WaitingCluster) : Type 0 where
+  pub core : AreInvariants first w.cluster
+  pub known : (server : ℕ) → IsPrefix (w.known server) (w.cluster.servers server).committed
+  pub stored : (server : ℕ) → IsPrefix (w.stored server) (w.known server)
+  pub requests : (r : VoteRequest) → In r w.cluster.requests → In r.candidate w.members
+  pub changes : (member : ℕ) → In member w.members → HasChanges first w.cluster (w.stored member)
+
+-- so it is in any log of entries of leaders
+few_of : (first : Configuration) (c : Cluster) (stored : Log) → HasChanges first c stored → (log : Log) → IsFromLeaders c log → voter_changes first log ≤ voter_changes first stored + 1
+unfolding voter_changes
+few_of first c stored has [] from = omega arith
+few_of first c stored has (entry ∷ log) from =
+    let its = from.0 in
+    let s1 : voter_changes first (entry ∷ log) ≤ voter_changes first (log_of c entry.term its.0) = voter_changes-prefix first (entry ∷ log) (log_of c entry.term its.0) its.2 in
+    let s2 : voter_changes first (log_of c entry.term its.0) ≤ voter_changes first stored + 1 = has entry.term its.0 its.1 in
+    omega arith
+
+-- who leads is a member
+member_leads : (first : Configuration) (w : WaitingCluster) → AreWaitingInvariants first w → (term leader : ℕ) → Leads w.cluster term leader → In leader w.members
+member_leads first w i term leader l = subst (λ (s : ℕ). In s w.members) l.3 (i.requests l.0.request (i.core.elections l.0 l.1).asked)
+
+campaign-keeps_waiting : (first : Configuration) (w : WaitingCluster) (server term : ℕ) (counted : Log) → MayCampaignWaiting w server term counted → AreWaitingInvariants first w
+    → AreWaitingInvariants first (after_waiting w (Campaign server term counted))
+campaign-keeps_waiting first w server term counted may i =
+    let c : Cluster = w.cluster in
+    let old : Server = c.servers server in
+    let new : Server = record old { term = term } in
+    let s1 : voter_changes first old.log ≤ voter_changes first (w.stored server) + 1 = few_of first c (w.stored server) (i.changes server may.member) old.log (i.core.servers server).from_leaders in
+    let s2 : voter_changes first (w.stored server) ≤ voter_changes first counted = voter_changes-prefix first (w.stored server) counted may.stored in
+    record {
+      core = campaign-keeps first c server term counted (record { later = may.later; committed = IsPrefix-trans counted (w.known server) old.committed may.known (i.known server); one_change_beyond = omega arith }) i.core;
+      known = λ k. with_value-each (λ (x : Server). IsPrefix (w.known k) x.committed) c.servers server new k
+          (λ same. subst (λ (q : ℕ). IsPrefix (w.known q) old.committed) (sym same) (i.known server)) (λ other. i.known k);
+      stored = i.stored;
+      requests = λ r x. elim x [ inl is ↦ subst (λ (q : VoteRequest). In q.candidate w.members) (sym is) may.member | inr in_c ↦ i.requests r in_c ];
+      changes = i.changes;
+    }
+
+-- a server of which only the term has changed
+term_keeps : (w : WaitingCluster) (server term : ℕ) → ((k : ℕ) → IsPrefix (w.known k) (w.cluster.servers k).committed)
+    → (k : ℕ) → IsPrefix (w.known k) (with_value w.cluster.servers server (record (w.cluster.servers server) { term = term }) k).committed
+term_keeps w server term known k =
+    let old : Server = w.cluster.servers server in
+    with_value-each (λ (x : Server). IsPrefix (w.known k) x.committed) w.cluster.servers server (record old { term = term }) k
+    (λ same. subst (λ (q : ℕ). IsPrefix (w.known q) old.committed) (sym same) (known server)) (λ other. known k)
+
+become_leader-keeps_waiting : (first : Configuration) (w : WaitingCluster) (r : VoteRequest) (votes : Ids) → MayBecomeLeader first w.cluster r votes → AreWaitingInvariants first w
+    → AreWaitingInvariants first (after_waiting w (BecomeLeader r votes))
+become_leader-keeps_waiting first w r votes may i =
+    let c : Cluster = w.cluster in
+    let new : Leadership = record { log = r.log; committed = r.committed } in
+    let d : Cluster = after_action c (core.BecomeLeader r votes) in
+    record {
+      core = become_leader-keeps first c r votes may i.core;
+      known = i.known;
+      stored = i.stored;
+      requests = i.requests;
+      changes = λ member x t s l.
+          let new_few : voter_changes first r.log ≤ voter_changes first (w.stored member) + 1 = few_of first c (w.stored member) (i.changes member x) r.log (i.core.requests r may.asked).from_leaders in
+          elim l.1 [
+            | inl is ↦ (
+                let same_t : t ≡ r.term = subst (λ (q : ℕ). q ≡ r.term) l.2 (ap (λ (e : Election). e.request.term) is) in
+                let same_s : s ≡ r.candidate = subst (λ (q : ℕ). q ≡ r.candidate) l.3 (ap (λ (e : Election). e.request.candidate) is) in
+                subst (λ (q : Leadership). voter_changes first q.log ≤ voter_changes first (w.stored member) + 1)
+                (sym (leadership-same d r.term r.candidate t s same_t same_s)) (subst (λ (q : Leadership). voter_changes first q.log ≤ voter_changes first (w.stored member) + 1) (sym (with_leadership-here c r.term r.candidate new)) new_few))
+            | inr in_c ↦ with_leadership-each c r.term r.candidate new (λ (q : Leadership). voter_changes first q.log ≤ voter_changes first (w.stored member) + 1) t s
+                (λ same_t same_s. new_few) (i.changes member x t s (l.0, in_c, l.2, l.3))
+          ];
+    }
+
+propose-keeps_waiting : (first : Configuration) (w : WaitingCluster) (term leader : ℕ) (entry : Entry) → MayProposeWaiting first w term leader entry → AreWaitingInvariants first w
+    → AreWaitingInvariants first (after_waiting w (Propose term leader entry))
+propose-keeps_waiting first w term leader entry may i =
+    let c : Cluster = w.cluster in
+    let now : Leadership = c.leaderships term leader in
+    let new : Leadership = record now { log = entry ∷ now.log } in
+    let one : voter_changes first (entry ∷ now.log) ≤ voter_changes first now.log + 1 = voter_changes-entry first entry now.log in
+    record {
+      core = propose-keeps first c term leader entry (record { own_term = may.own_term }) i.core;
+      known = i.known;
+      stored = i.stored;
+      requests = i.requests;
+      changes = λ member x t s l. with_leadership-each c term leader new (λ (q : Leadership). voter_changes first q.log ≤ voter_changes first (w.stored member) + 1) t s
+          (λ same_t same_s. elim may.waits [
+            | inl idle ↦ (
+                let k : voter_changes first (entry ∷ now.log) ≡ voter_changes first now.log = idle in
+                let h : voter_changes first now.log ≤ voter_changes first (w.stored member) + 1 = i.changes member x term leader may.leads in
+                omega arith)
+            | inr waited ↦ (let h = waited member x in omega arith)
+          ])
+          (i.changes member x t s l);
+    }
+
+learn-keeps_waiting : (first : Configuration) (w : WaitingCluster) (term leader : ℕ) (known : Log) → MayLearnWaiting w term leader known → AreWaitingInvariants first w
+    → AreWaitingInvariants first (after_waiting w (Learn term leader known))
+learn-keeps_waiting first w term leader known may i =
+    let c : Cluster = w.cluster in
+    let now : Leadership = c.leaderships term leader in
+    let new : Leadership = record now { committed = known } in
+    let more : MayLearn c term leader known = record { leads = may.leads; same_term = may.same_term; known_of = IsPrefix-trans known (w.known leader) (c.servers leader).committed may.known_of (i.known leader) } in
+    record {
+      core = learn-keeps first c term leader known more i.core;
+      known = i.known;
+      stored = i.stored;
+      requests = i.requests;
+      changes = λ member x t s l. with_leadership-each c term leader new (λ (q : Leadership). voter_changes first q.log ≤ voter_changes first (w.stored member) + 1) t s
+          (λ same_t same_s. i.changes member x term leader may.leads) (i.changes member x t s l);
+    }
+
+commit-keeps_waiting : (first : Configuration) (w : WaitingCluster) (leader : ℕ) (m : Commitment) → MayCommitWaiting first w leader m → AreWaitingInvariants first w
+    → AreWaitingInvariants first (after_waiting w (Commit leader m))
+commit-keeps_waiting first w leader m may i =
+    let c : Cluster = w.cluster in
+    let now : Leadership = c.leaderships m.term leader in
+    let new : Leadership = record now { committed = m.log } in
+    let s1 : voter_changes first now.log ≤ voter_changes first (w.stored leader) + 1 = i.changes leader (member_leads first w i m.term leader may.leads) m.term leader may.leads in
+    let s2 : voter_changes first m.log ≤ voter_changes first now.log = voter_changes-prefix first m.log now.log may.in_log in
+    let s3 : voter_changes first (w.stored leader) ≤ voter_changes first m.counted = voter_changes-prefix first (w.stored leader) m.counted may.stored in
+    record {
+      core = commit-keeps first c leader m (record {
+        leads = may.leads;
+        longer_than = may.longer_than;
+        in_log = may.in_log;
+        own_term = may.own_term;
+        acknowledged = may.acknowledged;
+        counted = may.counted;
+        one_change_beyond = omega arith;
+        quorum = may.quorum;
+      }) i.core;
+      known = i.known;
+      stored = i.stored;
+      requests = i.requests;
+      changes = λ member x t s l. with_leadership-each c m.term leader new (λ (q : Leadership). voter_changes first q.log ≤ voter_changes first (w.stored member) + 1) t s
+          (λ same_t same_s. i.changes member x m.term leader may.leads) (i.changes member x t s l);
+    }
+
+receive-keeps_waiting : (first : Configuration) (w : WaitingCluster) (server term leader : ℕ) (sent known after : Log) → MayReceive w.cluster server term leader sent known after → AreWaitingInvariants first w
+    → AreWaitingInvariants first (after_waiting w (Receive server term leader sent known after))
+receive-keeps_waiting first w server term leader sent known after may i =
+    let c : Cluster = w.cluster in
+    let old : Server = c.servers server in
+    let L : Log = log_of c term leader in
+    let new : Server = record { term = term; log = after; committed = longer old.committed known } in
+    let more : Log = longer (w.known server) known in
+    let order : old.term ≤ term = may.not_past in
+    let known_in : IsPrefix known L = IsPrefix-trans known sent L may.known_of may.sent_of in
+    let old_in : IsPrefix old.committed L = IsKnown-in_leader first c i.core term leader (old.term + 1) old.committed may.leads (i.core.servers server).known (omega arith) in
+    let was : IsPrefix (w.known server) old.committed = i.known server in
+    let was_in : IsPrefix (w.known server) L = IsPrefix-trans (w.known server) old.committed L was old_in in
+    let to_new : (x : Log) → IsPrefix x old.committed → IsPrefix x new.committed = λ x p. longer-each (IsPrefix x) old.committed known
+    (λ less. IsPrefix-trans x old.committed known p (shorter-prefix old.committed known L old_in known_in (omega arith))) (λ not_less. p) in
+    let known_new : IsPrefix known new.committed = longer-each (IsPrefix known) old.committed known (λ less. IsPrefix-refl known) (λ not_less. shorter-prefix known old.committed L known_in old_in not_less) in
+    let new_known : IsPrefix more new.committed = longer-each (λ (x : Log). IsPrefix x new.committed) (w.known server) known (λ less. known_new) (λ not_less. to_new (w.known server) was) in
+    let grows : IsPrefix (w.known server) more = longer-each (IsPrefix (w.known server)) (w.known server) known
+    (λ less. shorter-prefix (w.known server) known L was_in known_in (omega arith)) (λ not_less. IsPrefix-refl (w.known server)) in
+    record {
+      core = receive-keeps first c server term leader sent known after may i.core;
+      known = λ k. with_value-both (λ (x : Log) (y : Server). IsPrefix x y.committed) w.known c.servers server more new k (λ same. new_known) (λ other. i.known k);
+      stored = λ k. with_value-each (IsPrefix (w.stored k)) w.known server more k
+          (λ same. subst (λ (q : ℕ). IsPrefix (w.stored q) more) (sym same) (IsPrefix-trans (w.stored server) (w.known server) more (i.stored server) grows)) (λ other. i.stored k);
+      requests = i.requests;
+      changes = i.changes;
+    }
+
+store-keeps : (first : Configuration) (w : WaitingCluster) (server : ℕ) (log : Log) → IsBetween (w.stored server) log (w.known server) → AreWaitingInvariants first w
+    → AreWaitingInvariants first (after_waiting w (Store server log))
+store-keeps first w server log may i =
+    let s1 : voter_changes first (w.stored server) ≤ voter_changes first log = voter_changes-prefix first (w.stored server) log may.at_least in
+    record {
+      core = i.core;
+      known = i.known;
+      stored = λ k. with_value-each (λ (x : Log). IsPrefix x (w.known k)) w.stored server log k (λ same. subst (λ (q : ℕ). IsPrefix log (w.known q)) (sym same) may.at_most) (λ other. i.stored k);
+      requests = i.requests;
+      changes = λ member x. with_value-each (HasChanges first w.cluster) w.stored server log member
+          (λ same t s l. (
+          let h : voter_changes first (log_of w.cluster t s) ≤ voter_changes first (w.stored server) + 1 = subst (λ (q : ℕ). voter_changes first (log_of w.cluster t s) ≤ voter_changes first (w.stored q) + 1) same (i.changes member x t s l) in
+          omega arith))
+          (λ other. i.changes member x);
+    }
+
+crash-keeps_waiting : (first : Configuration) (w : WaitingCluster) (server : ℕ) (known : Log) → IsBetween (w.stored server) known (w.known server) → AreWaitingInvariants first w
+    → AreWaitingInvariants first (after_waiting w (Crash server known))
+crash-keeps_waiting first w server known may i = record {
+  core = i.core;
+  known = λ k. with_value-each (λ (x : Log). IsPrefix x (w.cluster.servers k).committed) w.known server known k
+      (λ same. subst (λ (q : ℕ). IsPrefix known (w.cluster.servers q).committed) (sym same) (IsPrefix-trans known (w.known server) (w.cluster.servers server).committed may.at_most (i.known server)))
+      (λ other. i.known k);
+  stored = λ k. with_value-each (IsPrefix (w.stored k)) w.known server known k (λ same. subst (λ (q : ℕ). IsPrefix (w.stored q) known) (sym same) may.at_least) (λ other. i.stored k);
+  requests = i.requests;
+  changes = i.changes;
+}
+
+pub waiting_keeps : (first : Configuration) (w : WaitingCluster) (action : WaitingAction) → IsAllowedWaiting first w action → AreWaitingInvariants first w → AreWaitingInvariants first (after_waiting w action)
+waiting_keeps first w (Join server) may i = record {
+  core = i.core;
+  known = i.known;
+  stored = i.stored;
+  requests = λ r x. inr (i.requests r x);
+  changes = λ member x. elim x [
+    | inl is ↦ subst (λ (q : ℕ). HasChanges first w.cluster (w.stored q)) (sym is) may.has_changes
+    | inr in_w ↦ i.changes member in_w
+  ];
+}
+waiting_keeps first w (Campaign server term counted) may i = campaign-keeps_waiting first w server term counted may i
+waiting_keeps first w (SeeTerm server term) may i = record {
+  core = see_term-keeps first w.cluster server term may i.core;
+  known = term_keeps w server term i.known;
+  stored = i.stored;
+  requests = i.requests;
+  changes = i.changes;
+}
+waiting_keeps first w (GrantVote voter request) may i = record {
+  core = grant_vote-keeps first w.cluster voter request may i.core;
+  known = term_keeps w voter request.term i.known;
+  stored = i.stored;
+  requests = i.requests;
+  changes = i.changes;
+}
+waiting_keeps first w (BecomeLeader request votes) may i = become_leader-keeps_waiting first w request votes may i
+waiting_keeps first w (Learn term leader known) may i = learn-keeps_waiting first w term leader known may i
+waiting_keeps first w (Propose term leader entry) may i = propose-keeps_waiting first w term leader entry may i
+waiting_keeps first w (Receive server term leader sent known after) may i = receive-keeps_waiting first w server term leader sent known after may i
+waiting_keeps first w (Commit leader m) may i = commit-keeps_waiting first w leader m may i
+waiting_keeps first w (Store server log) may i = store-keeps first w server log may i
+waiting_keeps first w (Crash server known) may i = crash-keeps_waiting first w server known may i
