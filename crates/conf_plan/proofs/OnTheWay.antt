@@ -16,3 +16,7 @@ pub mod OneAtATimePath
 pub mod EachStrategy
 pub mod OneChangeEach
 pub mod CatchingUp
+pub mod FirstMove
+pub mod PartsOfSteps
+pub mod ChangeByChange
+pub mod NextPath

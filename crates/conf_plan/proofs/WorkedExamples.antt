@@ -1,5 +1,5 @@
 -- Small cases, worked out by hand.
-use Rattle.std.proofs.Common.{◌≡◌, ◌≤◌, ℕ, Bool, true, false, not, List, [], ◌∷◌, ◌++◌, refl, ap, subst, ◌∙◌, map, arith, cond, ◌==◌}
+use Rattle.std.proofs.Common.{◌≡◌, ◌≤◌, ℕ, Bool, true, false, not, List, [], ◌∷◌, ◌++◌, refl, ap, subst, ◌∙◌, map, arith, cond, ◌==◌, ◌||◌}
 use Rattle.std.specs.Prelude.{Ok, filter, if◌then◌else◌}
 use Rattle.std.proofs.lemmas.Bool.{cond-true, cond-false, both_ways}
 use Rattle.std.proofs.lemmas.Bool.Decides.{nat_tests}
@@ -7,13 +7,13 @@ use Rattle.quorum_sets.specs.Ids.{Ids, count_of, has, ids_of, ids_where, is_empt
 use Rattle.quorum_sets.specs.Tolerance.{Tolerates, commits_without}
 use Rattle.quorum_sets.specs.Voters.{is_quorum}
 use Rattle.quorum_sets.proofs.Offered.{Tolerates-from_counts, has-no_ids, written_out}
-use Rattle.conf_change.specs.Configuration.{Configuration, has_voter, is_joint, is_valid, members, is_same_set, is_same, voters_of}
+use Rattle.conf_change.specs.Configuration.{Configuration, has_voter, is_joint, is_member, is_valid, members, is_same_set, is_same, voters_of}
 use Rattle.conf_change.specs.declared.change.Change.{Change}
 use Rattle.conf_change.specs.declared.change.Kind.{Kind}
 use Rattle.conf_change.specs.declared.change.Kind.TheVariants.{Voter, Learner, Remove, Update}
 use Rattle.conf_change.specs.Outcome.{after_leave, outcome}
 use Rattle.conf_change.proofs.Offered.{is_same-is_equality}
-use Rattle.conf_plan.specs.OnTheWay.{HasQuorumsOf, IsAsTolerant, KeepsQuorums, KeepsTolerance, MakesVotersOfReady, VotersLearnFirst}
+use Rattle.conf_plan.specs.OnTheWay.{EachOnTheWay, HasMembersOf, HasQuorumsOf, IsAsTolerant, KeepsQuorums, KeepsTolerance, MakesVotersOfReady, VotersLearnFirst}
 use Rattle.conf_change.specs.declared.step.Step.{Step}
 use Rattle.conf_change.specs.declared.step.Step.TheVariants.{Simple, EnterJoint, LeaveJoint}
 use Rattle.conf_plan.specs.OneAtATime.{one_change, steps_of, in_turn, order}
@@ -257,6 +257,14 @@ voter_is_no_learner learn =
     let ready = first_step MakesVotersOfReady voters_123 voters_1234 voters_124 (one_change Voter 4) (one_change Remove 3 ∷ []) joined learn 4 (simp written_out refl) (simp written_out refl) in
     let no_learner : has voters_123.learners 4 ≡ false = simp written_out refl in
     both_ways _ no_learner ready.learner
+
+-- 4, which is a member of neither end, joins and retires
+member_of_no_end : ¬ EachOnTheWay (HasMembersOf voters_123 voters_123) voters_123 (one_change Voter 4 ∷ one_change Remove 4 ∷ []) voters_123
+member_of_no_end has =
+    let joins = first_step (λ before step after. HasMembersOf voters_123 voters_123 after) voters_123 voters_1234 voters_123 (one_change Voter 4) (one_change Remove 4 ∷ []) joined has in
+    let member : is_member voters_1234 4 ≡ true = simp written_out refl in
+    let none : (is_member voters_123 4 || is_member voters_123 4) ≡ false = simp written_out refl in
+    both_ways _ none (joins 4 member)
 
 -- ---- one change each
 each_row : one_change_each (Simple (change Learner 4 ∷ change Learner 5 ∷ []) ∷ EnterJoint false (change Remove 1 ∷ change Voter 4 ∷ []) ∷ LeaveJoint ∷ [])

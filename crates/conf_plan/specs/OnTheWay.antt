@@ -27,6 +27,11 @@ HasQuorumsOf now target c =
 abbrev pub KeepsQuorums : Configuration → List Step → Configuration → Type 0
 KeepsQuorums now steps target = EachOnTheWay (HasQuorumsOf now target) now steps target
 
+-- ---- members
+-- each member of the configuration is a member of one of the ends
+abbrev pub HasMembersOf : Configuration → Configuration → Configuration → Type 0
+HasMembersOf now target c = (id : ℕ) → is_member c id ≡ true → (is_member now id || is_member target id) ≡ true
+
 -- ---- failures
 -- as many ids as may be down besides these at both ends may be down besides them in the configuration
 abbrev pub IsAsTolerant : Ids → Configuration → Configuration → Configuration → Type 0

@@ -1,8 +1,10 @@
 //! Laws of this crate's definitions: what is true of all runs, plans and texts. A run is a list of steps that are
 //! accepted one after another. Each law is the contract of a function that does nothing.
-ghost use Rattle.std.specs.Prelude.{◌≡◌, ◌+◌, ◌<◌, ◌≤◌, ◌↔◌, ◌⊎◌, ℕ, true, List, ◌++◌, length, map, Ok, Err, Some};
+ghost use Rattle.std.specs.Prelude.{◌≡◌, ◌+◌, ◌<◌, ◌≤◌, ◌↔◌, ◌⊎◌, ℕ, true, ◌||◌, List, ◌∷◌, ◌++◌, length, map, Ok, Err, Some};
 ghost use Rattle.std.specs.List.{All, join_with_byte};
-ghost use Rattle.quorum_sets.specs.Ids.{Ids};
+ghost use Rattle.quorum_sets.specs.Ids.{Ids, has};
+ghost use Rattle.quorum_sets.specs.Tolerance.{Tolerates};
+ghost use Rattle.quorum_sets.specs.Voters.{Voters};
 ghost use Rattle.conf_change.specs.Configuration.{Configuration};
 ghost use Rattle.conf_change.specs.Changer.{ChangerState, IsSound, Accepts};
 ghost use Rattle.conf_change.specs.ChangeList.{Denotes};
@@ -17,13 +19,13 @@ ghost use Rattle.conf_plan.specs.declared.strategy.Strategy.{Strategy};
 ghost use Rattle.conf_plan.specs.declared.strategy.Strategy.TheVariants.{Shortest};
 ghost use Rattle.conf_plan.specs.declared.text.PlanTextFault.{PlanTextFault};
 ghost use Rattle.conf_plan.specs.Best.{times_named, is_in, HasSameRoles, IsBest};
-ghost use Rattle.conf_plan.specs.OneChangeEach.{LeadsChangeByChange};
+ghost use Rattle.conf_plan.specs.OneChangeEach.{one_change_each, LeadsChangeByChange};
 ghost use Rattle.conf_plan.specs.PathBy.{has_path, path_by, KeepsPromises};
 ghost use Rattle.conf_plan.specs.Planned.{planned};
 ghost use Rattle.conf_plan.specs.PlanSteps.{HasU64Ids, IsPlan};
 ghost use Rattle.conf_plan.specs.PlanText.{ParsesToPath, ParsesToPlan, HasPathFault, HasPlanFault, change_text, plan_text};
 ghost use Rattle.conf_plan.specs.PlanCode.{path_in, plan_in};
-ghost use Rattle.conf_plan.specs.Run.{IsRun, IsValidWithVoter, Takes, StopsAt, HasKeptProgress, after_steps};
+ghost use Rattle.conf_plan.specs.Run.{Gives, IsRun, IsValidWithVoter, Takes, StopsAt, HasKeptProgress, after_steps};
 ghost use Rattle.conf_plan.specs.SamePlans.{is_same_plan};
 
 /// A run that starts at a valid configuration with a voter ends at one.
@@ -70,11 +72,35 @@ pub fn paths_keep_promises()
 
 /// Each path leads to the target, too, if each change of its simple steps is a step of its own, as it is proposed to
 /// etcd's raft. Each configuration on that way has the voters of one on the way of the path, so the quorums and the
-/// tolerance that the path keeps are kept there, too.
+/// tolerance that the path keeps are kept there, too. Its members are those of the ends. If each new voter on the path
+/// was a learner with progress, and no voter has to catch up, so it is there.
 pub fn one_change_each_leads()
     ensures { (strategy : Strategy) (down : Ids) (now target : Configuration) → IsValidWithVoter now
         → IsValidWithVoter target
         → has_path strategy now target ≡ true → LeadsChangeByChange now (path_by strategy down now target) target }
+{}
+
+/// A path that is made anew after its first step, or after the first change of a simple step, has at most as many steps
+/// of one change as were left. So a way on which each step is the first of a path made anew ends, and is no longer than
+/// the first path.
+pub fn next_path_is_shorter()
+    ensures shorter { (strategy : Strategy) (down : Ids) (now next target : Configuration) (step : Step)
+        (rest : List Step) → IsValidWithVoter now → IsValidWithVoter target → has_path strategy now target ≡ true
+        → one_change_each (path_by strategy down now target) ≡ step ∷ rest → Gives now step next
+        → length (one_change_each (path_by strategy down next target)) ≤ length rest }
+    ensures has_path { (strategy : Strategy) (down : Ids) (now next target : Configuration) (step : Step)
+        (rest : List Step) → has_path strategy now target ≡ true
+        → one_change_each (path_by strategy down now target) ≡ step ∷ rest → has_path strategy next target ≡ true }
+    ensures valid { (now next : Configuration) (step : Step) → IsValidWithVoter now → Gives now step next
+        → IsValidWithVoter next }
+{}
+
+/// If fewer voters are uncounted, at least as many ids may be down.
+pub fn fewer_uncounted_tolerate_more()
+    ensures { (voters : Voters) (fewer more : Ids) (k : ℕ)
+        → ((id : ℕ) → (has voters.incoming id || has voters.outgoing id) ≡ true → has fewer id ≡ true
+        → has more id ≡ true)
+        → Tolerates voters more k → Tolerates voters fewer k }
 {}
 
 /// If a step keeps a member's progress, a changer that takes the step keeps the member's match and next.

@@ -31,7 +31,7 @@ newcomers-own c target same =
     subst P same (ap is_empty (has-same_ids (newcomers c c) no_ids (λ q. grind (arith, has-newcomers c c q, has-no_ids q))) ∙ is_empty-no_ids)
 
 -- ---- the step
-newcomers-are_wanted : (c target : Configuration) → IsSingle c → IsValidWithVoter target → AreWanted c.incoming (union c.learners (newcomers c target))
+pub newcomers-are_wanted : (c target : Configuration) → IsSingle c → IsValidWithVoter target → AreWanted c.incoming (union c.learners (newcomers c target))
 newcomers-are_wanted c target single valid_with_voter =
     let own = own-are_wanted c single.valid_with_voter in
     let new = newcomers c target in

@@ -22,11 +22,16 @@ use Rattle.conf_plan.proofs.BestPlan.PreservedMembers.{keeps_progress-of_member}
 use Rattle.conf_plan.proofs.Runs.Chains.{IsChain-append}
 
 -- ---- a step
--- It changes one member, makes voters of learners alone, and resets no member's progress. Members of the target stay. It leads to a configuration that is not joint and is fine, and it adds a member only to one that is calm.
+-- a member after it was one before, or is one of the target
+abbrev pub AddsMembersOf : Configuration → Configuration → Step → Configuration → Type 0
+AddsMembersOf target before step after = (q : ℕ) → is_member after q ≡ true → (is_member before q || is_member target q) ≡ true
+
+-- It changes one member, makes voters of learners alone, and resets no member's progress. Members of the target stay, and no others come. It leads to a configuration that is not joint and is fine, and it adds a member only to one that is calm.
 pub record IsTurn (Fine Calm : Configuration → Type 0) (target before : Configuration) (step : Step) (after : Configuration) : Type 0 where
   pub learner_first : ChangesOneLearnerFirst before step after
   pub kept : (q : ℕ) → is_member before q ≡ true → is_member after q ≡ true → keeps_progress before step after q ≡ true
   pub stays : (q : ℕ) → is_member target q ≡ true → is_member before q ≡ true → is_member after q ≡ true
+  pub adds : AddsMembersOf target before step after
   pub single : after.outgoing ≡ no_ids
   pub fine : Fine after
   pub calm : (joiner : ℕ) → is_member before joiner ≡ false → is_member after joiner ≡ true → Calm before
@@ -38,11 +43,12 @@ Becomes ids id here after = (q : ℕ) → has after q ≡ cond (q == id) here (h
 -- an id gets these roles, and the others keep theirs; a new voter was a learner
 turn : (Fine Calm : Configuration → Type 0) (target : Configuration) (voters learners voters_after learners_after : Ids) (votes learns : Bool) (id : ℕ) → (id == 0) ≡ false
     → (votes ≡ true → learns ≡ false) → (votes ≡ true → has learners id ≡ true) → (is_member target id ≡ true → (votes || learns) ≡ true)
+    → ((votes || learns) ≡ true → is_member target id ≡ true)
     → Becomes voters id votes voters_after → Becomes learners id learns learners_after → is_empty voters_after ≡ false → Fine (single_with voters_after learners_after)
     → (is_member (single_with voters learners) id ≡ false → Calm (single_with voters learners))
     → Gives (single_with voters learners) (one_change (kind_for votes learns) id) (single_with voters_after learners_after)
     × IsTurn Fine Calm target (single_with voters learners) (one_change (kind_for votes learns) id) (single_with voters_after learners_after)
-turn Fine Calm target voters learners voters_after learners_after votes learns id other apart learned becomes votes_at learns_at some fine calm =
+turn Fine Calm target voters learners voters_after learners_after votes learns id other apart learned becomes of_target votes_at learns_at some fine calm =
     let change = one_change (kind_for votes learns) id in
     let after = single_with voters_after learners_after in (
       one_change-leads voters learners voters_after learners_after votes learns id other apart some votes_at learns_at,
@@ -50,6 +56,7 @@ turn Fine Calm target voters learners voters_after learners_after votes learns i
         learner_first = record { one = refl; learners = λ q is_voter new. grind (arith, eqb-true q id, votes_at q, learned, is_voter, new) };
         kept = λ q was is. keeps_progress-of_member q (single_with voters learners) change after was is (grind (arith, votes_at q, learns_at q, has-no_ids q, eqb-true q id, is));
         stays = λ q in_target was. grind (arith, votes_at q, learns_at q, has-no_ids q, eqb-true q id, becomes, in_target, was);
+        adds = λ q is. grind (arith, votes_at q, learns_at q, has-no_ids q, eqb-true q id, of_target, is);
         single = refl;
         fine = fine;
         calm = λ q was is. calm (grind (arith, votes_at q, learns_at q, has-no_ids q, eqb-true q id, was, is));
@@ -102,6 +109,7 @@ steps_of-lead Fine Calm c target id left valid_c valid single once needs ready f
     let not_zero : (will_vote || will_learn || (votes || learns)) ≡ true → (id == 0) ≡ false =
     λ some. grind (arith, eqb-true id 0, valid.zero_incoming, valid.zero_learners, valid_c.zero_incoming, valid_c.zero_learners, some) in
     let becomes : is_member target id ≡ true → (will_vote || will_learn) ≡ true = λ member. grind (arith, single, has-no_ids id, member) in
+    let of_target : (will_vote || will_learn) ≡ true → is_member target id ≡ true = λ some. grind (arith, some) in
     let some = needs (between c target (id ∷ left)) ready.fine in
     let some_after = needs (between c target left) fine_after in
     let learning_at : Becomes learners id true learning = λ q. grind (arith, has-with_id learners id q) in
@@ -115,11 +123,11 @@ steps_of-lead Fine Calm c target id left valid_c valid single once needs ready f
     cond_both (will_vote && not (votes || learns)) _ _ Leads
     (λ new. (
       single_with voters learning,
-      turn Fine Calm target voters learners voters learning false true id other (λ e. grind (arith, e)) (λ e. grind (arith, e)) (λ member. refl)
+      turn Fine Calm target voters learners voters learning false true id other (λ e. grind (arith, e)) (λ e. grind (arith, e)) (λ member. refl) (λ some_role. grind (arith, new))
           (λ q. grind (arith, eqb-true q id, votes_now, new)) learning_at some (ready.learning new) (λ newcomer. ready.calm (grind (arith, new))),
       (
         between c target left,
-        turn Fine Calm target voters learning voters_after learners_after will_vote will_learn id other alone (λ e. grind (arith, learning_at id, eq-eqb id id refl)) becomes votes_at
+        turn Fine Calm target voters learning voters_after learners_after will_vote will_learn id other alone (λ e. grind (arith, learning_at id, eq-eqb id id refl)) becomes of_target votes_at
             (λ q. grind (arith, learning_at q, learns_at q)) some_after fine_after (λ newcomer. absurd (both_ways (is_member (single_with voters learning) id) newcomer (or_right (has voters id || has no_ids id) (has learning id) (grind (arith, learning_at id, eq-eqb id id refl))))),
         refl,
       ),
@@ -127,7 +135,7 @@ steps_of-lead Fine Calm c target id left valid_c valid single once needs ready f
     (λ known. (
       between c target left,
       turn Fine Calm target voters learners voters_after learners_after will_vote will_learn id other alone (λ e. grind (arith, learns_now, alone, alone_now, alters, known, e)) becomes
-          votes_at learns_at some_after fine_after (λ newcomer. ready.calm (grind (arith, votes_now, learns_now, newcomer))),
+          of_target votes_at learns_at some_after fine_after (λ newcomer. ready.calm (grind (arith, votes_now, learns_now, newcomer))),
       refl,
     ))))
 

@@ -18,7 +18,7 @@ use Rattle.conf_plan.specs.Run.{IsValidWithVoter, IsRunWith}
 use Rattle.conf_plan.specs.declared.strategy.Strategy.TheVariants.{OneAtATime}
 use Rattle.conf_plan.proofs.PlannedSteps.Shapes.{path_by-of_shapes}
 use Rattle.conf_plan.proofs.OnTheWay.FewestSingleChanges.{one_at_a_time-least}
-use Rattle.conf_plan.proofs.OnTheWay.OneAtATime.{AreReady, IsTurn, steps_of-lead_on}
+use Rattle.conf_plan.proofs.OnTheWay.OneAtATime.{AddsMembersOf, AreReady, IsTurn, steps_of-lead_on}
 use Rattle.conf_plan.proofs.OnTheWay.DownLeaveFirst.{AreCalm, IsCalm, order-is_calm}
 use Rattle.conf_plan.proofs.OnTheWay.FewLearners.{AreFew, has-at_first, order-is_few, size-among}
 use Rattle.conf_plan.proofs.OnTheWay.OneAtATimeTolerance.{AreFine, IsNoWorseThanOne, IsAsTolerant-in_order, is_empty-in_order, order-is_fine}
@@ -81,6 +81,7 @@ turns-keep Fine Calm target before after (step ∷ steps) q becomes member run =
 record IsOneChange (down : Ids) (now c target before : Configuration) (step : Step) (after : Configuration) : Type 0 where
   learner_first : ChangesOneLearnerFirst before step after
   kept : KeepsVoters before step after
+  adds : AddsMembersOf target before step after
   tolerant : IsAsTolerant down now target after
   calm : (joiner : ℕ) → is_member before joiner ≡ false → is_member after joiner ≡ true → IsCalm (down_in_order down c target) target before
   few : HasFewLearners down c target after
@@ -90,6 +91,7 @@ turn-is_one_change : (down : Ids) (now c target before after : Configuration) (s
 turn-is_one_change down now c target before after step single same turn = record {
   learner_first = turn.learner_first;
   kept = λ q votes. turn.kept q (grind (arith, turn.learner_first.learners q, turn.single, has-no_ids q, votes)) (or_left _ (has after.learners q) votes);
+  adds = turn.adds;
   tolerant = IsAsTolerant-in_order down now c target after same (outgoing-none c single.single) turn.single turn.fine.voters;
   calm = turn.calm;
   few = turn.fine.learners;
@@ -101,6 +103,7 @@ leaving-is_one_change down now target valid_with_voter =
     record {
       learner_first = record { one = tt; learners = λ q votes new. absurd (both_ways _ (or_parts _ _ new).0 votes) };
       kept = KeepsVoters-leaving now;
+      adds = λ q is. grind (arith, has-union now.learners now.learners_next q, has-no_ids q, valid.next_outgoing q, is);
       tolerant = IsAsTolerant-in_order down now (after_leave now) target (after_leave now) refl refl refl (inl (omega arith));
       -- who is a member then was one before
       calm = λ joiner was is. absurd (grind (arith, has-union now.learners now.learners_next joiner, has-no_ids joiner, valid.next_outgoing joiner, was, is));
@@ -129,6 +132,12 @@ one_at_a_time-changes down now target now_valid_with_voter valid_with_voter way 
       from_single differs (after_leave now) single refl,
     ))
     (λ differs single. subst (Leads (one_at_a_time_from_single down now target)) (sym (cond-false (is_joint now) _ _ single.single)) (from_single differs now single refl))
+
+-- no other members come than those of the target
+pub one_at_a_time-adds : (down : Ids) (now target : Configuration) → IsValidWithVoter now → IsValidWithVoter target → has_path OneAtATime now target ≡ true
+    → IsRunWith (AddsMembersOf target) now (path_by OneAtATime down now target) target
+one_at_a_time-adds down now target now_valid_with_voter valid_with_voter way =
+    IsRunWith-weaker (IsOneChange down now (left_first now) target) (AddsMembersOf target) (λ before after step change. change.adds) now target (path_by OneAtATime down now target) (one_at_a_time-changes down now target now_valid_with_voter valid_with_voter way)
 
 pub one_at_a_time-keeps_promises : (down : Ids) (now target : Configuration) → IsValidWithVoter now → IsValidWithVoter target → has_path OneAtATime now target ≡ true
     → OneAtATimePromises down now (path_by OneAtATime down now target) target

@@ -1,6 +1,6 @@
 -- The changes of a simple step of a path are accepted one by one, too, and each has the voters before or after the step.
 use Rattle.std.proofs.Common.{◌≡◌, ℕ, ◌+◌, ◌*◌, ◌≤◌, Bool, true, false, cond, not, ◌==◌, ◌⊎◌, inl, inr, List, [], ◌∷◌, ◌++◌, map, refl, sym, ap, subst, ◌∙◌, arith, eq-eqb, eqb-true}
-use Rattle.std.specs.Prelude.{Option, Some, None, count_by, IsTrue, ⊤}
+use Rattle.std.specs.Prelude.{Option, Some, None, count_by, ⊤}
 use Rattle.std.specs.Option.{option_or}
 use Rattle.std.specs.Result.{result_unwrap_or}
 use Rattle.std.proofs.lemmas.Bool.{and_from, both_ways, false_from_ne_true, lt-ltb, ltb-false, not-false, not-true, or_left}
@@ -8,7 +8,6 @@ use Rattle.std.proofs.lemmas.List.{append_assoc, append-nil}
 use Rattle.std.proofs.lemmas.List.Concat.{flat_map-cons}
 use Rattle.std.proofs.lemmas.List.Sums.{sum_by-append, sum_by-cons}
 use Rattle.quorum_sets.specs.Ids.{Ids, has, ascending, size, count_of, is_empty, difference_count, union}
-use Rattle.quorum_sets.specs.Tolerance.{Tolerates}
 use Rattle.quorum_sets.specs.Voters.{Voters, is_quorum}
 use Rattle.quorum_sets.proofs.Offered.{count_by-none, count_of-rest, has-ascending, has-same_ids}
 use Rattle.conf_change.specs.Change.{names, last_effective, is_incoming_after, result_of}
@@ -21,7 +20,7 @@ use Rattle.conf_change.specs.declared.step.Step.TheVariants.{Simple, EnterJoint,
 use Rattle.conf_change.proofs.Offered.{SimpleTaken-from_outcome, has-incoming_after, has-none_in_empty, is_empty-no_ids, last_effective-one, one_change-one_voter, outcome-overlaps, outcome-simple_accepted, result_of-none, result_of-push}
 use Rattle.conf_plan.specs.OnTheWay.{ChangesOneLearnerFirst, EachOnTheWay}
 use Rattle.conf_plan.specs.LearnersFirst.{newcomers}
-use Rattle.conf_plan.specs.OneChangeEach.{each_change, one_change_each, HasVotersOnTheWay, LeadsChangeByChange}
+use Rattle.conf_plan.specs.OneChangeEach.{each_change, one_change_each, HasVotersOnTheWay}
 use Rattle.conf_plan.specs.PathBy.{has_path, path_by}
 use Rattle.conf_plan.specs.Planned.{kind_by, moves, single_with, entering_step, planned_from_single}
 use Rattle.conf_plan.specs.Run.{IsValidWithVoter, IsRunWith, Gives}
@@ -30,12 +29,13 @@ use Rattle.conf_plan.specs.declared.strategy.Strategy.TheVariants.{Shortest, Lea
 use Rattle.conf_plan.proofs.PlannedSteps.AlongPath.{planned_from_single-holds, path_by-holds}
 use Rattle.conf_plan.proofs.OnTheWay.EachStrategy.{path_by-keeps_promises}
 use Rattle.conf_plan.proofs.OnTheWay.LearnersFirst.{from_single-holds}
+use Rattle.conf_plan.proofs.OnTheWay.Newcomers.{newcomers-are_wanted}
 use Rattle.conf_plan.proofs.BestPlan.FewestNames.{once, moves-name_once}
 use Rattle.conf_plan.proofs.FindingMoves.AscendingIds.{times, times-ascending, times-cons}
 use Rattle.conf_plan.proofs.FindingMoves.OfEachId.{last_effective-cons, last_effective-none}
-use Rattle.conf_plan.proofs.FindingMoves.ResultingConfiguration.{IsSingle}
+use Rattle.conf_plan.proofs.FindingMoves.ResultingConfiguration.{IsSingle, AreWanted}
 use Rattle.conf_plan.proofs.PlannedSteps.BetweenSingle.{entered_by}
-use Rattle.conf_plan.proofs.Runs.Chains.{IsChain-append, IsRun-from_IsRunWith, IsRunWith-weaker}
+use Rattle.conf_plan.proofs.Runs.Chains.{IsChain-append, IsRunWith-weaker}
 
 -- ---- sets that differ in one id at most
 one_counted : (p : ℕ → Bool) (a : ℕ) (xs : List ℕ) → p a ≡ true → times a xs ≤ count_by p xs
@@ -97,12 +97,12 @@ one_differs s t a b few apart differs = by (has t a) (has s b) (has t b) refl re
         grind (arith, times-ascending a t, times-ascending b t)
 
 -- ---- one change more
-last_effective-append : (xs ys : List Change) (q : ℕ) → last_effective (xs ++ ys) q ≡ option_or (last_effective ys q) (last_effective xs q)
+pub last_effective-append : (xs ys : List Change) (q : ℕ) → last_effective (xs ++ ys) q ≡ option_or (last_effective ys q) (last_effective xs q)
 last_effective-append [] ys q = grind arith
 last_effective-append (x ∷ xs) ys q = grind (arith, last_effective-cons x (xs ++ ys) q, last_effective-cons x xs q, last_effective-append xs ys q)
 
 -- the voters are those of one of two other configurations
-abbrev HasVotersOf : Configuration → Configuration → Configuration → Type 0
+abbrev pub HasVotersOf : Configuration → Configuration → Configuration → Type 0
 HasVotersOf before after c = (voters_of c ≡ voters_of before) ⊎ (voters_of c ≡ voters_of after)
 
 -- changes that name each id once at most, do not name one voter, and leave all voters but one as they are
@@ -210,7 +210,7 @@ voters-one_more c q xs ys y given had = by_named (names y.id y) refl
 
 -- ---- a list of changes that leaves one voter alone
 -- each configuration on the way has the voters of one of the ends
-abbrev KeepsVotersOf : Configuration → Configuration → Configuration → Step → Configuration → Type 0
+abbrev pub KeepsVotersOf : Configuration → Configuration → Configuration → Step → Configuration → Type 0
 KeepsVotersOf before after c step d = HasVotersOf before after d
 
 abbrev OneByOne : Configuration → List Change → List Change → List Change → Type 0
@@ -242,7 +242,7 @@ changes-one_by_one c q xs (y ∷ ys) given had =
 
 -- ---- a step of a path
 -- if the step is accepted, so are its changes, one by one, and the voters on the way are those before or after the step
-abbrev Splits : Configuration → Step → Configuration → Type 0
+abbrev pub Splits : Configuration → Step → Configuration → Type 0
 Splits before step after = Gives before step after → IsRunWith (KeepsVotersOf before after) before (each_change step) after
 
 Splits-one : (before after : Configuration) (step : Step) → Gives before step after → IsRunWith (KeepsVotersOf before after) before (step ∷ []) after
@@ -257,12 +257,12 @@ own_quorum c some single =
     let size_some : size ids ≡ 0 → ⊥ = λ zero. both_ways (is_empty ids) some (eq-eqb (size ids) 0 zero) in
     and_from _ _ (lt-ltb (size ids) (2 * count_of (has ids) ids) (omega (arith, size_some))) (or_left _ _ single)
 
-once-few : (o : Option Kind) → once o ≤ 1
+pub once-few : (o : Option Kind) → once o ≤ 1
 once-few None = grind arith
 once-few (Some kind) = grind arith
 
 -- quorums before and after a step share a voter, which the moves leave alone
-Splits-moves : (c : Configuration) (voters learners : Ids) → is_empty c.incoming ≡ false → is_empty voters ≡ false → Splits c (Simple (moves c voters learners)) (single_with voters learners)
+pub Splits-moves : (c : Configuration) (voters learners : Ids) → is_empty c.incoming ≡ false → is_empty voters ≡ false → Splits c (Simple (moves c voters learners)) (single_with voters learners)
 Splits-moves c voters learners some_c some gives =
     let changes = moves c voters learners in
     let after = single_with voters learners in
@@ -285,39 +285,51 @@ Splits-moves c voters learners some_c some gives =
     subst (λ d. Reaches d after) (sym (result_of-none c))
     (subst (Reaches (result_of c [])) taken.made (changes-one_by_one c q [] changes given (inl (ap voters_of (sym (result_of-none c))))))
 
--- ---- the plan
-planned_from_single-splits : (c target : Configuration) → IsSingle c → IsValidWithVoter target → IsRunWith Splits c (planned_from_single c target) target
-planned_from_single-splits c target single valid_with_voter =
-    planned_from_single-holds Splits (λ voters learners. ⊤) c target single valid_with_voter (record {
+-- ---- each strategy
+-- what holds of a step that stays as it is, and of the moves from a configuration that is not joint
+pub record HoldsOfProposals (Holds : Configuration → Step → Configuration → Type 0) : Type 0 where
+  pub whole : (before after : Configuration) (step : Step) → each_change step ≡ step ∷ [] → Holds before step after
+  pub moved : (c : Configuration) (voters learners : Ids) → IsSingle c → AreWanted voters learners → Holds c (Simple (moves c voters learners)) (single_with voters learners)
+
+planned_from_single-of_proposals : (Holds : Configuration → Step → Configuration → Type 0) (c target : Configuration) → IsSingle c → IsValidWithVoter target → HoldsOfProposals Holds
+    → IsRunWith Holds c (planned_from_single c target) target
+planned_from_single-of_proposals Holds c target single valid_with_voter holds =
+    planned_from_single-holds Holds (λ voters learners. ⊤) c target single valid_with_voter (record {
       apart = λ apart. tt;
       outgoing = λ joint. tt;
-      simple = λ voters learners wants wanted. Splits-moves c voters learners (not-true (is_empty c.incoming) single.valid_with_voter.voter) wanted.voter;
-      enters = λ voters learners wants moved. Splits-one c (entered_by c voters learners) (EnterJoint false (moves c voters learners));
-      leaves = λ voters learners wants moved. Splits-one (entered_by c voters learners) (single_with voters learners) LeaveJoint;
-      into = λ d single_d has_all. Splits-one d target (entering_step d target);
+      simple = λ voters learners wants wanted. holds.moved c voters learners single wanted;
+      enters = λ voters learners wants moved. holds.whole c (entered_by c voters learners) (EnterJoint false (moves c voters learners)) refl;
+      leaves = λ voters learners wants moved. holds.whole (entered_by c voters learners) (single_with voters learners) LeaveJoint refl;
+      into = λ d single_d has_all. holds.whole d target (entering_step d target) refl;
     })
 
--- ---- each strategy
 -- a step of one change is that change
-one_change-splits : (before after : Configuration) (step : Step) → ChangesOneLearnerFirst before step after → Splits before step after
-one_change-splits before after (Simple []) changes = let one = changes.one in absurd (omega arith)
-one_change-splits before after (Simple (x ∷ [])) changes = Splits-one before after (Simple (x ∷ []))
-one_change-splits before after (Simple (x ∷ y ∷ more)) changes = let one = changes.one in absurd (omega arith)
-one_change-splits before after (EnterJoint auto_leave more) changes = absurd changes.one
-one_change-splits before after LeaveJoint changes = Splits-one before after LeaveJoint
+pub one_change-whole : (before after : Configuration) (step : Step) → ChangesOneLearnerFirst before step after → each_change step ≡ step ∷ []
+one_change-whole before after (Simple []) changes = let one = changes.one in absurd (omega arith)
+one_change-whole before after (Simple (x ∷ [])) changes = refl
+one_change-whole before after (Simple (x ∷ y ∷ more)) changes = let one = changes.one in absurd (omega arith)
+one_change-whole before after (EnterJoint auto_leave more) changes = absurd changes.one
+one_change-whole before after LeaveJoint changes = refl
 
-path_by-splits : (strategy : Strategy) (down : Ids) (now target : Configuration) → IsValidWithVoter now → IsValidWithVoter target → has_path strategy now target ≡ true
-    → IsRunWith Splits now (path_by strategy down now target) target
-path_by-splits Shortest down now target now_valid_with_voter valid_with_voter way =
-    path_by-holds Shortest down Splits now target now_valid_with_voter (Splits-one now (after_leave now) LeaveJoint) (λ differs c single same. planned_from_single-splits c target single valid_with_voter)
-path_by-splits LearnersFirst down now target now_valid_with_voter valid_with_voter way =
-    path_by-holds LearnersFirst down Splits now target now_valid_with_voter (Splits-one now (after_leave now) LeaveJoint) (λ differs c single same.
-    let some = not-true (is_empty c.incoming) single.valid_with_voter.voter in
-    from_single-holds Splits c target single valid_with_voter (Splits-moves c c.incoming (union c.learners (newcomers c target)) some some)
-    (λ d single_d alike known stay. planned_from_single-splits d target single_d valid_with_voter))
-path_by-splits OneAtATime down now target now_valid_with_voter valid_with_voter way =
-    IsRunWith-weaker ChangesOneLearnerFirst Splits one_change-splits now target (path_by OneAtATime down now target)
-    (path_by-keeps_promises OneAtATime down now target now_valid_with_voter valid_with_voter way).run
+pub path_by-of_proposals : (Holds : Configuration → Step → Configuration → Type 0) (strategy : Strategy) (down : Ids) (now target : Configuration) → IsValidWithVoter now
+    → IsValidWithVoter target → has_path strategy now target ≡ true → HoldsOfProposals Holds → IsRunWith Holds now (path_by strategy down now target) target
+path_by-of_proposals Holds Shortest down now target now_valid_with_voter valid_with_voter way holds =
+    path_by-holds Shortest down Holds now target now_valid_with_voter (holds.whole now (after_leave now) LeaveJoint refl)
+    (λ differs c single same. planned_from_single-of_proposals Holds c target single valid_with_voter holds)
+path_by-of_proposals Holds LearnersFirst down now target now_valid_with_voter valid_with_voter way holds =
+    path_by-holds LearnersFirst down Holds now target now_valid_with_voter (holds.whole now (after_leave now) LeaveJoint refl) (λ differs c single same.
+    from_single-holds Holds c target single valid_with_voter
+    (holds.moved c c.incoming (union c.learners (newcomers c target)) single (newcomers-are_wanted c target single valid_with_voter))
+    (λ d single_d alike known stay. planned_from_single-of_proposals Holds d target single_d valid_with_voter holds))
+path_by-of_proposals Holds OneAtATime down now target now_valid_with_voter valid_with_voter way holds =
+    IsRunWith-weaker ChangesOneLearnerFirst Holds (λ before after step changes. holds.whole before after step (one_change-whole before after step changes)) now target
+    (path_by OneAtATime down now target) (path_by-keeps_promises OneAtATime down now target now_valid_with_voter valid_with_voter way).run
+
+Splits-of_proposals : HoldsOfProposals Splits
+Splits-of_proposals = record {
+  whole = λ before after step alone gives. subst (λ steps. IsRunWith (KeepsVotersOf before after) before steps after) (sym alone) (Splits-one before after step gives);
+  moved = λ c voters learners single wanted. Splits-moves c voters learners (not-true (is_empty c.incoming) single.valid_with_voter.voter) wanted.voter;
+}
 
 -- ---- all steps, change by change
 HasVotersOnTheWay-first : (now c : Configuration) (steps : List Step) → voters_of c ≡ voters_of now → HasVotersOnTheWay now steps c
@@ -350,24 +362,14 @@ of_voters Holds now target c (step ∷ steps) holds run (inr (next, gives, has))
     let same : next ≡ run.0 = ap (λ (o : Outcome). result_unwrap_or o now) (sym gives ∙ run.1.0) in
     of_voters Holds run.0 target c steps run.1.1 run.2 (subst (λ d. HasVotersOnTheWay d steps c) same has)
 
-each-of_voters : (Holds : Voters → Type 0) (now target : Configuration) (steps others : List Step) → Holds (voters_of now) → EachOnTheWay (λ c. Holds (voters_of c)) now steps target
+pub each-of_voters : (Holds : Voters → Type 0) (now target : Configuration) (steps others : List Step) → Holds (voters_of now) → EachOnTheWay (λ c. Holds (voters_of c)) now steps target
     → EachOnTheWay (HasVotersOnTheWay now steps) now others target → EachOnTheWay (λ c. Holds (voters_of c)) now others target
 each-of_voters Holds now target steps others holds run alike =
     IsRunWith-weaker (λ before step after. HasVotersOnTheWay now steps after) (λ before step after. Holds (voters_of after))
     (λ before after step has. of_voters Holds now target after steps holds run has) now target others alike
 
-pub one_change_each-leads : (strategy : Strategy) (down : Ids) (now target : Configuration) → IsValidWithVoter now → IsValidWithVoter target → has_path strategy now target ≡ true
-    → LeadsChangeByChange now (path_by strategy down now target) target
-one_change_each-leads strategy down now target now_valid_with_voter valid_with_voter way =
-    let steps = path_by strategy down now target in
-    let voters = one_change_each-keeps_voters now target steps (path_by-splits strategy down now target now_valid_with_voter valid_with_voter way) in
-    record {
-      run = IsRun-from_IsRunWith (λ before step after. HasVotersOnTheWay now steps after) now target (one_change_each steps) voters;
-      voters = voters;
-      quorums = λ keeps.
-          each-of_voters (λ v. (ids : Ids) → IsTrue (is_quorum (voters_of now) ids) → IsTrue (is_quorum (voters_of target) ids) → IsTrue (is_quorum v ids)) now target steps (one_change_each steps)
-          (λ ids of_now of_target. of_now) keeps voters;
-      tolerance = λ others keeps.
-          each-of_voters (λ v. (k : ℕ) → Tolerates (voters_of now) others k → Tolerates (voters_of target) others k → Tolerates v others k) now target steps (one_change_each steps)
-          (λ k by_now by_target. by_now) keeps voters;
-    }
+pub path_by-keeps_voters : (strategy : Strategy) (down : Ids) (now target : Configuration) → IsValidWithVoter now → IsValidWithVoter target → has_path strategy now target ≡ true
+    → EachOnTheWay (HasVotersOnTheWay now (path_by strategy down now target)) now (one_change_each (path_by strategy down now target)) target
+path_by-keeps_voters strategy down now target now_valid_with_voter valid_with_voter way =
+    one_change_each-keeps_voters now target (path_by strategy down now target)
+    (path_by-of_proposals Splits strategy down now target now_valid_with_voter valid_with_voter way Splits-of_proposals)

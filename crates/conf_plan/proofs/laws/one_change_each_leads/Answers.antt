@@ -1,4 +1,4 @@
-use Rattle.conf_plan.proofs.OnTheWay.OneChangeEach.{one_change_each-leads}
+use Rattle.conf_plan.proofs.OnTheWay.ChangeByChange.{one_change_each-leads}
 use Rattle.conf_plan.proofs.laws.one_change_each_leads.Goals as goal
 
 pub returns : goal.returns
