@@ -53,8 +53,8 @@ impl From<ConfStateFault> for ConfigurationFault {
     }
 }
 
-/// Reads a line in the form that `write_conf_state` appends, and returns the valid configuration that it describes
-///. Any other line is refused with the first reason, such as `3 is listed twice`.
+/// Reads a line in the form that `write_conf_state` appends, and returns the valid configuration that it describes.
+/// Any other line is refused with the first reason, such as `3 is listed twice`.
 pub fn read_configuration<S: MemberSet>(
     alloc: Global,
     line: &[u8],

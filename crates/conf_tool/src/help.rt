@@ -97,6 +97,8 @@ expected output, unless the output stands between two pairs of lines of dashes.
 A directive line that ends in a backslash continues on the next. A line that
 begins with # is a comment.
 
+The script files of etcd's raft expect --next-floor 0.
+
 Commands that read a list of changes (see confscript help lines):
   simple         at most one of them changes who votes
   enter-joint    enters a joint configuration; autoleave=true or false (default)
@@ -189,7 +191,7 @@ the other; except in json, an empty line separates two pairs. Blank lines and
 lines that begin with # are skipped.
 
 A configuration is written in one of these forms:
-  voters=(1 2 3)&&(1 2) learners=(4) learners_next=(1) autoleave
+  voters=(1 2)&&(1 2 3) learners=(4) learners_next=(3) autoleave
               as this program prints it, without what is empty
   Voters:[1 2 3] VotersOutgoing:[] Learners:[4] LearnersNext:[] AutoLeave:false
               as the command conf-state prints it

@@ -43,8 +43,8 @@ impl<S: MemberSet> Model for Stage<S> {
 }
 
 impl<S: MemberSet> Stage<S> {
-    // The stage before the first step, where no member has to catch up.
-    pub(crate) fn first(alloc: Global, now: &Config<S>) -> Result<Stage<S>, NoMemory>
+    /// The stage before the first step, where no member has to catch up.
+    pub fn first(alloc: Global, now: &Config<S>) -> Result<Stage<S>, NoMemory>
         ensures { IfOk result (λ stage. stage ≡ first_stage now.now) }
     {
         Ok(Stage {
@@ -53,8 +53,8 @@ impl<S: MemberSet> Stage<S> {
         })
     }
 
-    // The stage that a step leads to. A step that is refused changes nothing.
-    pub(crate) fn next(&self, alloc: Global, step: &Step) -> Result<Stage<S>, NoMemory>
+    /// The stage that a step leads to. A step that is refused changes nothing.
+    pub fn next(&self, alloc: Global, step: &Step) -> Result<Stage<S>, NoMemory>
         ensures { IfOk result (λ stage. stage ≡ stage_after self.now.config step.now) }
     {
         let config = after_step(&self.config, step)?;

@@ -1,0 +1,3 @@
+pub mod FirstAnswer
+pub mod IdsByMember
+pub mod RemovedIds

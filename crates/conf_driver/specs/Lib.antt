@@ -1,0 +1,5 @@
+pub mod IdSets
+pub mod View
+pub mod Situation
+pub mod Rows
+pub mod Next

@@ -1,0 +1,124 @@
+//! The rows of the table that look at the view alone: whether it is a base for anything.
+ghost use Rattle.std.specs.Prelude.{◌≡◌, IfOk};
+ghost use Rattle.quorum_sets.specs.Voters.{is_quorum};
+ghost use Rattle.conf_change.specs.Configuration.{voters_of};
+ghost use Rattle.conf_driver.specs.IdSets as id_sets;
+ghost use Rattle.conf_driver.specs.IdSets.{◌∩◌, ◌∪◌};
+ghost use Rattle.conf_driver.specs.Rows as spec;
+
+use crate::action::{Action, StuckReason, WaitReason};
+use crate::sets::{common, just, or_else, without};
+use crate::situation::Situation;
+use conf_change::union;
+use quorum_sets::{InlineIds, MemberSet, NoMemory, is_quorum};
+use std::alloc::Global;
+
+impl Situation {
+    // The first of these rows that applies.
+    pub(crate) fn answer_of_view(&self, alloc: Global) -> Result<Option<Action>, NoMemory>
+        ensures { IfOk result (λ answer. answer ≡ spec.first_of (spec.rows_of_view self.now)) }
+    {
+        if let Some(answer) = self.quorum_lost()? {
+            return Ok(Some(answer));
+        }
+        if let Some(answer) = self.down_is_heard(alloc)? {
+            return Ok(Some(answer));
+        }
+        if let Some(answer) = self.no_leader()? {
+            return Ok(Some(answer));
+        }
+        if let Some(answer) = self.outgoing_leads()? {
+            return Ok(Some(answer));
+        }
+        self.pending(alloc)
+    }
+
+    fn quorum_lost(&self) -> Result<Option<Action>, NoMemory>
+        ensures { IfOk result (λ answer. answer ≡ spec.quorum_lost self.now) }
+    {
+        let counted = without(&self.voters, &self.down)?;
+        if self.is_quorum_before(&counted) {
+            return Ok(None);
+        }
+        let lost = common(&self.voters, &self.down)?;
+        Ok(Some(Action::Stuck(StuckReason::QuorumLost, lost)))
+    }
+
+    // Whether the ids are a quorum before the step.
+    pub(crate) fn is_quorum_before(&self, ids: &InlineIds) -> bool
+        ensures { result ≡ is_quorum (voters_of self.now.before) ids.now }
+    {
+        is_quorum((&self.before.incoming, &self.before.outgoing), ids)
+    }
+
+    fn down_is_heard(&self, alloc: Global) -> Result<Option<Action>, NoMemory>
+        ensures { IfOk result (λ answer. answer ≡ spec.down_is_heard self.now) }
+    {
+        let seen = self.heard_or_leading(alloc)?;
+        Ok(wait_if_any(WaitReason::Heard, common(&self.down, &seen)?))
+    }
+
+    // The members that are heard from, and who leads.
+    fn heard_or_leading(&self, alloc: Global) -> Result<InlineIds, NoMemory>
+        ensures { IfOk result (λ ids. ids ≡ (self.now.heard ∩ self.now.members ∪ id_sets.just self.now.lead)) }
+    {
+        let lead = just(alloc, self.lead)?;
+        let heard = common(&self.heard, &self.members)?;
+        union(&heard, &lead)
+    }
+
+    fn no_leader(&self) -> Result<Option<Action>, NoMemory>
+        ensures { IfOk result (λ answer. answer ≡ spec.no_leader self.now) }
+    {
+        if self.lead != 0 {
+            return Ok(None);
+        }
+        let counted = without(&self.voters, &self.down)?;
+        let silent = without(&counted, &self.heard)?;
+        Ok(Some(Action::Wait(WaitReason::NoLeader, or_else(silent, counted))))
+    }
+
+    fn outgoing_leads(&self) -> Result<Option<Action>, NoMemory>
+        ensures { IfOk result (λ answer. answer ≡ spec.outgoing_leads self.now) }
+    {
+        let now = &self.before;
+        if !self.is_pending || !now.is_joint() || now.incoming.contains(self.lead) {
+            return Ok(None);
+        }
+        let could = common(&self.before.incoming, &self.up)?;
+        self.transfer_to_one(&could)
+    }
+
+    fn pending(&self, alloc: Global) -> Result<Option<Action>, NoMemory>
+        ensures { IfOk result (λ answer. answer ≡ spec.is_pending self.now) }
+    {
+        if !self.is_pending {
+            return Ok(None);
+        }
+        let lack = self.lack_pending.try_clone()?;
+        let ids = or_else(lack, just(alloc, self.lead)?);
+        Ok(Some(Action::Wait(WaitReason::Pending, ids)))
+    }
+
+    // To make one of these ids the leader, if there are any.
+    pub(crate) fn transfer_to_one(&self, ids: &InlineIds) -> Result<Option<Action>, NoMemory>
+        ensures { IfOk result (λ answer. answer ≡ spec.transfer_to_one self.now ids.now) }
+    {
+        let staying = common(ids, &self.target.incoming)?;
+        match staying.at(0) {
+            Some(id) => Ok(Some(Action::Transfer(id))),
+            None => Ok(ids.at(0).map(Action::Transfer)),
+        }
+    }
+}
+
+// To wait for these ids, if there are any.
+pub(crate) fn wait_if_any(why: WaitReason, ids: InlineIds) -> Option<Action>
+    ensures { result ≡ spec.if_any ids (Action.Wait why) }
+{
+    if ids.len() == 0 {
+        None
+    } else {
+        Some(Action::Wait(why, ids))
+    }
+}

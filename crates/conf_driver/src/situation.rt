@@ -1,0 +1,209 @@
+//! What the table of [`next`](crate::next) looks at.
+ghost use Rattle.std.specs.Prelude.{◌≡◌, IfOk};
+ghost use Rattle.conf_change.specs.Configuration.{member_ids};
+ghost use Rattle.conf_driver.specs.IdSets.{◌∖◌};
+ghost use Rattle.conf_driver.specs.Situation as spec;
+ghost use Rattle.conf_driver.specs.View as view_spec;
+ghost use Rattle.conf_driver.specs.Situation.{situation_of};
+
+use crate::sets::without;
+use crate::view::{View, heard_from, lacking, up_and_caught_up};
+use conf_change::{Config, union};
+use conf_plan::Path;
+use plan_output::stages;
+use quorum_sets::{InlineIds, MemberSet, NoMemory, may_be_down};
+use std::alloc::Global;
+
+/// The configurations before and after the first step of the path, and sets of ids.
+#[derive(Drop)]
+pub struct Situation {
+    // The configuration that the leader has applied.
+    pub(crate) before: Config<InlineIds>,
+    // The configuration after the first step, or the same if there is none.
+    pub(crate) after: Config<InlineIds>,
+    pub(crate) target: Config<InlineIds>,
+    // Whether the path has a step.
+    pub(crate) has_step: bool,
+    // Whether the path stalls with the ids that are down.
+    pub(crate) stalls: bool,
+    // The voters and the members now.
+    pub(crate) voters: InlineIds,
+    pub(crate) members: InlineIds,
+    // The voters after the step, and who may lead then.
+    pub(crate) voters_after: InlineIds,
+    pub(crate) leaders_after: InlineIds,
+    // Who is down, who is heard from, and who is up and has caught up.
+    pub(crate) down: InlineIds,
+    pub(crate) heard: InlineIds,
+    pub(crate) up: InlineIds,
+    // The servers that run, and those that were stopped for good.
+    pub(crate) running: InlineIds,
+    pub(crate) retired: InlineIds,
+    // Who leads, or 0.
+    pub(crate) lead: u64,
+    // Whether a change is not applied, and the voters that are not down and lack its entry.
+    pub(crate) is_pending: bool,
+    pub(crate) lack_pending: InlineIds,
+    // The voters that are not down and do not know the configuration.
+    pub(crate) lack_configuration: InlineIds,
+}
+
+// The situation on the way to a target by the steps of this path.
+pub(crate) fn situation_of(
+    alloc: Global,
+    target: &Config<InlineIds>,
+    down: &InlineIds,
+    view: &View,
+    path: &Path,
+    stalls: bool,
+) -> Result<Situation, NoMemory>
+    ensures { IfOk result (λ s. s ≡ situation_of target.now down.now view.now path.now stalls) }
+{
+    let configurations = configurations(alloc, target, view, path)?;
+    let members = members_of(&configurations.0, &configurations.1)?;
+    let servers = servers(down, view)?;
+    let lacking = lacking_voters(&members.0, down, view)?;
+    let seen = seen(alloc, down, view)?;
+    let (before, after, target) = configurations;
+    let (voters, members, voters_after, leaders_after) = members;
+    let (down, running, retired) = servers;
+    let (lack_pending, lack_configuration) = lacking;
+    let (heard, up) = seen;
+    Ok(Situation {
+        before,
+        after,
+        target,
+        has_step: path.len() != 0,
+        stalls,
+        voters,
+        members,
+        voters_after,
+        leaders_after,
+        down,
+        heard,
+        up,
+        running,
+        retired,
+        lead: view.lead,
+        is_pending: view.pending_conf_index != 0,
+        lack_pending,
+        lack_configuration,
+    })
+}
+
+// The configurations before and after the first step, and the target.
+fn configurations(
+    alloc: Global,
+    target: &Config<InlineIds>,
+    view: &View,
+    path: &Path,
+) -> Result<(Config<InlineIds>, Config<InlineIds>, Config<InlineIds>), NoMemory>
+    ensures { IfOk result (λ all. all ≡ (view.now.conf_state, spec.after_first view.now.conf_state path.now, target.now)) }
+{
+    let before = view.conf_state.try_clone()?;
+    let after = after_first(alloc, &before, path)?;
+    Ok((before, after, target.try_clone()?))
+}
+
+// The voters and the members before the step, the voters after it, and who may lead then.
+fn members_of(
+    now: &Config<InlineIds>,
+    after: &Config<InlineIds>,
+) -> Result<(InlineIds, InlineIds, InlineIds, InlineIds), NoMemory>
+    ensures { IfOk result (λ all. all
+        ≡ (spec.voter_ids now.now, member_ids now.now, spec.voter_ids after.now, spec.leader_ids after.now)) }
+{
+    let voters = voter_ids(now)?;
+    let members = now.members()?;
+    let voters_after = voter_ids(after)?;
+    Ok((voters, members, voters_after, leader_ids(after)?))
+}
+
+// Who is heard from, and who is up and has caught up.
+fn seen(alloc: Global, down: &InlineIds, view: &View) -> Result<(InlineIds, InlineIds), NoMemory>
+    ensures { IfOk result (λ all. all ≡ (view_spec.heard_from view.now, view_spec.up_and_caught_up down.now view.now)) }
+{
+    let heard = heard_from(alloc, view)?;
+    Ok((heard, up_and_caught_up(alloc, down, view)?))
+}
+
+// Who is down, who runs, and who was stopped for good.
+fn servers(down: &InlineIds, view: &View) -> Result<(InlineIds, InlineIds, InlineIds), NoMemory>
+    ensures { IfOk result (λ all. all ≡ (down.now, view.now.running, view.now.retired)) }
+{
+    let down = down.try_clone()?;
+    let running = view.running.try_clone()?;
+    Ok((down, running, view.retired.try_clone()?))
+}
+
+// The voters that are not down and lack the change that is pending, and those that do not know the configuration.
+fn lacking_voters(
+    voters: &InlineIds,
+    down: &InlineIds,
+    view: &View,
+) -> Result<(InlineIds, InlineIds), NoMemory>
+    ensures { IfOk result (λ all. all
+        ≡ (
+          view_spec.lacking view.now view.now.pending_conf_index (voters.now ∖ down.now),
+          view_spec.lacking view.now view.now.conf_index (voters.now ∖ down.now),
+        )) }
+{
+    let counted = without(voters, down)?;
+    let lack_pending = lacking(view, view.pending_conf_index, &counted)?;
+    Ok((lack_pending, lacking(view, view.conf_index, &counted)?))
+}
+
+// The configuration after the first step, if there is one.
+fn after_first(
+    alloc: Global,
+    now: &Config<InlineIds>,
+    path: &Path,
+) -> Result<Config<InlineIds>, NoMemory>
+    ensures { IfOk result (λ after. after ≡ spec.after_first now.now path.now) }
+{
+    let stages = stages(alloc, now, path)?;
+    match stages.get(1) {
+        Some(stage) => stage.config().try_clone(),
+        None => now.try_clone(),
+    }
+}
+
+// The voters of a configuration, incoming and outgoing.
+pub(crate) fn voter_ids(config: &Config<InlineIds>) -> Result<InlineIds, NoMemory>
+    ensures { IfOk result (λ ids. ids ≡ spec.voter_ids config.now) }
+{
+    union(&config.incoming, &config.outgoing)
+}
+
+// Who may lead once the configuration is reached.
+fn leader_ids(config: &Config<InlineIds>) -> Result<InlineIds, NoMemory>
+    ensures { IfOk result (λ ids. ids ≡ spec.leader_ids config.now) }
+{
+    if config.auto_leave {
+        config.incoming.try_clone()
+    } else {
+        voter_ids(config)
+    }
+}
+
+// How many of these ids may fail while the rest is a quorum of the configuration.
+pub(crate) fn tolerance(
+    config: &Config<InlineIds>,
+    ids: &InlineIds,
+) -> Result<Option<usize>, NoMemory>
+    ensures { IfOk result (λ most. most ≡ spec.tolerance config.now ids.now) }
+{
+    let uncounted = without(&voter_ids(config)?, ids)?;
+    Ok(may_be_down((&config.incoming, &config.outgoing), &uncounted))
+}
+
+// Whether the first number is smaller; no number is smaller than each number.
+pub(crate) fn is_less(first: Option<usize>, second: Option<usize>) -> bool
+    ensures { result ≡ spec.is_less first second }
+{
+    match (first, second) {
+        (_, None) => false,
+        (None, Some(_)) => true,
+        (Some(first), Some(second)) => first < second,
+    }
+}
