@@ -109,6 +109,12 @@ static struct confscript_answer stages(void) {
     return confscript_stages(configuration, configuration_len, target, target_len, strategy, down, down_len, numbers, numbers_room);
 }
 
+static uint64_t view[ROOM];
+static size_t view_len;
+static struct confscript_answer next(void) {
+    return confscript_next(configuration, configuration_len, target, target_len, strategy, down, down_len, view, view_len, numbers, numbers_room);
+}
+
 static uint32_t code;
 static struct confscript_answer status_text(void) { return confscript_status_text(code, out, room); }
 
@@ -174,7 +180,7 @@ static void texts(void) {
         "auto-leave without outgoing voters", "the counts do not match the length", "a vote is neither 0, 1 nor 2",
         "the voters are no quorum", "unknown strategy", "the target is joint", "unknown step", "unknown kind of change", "unknown output",
         "no form of a configuration", "not a printed configuration", "not the JSON of a configuration", "not a list of changes",
-        "down and not a member", "unknown status"};
+        "down and not a member", "by this strategy the cluster may stall", "unknown status"};
     room = ROOM;
     for (code = 0; code < sizeof words / sizeof *words; code++)
         expect(words[code], status_text, CONFSCRIPT_STATUS_DONE, strlen(words[code]), words[code]);
@@ -745,6 +751,107 @@ static void planned_stages(void) {
            CONFSCRIPT_STEP_AUTO, 0, 0, 0, 1, LEARNER, 3, 0, 1, 0, 2, 0, 1, 1, 2, 3, 3);
 }
 
+#define VIEW(...) SET(view, __VA_ARGS__)
+/* Expects this action, or that it is refused. */
+#define NEXT(name, ...) expect_numbers(name, next, ALWAYS, CONFSCRIPT_STATUS_DONE, sizeof((uint64_t[]){__VA_ARGS__}) / sizeof(uint64_t), NUMBERS(__VA_ARGS__))
+/* Before the members are read, no memory is taken. */
+#define NO_NEXT(name, memory, status, number) expect_numbers(name, next, memory, status, number, NULL, 0)
+/* The members 1 to 3 have all 9 entries and were heard from. */
+#define THREE_MEMBERS 1, 9, 1, 2, 9, 1, 3, 9, 1
+
+static void next_actions(void) {
+    strategy = CONFSCRIPT_STRATEGY_LEARNERS_FIRST;
+    down_len = 0;
+    GIVEN(0, 3, 0, 0, 0, 0, 3, 1, 2);
+    TARGET(0, 3, 0, 0, 0, 0, 1, 2, 4);
+    VIEW(5, 1, 9, 0, 0, 3, 3, 0, THREE_MEMBERS, 1, 2, 3);
+    NEXT("next: start", CONFSCRIPT_ACTION_START, 0, 1, 4);
+    numbers_room = 4;
+    NEXT("next: it just fits", CONFSCRIPT_ACTION_START, 0, 1, 4);
+    numbers_room = 3;
+    NO_NEXT("next: one number too small", ALWAYS, CONFSCRIPT_STATUS_TOO_SMALL, 4);
+    numbers_room = ROOM;
+    VIEW(5, 1, 9, 0, 0, 3, 4, 0, THREE_MEMBERS, 1, 2, 3, 4);
+    NEXT("next: propose", CONFSCRIPT_ACTION_PROPOSE, 0, 0,
+         CONFSCRIPT_STEP_AUTO, 1, 1, 1, 1, LEARNER, 4, 0, 3, 0, 1, 0, 1, 1, 2, 3, 4, 4);
+    VIEW(5, 1, 9, 10, 0, 3, 4, 0, THREE_MEMBERS, 1, 2, 3, 4);
+    NEXT("next: a change is pending", CONFSCRIPT_ACTION_WAIT, CONFSCRIPT_REASON_PENDING, 3, 1, 2, 3);
+    VIEW(5, 0, 9, 0, 0, 3, 4, 0, THREE_MEMBERS, 1, 2, 3, 4);
+    NEXT("next: no leader", CONFSCRIPT_ACTION_WAIT, CONFSCRIPT_REASON_NO_LEADER, 3, 1, 2, 3);
+    VIEW(5, 1, 9, 0, 0, 3, 3, 1, THREE_MEMBERS, 1, 2, 3, 4);
+    NEXT("next: an id is reused", CONFSCRIPT_ACTION_STUCK, CONFSCRIPT_REASON_REUSED, 1, 4);
+    GIVEN(0, 3, 0, 1, 0, 0, 3, 1, 2, 4);
+    VIEW(5, 1, 60, 0, 0, 4, 4, 0, 1, 60, 1, 2, 60, 1, 3, 60, 1, 4, 17, 1, 1, 2, 3, 4);
+    NEXT("next: behind", CONFSCRIPT_ACTION_WAIT, CONFSCRIPT_REASON_BEHIND, 1, 4);
+    VIEW(5, 1, 60, 0, 43, 4, 4, 0, 1, 60, 1, 2, 60, 1, 3, 60, 1, 4, 17, 1, 1, 2, 3, 4);
+    NEXT("next: within the lag", CONFSCRIPT_ACTION_PROPOSE, 0, 0,
+         CONFSCRIPT_STEP_EXPLICIT, 1, 1, 1, 2, REMOVE, 3, VOTER, 4, 0, 3, 3, 0, 0, 0, 1, 2, 4, 1, 2, 3);
+    VIEW(5, 1, 60, 0, 43, 4, 4, 0, 1, 60, 1, 2, 60, 1, 3, 60, 1, 4, 17, 0, 1, 2, 3, 4);
+    NEXT("next: unheard", CONFSCRIPT_ACTION_WAIT, CONFSCRIPT_REASON_UNHEARD, 1, 4);
+    GIVEN(0, 3, 3, 0, 0, 0, 1, 2, 4, 1, 2, 3);
+    VIEW(5, 3, 9, 0, 0, 4, 4, 0, THREE_MEMBERS, 4, 9, 1, 1, 2, 3, 4);
+    NEXT("next: transfer", CONFSCRIPT_ACTION_TRANSFER, 0, 1, 1);
+    GIVEN(1, 3, 3, 0, 0, 0, 1, 2, 4, 1, 2, 3);
+    NEXT("next: leaving", CONFSCRIPT_ACTION_WAIT, CONFSCRIPT_REASON_LEAVING, 1, 3);
+    DOWN(1, 2, 4);
+    NEXT("next: quorum is lost", CONFSCRIPT_ACTION_STUCK, CONFSCRIPT_REASON_QUORUM_LOST, 3, 1, 2, 4);
+    GIVEN(0, 3, 0, 0, 0, 0, 1, 2, 4);
+    DOWN(4);
+    NEXT("next: heard", CONFSCRIPT_ACTION_WAIT, CONFSCRIPT_REASON_HEARD, 1, 4);
+    VIEW(5, 1, 9, 0, 0, 2, 4, 0, 1, 9, 1, 2, 9, 1, 1, 2, 3, UINT64_MAX);
+    NEXT("next: stop", CONFSCRIPT_ACTION_STOP, 0, 2, 3, UINT64_MAX);
+    VIEW(5, 1, 9, 0, 0, 2, 3, 2, 1, 9, 1, 2, 9, 1, 1, 2, 4, 3, UINT64_MAX);
+    NEXT("next: done", CONFSCRIPT_ACTION_DONE, 0, 0);
+    DOWN(4, 9);
+    NEXT("next: an id is down that is not a member", CONFSCRIPT_ACTION_DONE, 0, 0);
+    GIVEN(0, 3, 0, 0, 0, 0, 1, 2, 3);
+    TARGET(0, 2, 0, 0, 0, 0, 3, 4);
+    DOWN(4);
+    VIEW(5, 1, 9, 0, 0, 3, 4, 0, THREE_MEMBERS, 1, 2, 3, 4);
+    NEXT("next: the plan stalls", CONFSCRIPT_ACTION_STUCK, CONFSCRIPT_REASON_STALLS, 1, 4);
+}
+
+/* Each refusal, with those that come after it. */
+static void refused_next(void) {
+    configuration_len = target_len = view_len = 0;
+    strategy = 3;
+    DOWN(1, 0);
+    NO_NEXT("next: no such strategy", NEVER, CONFSCRIPT_STATUS_BAD_STRATEGY, 0);
+    strategy = CONFSCRIPT_STRATEGY_SHORTEST;
+    NO_NEXT("next: the id 0 is down", NEVER, CONFSCRIPT_STATUS_ZERO_ID, 0);
+    down_len = 0;
+    NO_NEXT("next: no numbers", NEVER, CONFSCRIPT_STATUS_DIFFERENT_LENGTHS, 0);
+    GIVEN(0, 1, 0, 1, 0, 0, 1, 1);
+    NO_NEXT("next: learner and voter", NEVER, CONFSCRIPT_STATUS_LEARNER_AND_VOTER, 1);
+    GIVEN(0, 0, 0, 1, 0, 0, 1);
+    NO_NEXT("next: no numbers of the target", NEVER, CONFSCRIPT_STATUS_DIFFERENT_LENGTHS, 0);
+    TARGET(0, 0, 0, 0, 0, 0);
+    NO_NEXT("next: no numbers of the view", NEVER, CONFSCRIPT_STATUS_DIFFERENT_LENGTHS, 0);
+    VIEW(5, 1, 9, 0, 0, 0, 0);
+    NO_NEXT("next: a count of the view is missing", NEVER, CONFSCRIPT_STATUS_DIFFERENT_LENGTHS, 0);
+    VIEW(5, 1, 9, 0, 0, 1, 0, 0, 1, 9);
+    NO_NEXT("next: a number of the view is missing", NEVER, CONFSCRIPT_STATUS_DIFFERENT_LENGTHS, 0);
+    VIEW(5, 1, 9, 0, 0, 1, 0, 0, 1, 9, 1, 1);
+    NO_NEXT("next: a number of the view too many", NEVER, CONFSCRIPT_STATUS_DIFFERENT_LENGTHS, 0);
+    VIEW(5, 1, 9, 0, 0, UINT64_MAX / 3 + 2, 0, 0, 1, 9, 1, 1, 1);
+    NO_NEXT("next: counts of the view that wrap around", NEVER, CONFSCRIPT_STATUS_DIFFERENT_LENGTHS, 0);
+    VIEW(5, 1, 9, 0, 0, 1, 0, 0, 1, 9, 2);
+    NO_NEXT("next: no flag of a member", NEVER, CONFSCRIPT_STATUS_DIFFERENT_LENGTHS, 0);
+    VIEW(5, 1, 9, 0, 0, 1, 1, 1, 1, 9, 1, 0, 2);
+    NO_NEXT("next: the id 0 runs", NEVER, CONFSCRIPT_STATUS_ZERO_ID, 0);
+    VIEW(5, 1, 9, 0, 0, 1, 1, 1, 1, 9, 1, 2, 0);
+    NO_NEXT("next: the id 0 is retired", NEVER, CONFSCRIPT_STATUS_ZERO_ID, 0);
+    VIEW(5, 1, 9, 0, 0, 1, 1, 0, 1, 9, 1, 1);
+    NO_NEXT("next: the shortest plan", ALWAYS, CONFSCRIPT_STATUS_STRATEGY_MAY_STALL, 0);
+    strategy = CONFSCRIPT_STRATEGY_ONE_AT_A_TIME;
+    NO_NEXT("next: the first has no voter", ALWAYS, CONFSCRIPT_STATUS_NO_VOTER, 1);
+    GIVEN(0, 1, 0, 0, 0, 0, 1);
+    NO_NEXT("next: the second has no voter", ALWAYS, CONFSCRIPT_STATUS_NO_VOTER, 2);
+    TARGET(0, 1, 1, 0, 0, 0, 2, 1);
+    NO_NEXT("next: one at a time into a joint configuration", ALWAYS, CONFSCRIPT_STATUS_JOINT_TARGET, 0);
+    strategy = CONFSCRIPT_STRATEGY_SHORTEST;
+}
+
 /* Each refusal, with those that come after it. */
 static void refused_stages(void) {
     configuration_len = target_len = 0;
@@ -1027,6 +1134,8 @@ int main(void) {
     refused_steps();
     planned_stages();
     refused_stages();
+    next_actions();
+    refused_next();
     null_pointers();
     rooms();
     questions();

@@ -7,8 +7,6 @@ package confscript
 */
 import "C"
 
-import "unsafe"
-
 // ConfState is a configuration, with the field names of raftpb.ConfState, also in JSON, which Plan reads. The ids of a
 // list may be in any order.
 type ConfState struct {
@@ -67,7 +65,7 @@ type ConfChangeV2 struct {
 func ApplyConfChange(state ConfState, change ConfChangeV2) (next ConfState, fresh []uint64, err error) {
 	switch change.Transition {
 	case ConfChangeTransitionAuto, ConfChangeTransitionJointImplicit, ConfChangeTransitionJointExplicit:
-		return step(state, C.uint32_t(change.Transition), change.Changes)
+		return step(state, uint32(change.Transition), change.Changes)
 	default:
 		// The library has steps of other numbers, which are not transitions.
 		return ConfState{}, nil, &Refused{Status: ErrBadStep}
@@ -97,20 +95,12 @@ func LeaveJoint(state ConfState) (next ConfState, fresh []uint64, err error) {
 // when a server restarts.
 func Restore(state ConfState) (restored ConfState, fresh []uint64, err error) {
 	from := state.numbers()
-	return configuration(room(state, 0), func(out *C.uint64_t, room C.size_t) C.struct_confscript_answer {
-		return C.confscript_restore(first(from), C.size_t(len(from)), out, room)
-	})
+	return configuration(room(state, 0), func(out []uint64) answer { return callRestore(from, out) })
 }
 
-func step(state ConfState, kind C.uint32_t, changes []ConfChangeSingle) (ConfState, []uint64, error) {
+func step(state ConfState, kind uint32, changes []ConfChangeSingle) (ConfState, []uint64, error) {
 	from := state.numbers()
-	return configuration(room(state, len(changes)), func(out *C.uint64_t, room C.size_t) C.struct_confscript_answer {
-		list := make([]C.struct_confscript_change, len(changes)+1)
-		for i, change := range changes {
-			list[i] = C.struct_confscript_change{kind: C.uint32_t(change.Type), id: C.uint64_t(change.NodeID)}
-		}
-		return C.confscript_step(first(from), C.size_t(len(from)), kind, &list[0], C.size_t(len(changes)), out, room)
-	})
+	return configuration(room(state, len(changes)), func(out []uint64) answer { return callStep(from, kind, changes, out) })
 }
 
 // size returns how many ids the lists have.
@@ -138,9 +128,9 @@ func room(state ConfState, changes int) int {
 }
 
 // configuration returns the configuration that a call writes into this room, and the members that begin afresh in it.
-func configuration(room int, call func(out *C.uint64_t, room C.size_t) C.struct_confscript_answer) (ConfState, []uint64, error) {
+func configuration(room int, call func(out []uint64) answer) (ConfState, []uint64, error) {
 	out := make([]uint64, room)
-	if _, err := number(call((*C.uint64_t)(unsafe.Pointer(&out[0])), C.size_t(room))); err != nil {
+	if _, err := number(call(out)); err != nil {
 		return ConfState{}, nil, err
 	}
 	state, fresh, _ := read(out)

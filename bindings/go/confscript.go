@@ -18,16 +18,12 @@
 // CGO_LDFLAGS.
 package confscript
 
-/*
-#cgo confscript_pkg_config pkg-config: confscript
-#include "confscript.h"
-*/
+// #include "confscript.h"
 import "C"
 
 import (
 	"fmt"
 	"os"
-	"unsafe"
 )
 
 // An installed library with another major or minor version than the header may have calls with other parameters.
@@ -81,42 +77,28 @@ func PlanBy(options Options, configuration, target string) (string, error) {
 // PlanAs returns the plan from a configuration to a target, as the program prints it with this output.
 func PlanAs(output Output, options Options, configuration, target string) (string, error) {
 	from, to := []byte(configuration), []byte(target)
-	return written(func(out *C.uint8_t, room C.size_t) C.struct_confscript_answer {
-		return C.confscript_plan(start(from), C.size_t(len(from)), start(to), C.size_t(len(to)), C.uint32_t(options.Strategy),
-			C.uint32_t(output), first(options.Down), C.size_t(len(options.Down)), out, room)
-	})
+	return written(func(out []byte) answer { return callPlan(from, to, options.Strategy, output, options.Down, out) })
 }
 
 // Apply returns the ConfState line of the configuration after the steps of a plan. A single step is a plan of one line.
 func Apply(configuration, steps string) (string, error) {
 	from, by := []byte(configuration), []byte(steps)
-	return written(func(out *C.uint8_t, room C.size_t) C.struct_confscript_answer {
-		return C.confscript_apply(start(from), C.size_t(len(from)), start(by), C.size_t(len(by)), out, room)
-	})
+	return written(func(out []byte) answer { return callApply(from, by, out) })
 }
 
 // Check returns what is wrong with the configuration of a ConfState line, or nil.
 func Check(configuration string) error {
-	line := []byte(configuration)
-	_, err := number(C.confscript_check(start(line), C.size_t(len(line))))
+	_, err := number(callCheck([]byte(configuration)))
 	return err
 }
 
 // Version returns the version of the library: 10,000 for each major version, 100 for each minor one, and the patch.
 func Version() uint32 {
-	return uint32(C.confscript_version())
-}
-
-// start returns a pointer to the first byte, which is not nil even if there is none.
-func start(text []byte) *C.uint8_t {
-	if len(text) == 0 {
-		text = make([]byte, 1)
-	}
-	return (*C.uint8_t)(unsafe.Pointer(&text[0]))
+	return libraryVersion()
 }
 
 // number returns the number of an answer, or the error of a call that was refused.
-func number(answer C.struct_confscript_answer) (uint64, error) {
+func number(answer answer) (uint64, error) {
 	if answer.status != C.CONFSCRIPT_STATUS_DONE {
 		return 0, &Refused{Status(answer.status), uint64(answer.number)}
 	}
@@ -124,13 +106,13 @@ func number(answer C.struct_confscript_answer) (uint64, error) {
 }
 
 // written returns the text that a call writes.
-func written(call func(out *C.uint8_t, room C.size_t) C.struct_confscript_answer) (string, error) {
-	text, err := filled(func(out []byte) C.struct_confscript_answer { return call(start(out), C.size_t(len(out))) })
+func written(call func(out []byte) answer) (string, error) {
+	text, err := filled(call)
 	return string(text), err
 }
 
 // filled returns what a call writes to a buffer. If that is too small, the call is made again with a larger one.
-func filled[T byte | uint64](call func(out []T) C.struct_confscript_answer) ([]T, error) {
+func filled[T byte | uint64](call func(out []T) answer) ([]T, error) {
 	out := make([]T, 256)
 	for {
 		answer := call(out)

@@ -21,6 +21,8 @@
  * - `out` overlaps no other argument. While the call runs, nothing else uses `out`, and nothing changes what the other
  *   pointers point to. These may overlap each other.
  * - malloc, realloc and free belong to one allocator, which aligns a block as malloc of the C library does.
+ * - The stack of the thread has room for the call: CONFSCRIPT_STACK bytes, or CONFSCRIPT_STACK_TEXT if it reads a text. JSON
+ *   that is nested takes more, up to CONFSCRIPT_STACK_NESTED; deeper than 127 it is refused.
  * - No call comes from a signal handler, or from the forked child of a process with threads. Otherwise any thread may
  *   call, also at the same time as others.
  * - The processor is an x86-64 of level v2, or an arm64, as the library was built for.
@@ -36,6 +38,11 @@
 #define CONFSCRIPT_VERSION_MINOR 1
 #define CONFSCRIPT_VERSION_PATCH 0
 #define CONFSCRIPT_VERSION (CONFSCRIPT_VERSION_MAJOR * 10000 + CONFSCRIPT_VERSION_MINOR * 100 + CONFSCRIPT_VERSION_PATCH)
+
+/* How many bytes of its thread's stack a call takes at most: with numbers, with a text, and with JSON nested 127 deep. */
+#define CONFSCRIPT_STACK 16384
+#define CONFSCRIPT_STACK_TEXT 32768
+#define CONFSCRIPT_STACK_NESTED 81920
 
 #ifdef __cplusplus
 extern "C" {
@@ -53,15 +60,15 @@ enum confscript_status {
     /* A text is not a ConfState line; for confscript_plan, it begins as one, with `Voters:`. The number is 1 for the
        configuration, and 2 for the target. */
     CONFSCRIPT_STATUS_BAD_CONF_STATE = 3,
-    /* confscript_check, _restore, _step and _stages: a list names an id twice. The number is the id, the first such one
-       of the first such list. */
+    /* confscript_check, _restore, _step, _stages and _next: a list of a configuration names an id twice. The number is
+       the id, the first such one of the first such list. */
     CONFSCRIPT_STATUS_REPEATED_ID = 4,
     /* A text names no configuration that the call accepts. confscript_check says why of a ConfState line, with one
        exception: it accepts a valid configuration with members but no incoming voter, and confscript_apply does not. The
        number is as for CONFSCRIPT_STATUS_BAD_CONF_STATE. */
     CONFSCRIPT_STATUS_NOT_A_CONFIGURATION = 5,
-    /* confscript_plan and _stages: there is no plan, since a configuration has no incoming voter. The number is 1 for
-       the configuration, and 2 for the target. confscript_restore and _step: the configuration has members but no
+    /* confscript_plan, _stages and _next: there is no plan, since a configuration has no incoming voter. The number is
+       1 for the configuration, and 2 for the target. confscript_restore and _step: the configuration has members but no
        incoming voter. */
     CONFSCRIPT_STATUS_NO_VOTER = 6,
     /* A line of the plan is not a step. The number is that of the line, counted from 1. */
@@ -78,9 +85,9 @@ enum confscript_status {
     CONFSCRIPT_STATUS_REMOVED_ALL_VOTERS = 13,
     CONFSCRIPT_STATUS_MORE_THAN_ONE_VOTER = 14,
 
-    /* confscript_check, _restore, _step and _stages: the first of these that is broken, in this order. For 16 to 18 the
-       number is the least id that breaks it. */
-    CONFSCRIPT_STATUS_ZERO_ID = 15,                    /* a set has the id 0, or `down` of confscript_plan and _stages */
+    /* confscript_check, _restore, _step, _stages and _next: the first of these that is broken, in this order. For 16 to
+       18 the number is the least id that breaks it. */
+    CONFSCRIPT_STATUS_ZERO_ID = 15,                    /* a set has the id 0, or `down`, or a list of ids of a view */
     CONFSCRIPT_STATUS_NEXT_NOT_OUTGOING = 16,          /* a next learner is not an outgoing voter */
     CONFSCRIPT_STATUS_NEXT_AND_INCOMING = 17,          /* a next learner is an incoming voter */
     CONFSCRIPT_STATUS_LEARNER_AND_VOTER = 18,          /* a learner is a voter */
@@ -90,18 +97,19 @@ enum confscript_status {
        that lost its log needs a new id. The number is the id. */
     CONFSCRIPT_STATUS_ADDED_AGAIN = 19,
 
-    /* confscript_restore, _step and _stages: the array does not have the form of enum confscript_part. It has fewer than
-       six numbers, its first number is neither 0 nor 1, or its length is not what the counts make it. */
+    /* confscript_restore, _step, _stages and _next: an array does not have the form of enum confscript_part, or for a
+       view of enum confscript_view_part. It has fewer numbers than the counts make it, or more, or in place of a flag
+       another number than 0 and 1. */
     CONFSCRIPT_STATUS_DIFFERENT_LENGTHS = 21,
     /* confscript_vote: a byte is not one of enum confscript_ballot. */
     CONFSCRIPT_STATUS_BAD_VOTE = 22,
     /* confscript_may_be_down: the voters that count are not a quorum even when all are up. */
     CONFSCRIPT_STATUS_NO_QUORUM = 23,
 
-    /* confscript_plan and _stages: the strategy is not one of enum confscript_strategy. */
+    /* confscript_plan, _stages and _next: the strategy is not one of enum confscript_strategy. */
     CONFSCRIPT_STATUS_BAD_STRATEGY = 24,
-    /* confscript_plan and _stages: no plan that changes one member a step leads into a joint configuration, unless it
-       equals the configuration. */
+    /* confscript_plan, _stages and _next: no plan that changes one member a step leads into a joint configuration,
+       unless it equals the configuration. */
     CONFSCRIPT_STATUS_JOINT_TARGET = 25,
 
     /* confscript_step: the step is not one of enum confscript_step_kind. */
@@ -120,7 +128,9 @@ enum confscript_status {
     CONFSCRIPT_STATUS_BAD_CHANGE_LIST = 32, /* the target is in no other form, and is blank or not a list of changes */
     /* confscript_plan and _stages: an id that is down is a member of neither configuration. The number is the least such
        id. */
-    CONFSCRIPT_STATUS_DOWN_NOT_A_MEMBER = 33
+    CONFSCRIPT_STATUS_DOWN_NOT_A_MEMBER = 33,
+    /* confscript_next: the strategy is CONFSCRIPT_STRATEGY_SHORTEST, by which new voters vote with empty logs. */
+    CONFSCRIPT_STATUS_STRATEGY_MAY_STALL = 34
 };
 
 /* How a plan goes from one configuration to another. */
@@ -222,6 +232,60 @@ enum confscript_stage_part {
 /* In place of how many ids may be down: the voters that count are not a quorum even when all are up. */
 #define CONFSCRIPT_STAGE_NO_QUORUM UINT64_MAX
 
+/*
+ * What is known of a cluster, for confscript_next: an array of uint64_t that begins with these five numbers and three
+ * counts, and continues with three numbers for each member (its id, its match, and 1 if it was heard from, else 0), the
+ * ids of the servers that run, and the ids that are retired. Names are those of etcd's raft. A leader takes the numbers
+ * from raft's Status, and a tool from what the members report.
+ */
+enum confscript_view_part {
+    /* Who has this index knows that the configuration is in force. For a leader that applies a change: its last index
+       plus one; for one that begins to lead: its last index. If a match is what the member has applied: the index of
+       the change itself. */
+    CONFSCRIPT_VIEW_CONF_INDEX = 0,
+    CONFSCRIPT_VIEW_LEAD = 1,               /* who leads, or 0 */
+    CONFSCRIPT_VIEW_COMMIT = 2,             /* the leader's commit index */
+    CONFSCRIPT_VIEW_PENDING_CONF_INDEX = 3, /* of a change in the leader's log that it has not applied, or 0 */
+    CONFSCRIPT_VIEW_MAX_LAG = 4,            /* how many committed entries a member that has caught up may lack */
+    CONFSCRIPT_VIEW_MEMBERS = 5,            /* how many members follow */
+    CONFSCRIPT_VIEW_RUNNING = 6,            /* how many servers were started, and not stopped for good */
+    CONFSCRIPT_VIEW_RETIRED = 7,            /* how many were stopped for good */
+    CONFSCRIPT_VIEW_FIRST = 8               /* the first member, if there is one */
+};
+
+/* What to do next. */
+enum confscript_action {
+    CONFSCRIPT_ACTION_START = 0,    /* start these servers, each with an empty log, which must not exist yet */
+    CONFSCRIPT_ACTION_STOP = 1,     /* stop these servers for good: their ids do not come back */
+    CONFSCRIPT_ACTION_TRANSFER = 2, /* transfer leadership to this member */
+    CONFSCRIPT_ACTION_PROPOSE = 3,  /* propose this stage, at once: the leader whose view this is */
+    CONFSCRIPT_ACTION_WAIT = 4,     /* nothing: wait for these ids, for a reason */
+    CONFSCRIPT_ACTION_STUCK = 5,    /* nothing: things being so, the target is not reached, for a reason */
+    CONFSCRIPT_ACTION_DONE = 6      /* nothing: the target is reached */
+};
+
+/* Why to wait, or why the target is not reached. */
+enum confscript_reason {
+    CONFSCRIPT_REASON_NONE = 0,        /* the action is another one */
+    CONFSCRIPT_REASON_NO_LEADER = 1,   /* there is no leader */
+    CONFSCRIPT_REASON_PENDING = 2,     /* a change is not applied yet */
+    CONFSCRIPT_REASON_HEARD = 3,       /* they are named as down, and are heard from, or one leads */
+    CONFSCRIPT_REASON_UNHEARD = 4,     /* they are neither heard from nor named as down */
+    CONFSCRIPT_REASON_BEHIND = 5,      /* they are heard from, and have not caught up */
+    CONFSCRIPT_REASON_LEAVING = 6,     /* raft leaves the joint configuration by itself */
+    CONFSCRIPT_REASON_QUORUM_LOST = 7, /* stuck: the voters that are not down are not a quorum */
+    CONFSCRIPT_REASON_STALLS = 8,      /* stuck: with these ids down, nothing commits in a configuration on the way */
+    CONFSCRIPT_REASON_REUSED = 9       /* stuck: the target adds ids that were stopped for good */
+};
+
+/* An action in numbers: these three, and the ids; for a proposal its stage, as an enum confscript_stage_part. */
+enum confscript_action_part {
+    CONFSCRIPT_ACTION_KIND = 0,   /* an enum confscript_action */
+    CONFSCRIPT_ACTION_REASON = 1, /* an enum confscript_reason */
+    CONFSCRIPT_ACTION_COUNT = 2,  /* how many ids follow, in ascending order */
+    CONFSCRIPT_ACTION_FIRST = 3   /* the first id, or the stage */
+};
+
 struct confscript_answer {
     uint32_t status; /* an enum confscript_status */
     uint64_t number;
@@ -264,7 +328,7 @@ struct confscript_answer confscript_status_text(uint32_t status, uint8_t *out, s
  * Writes to `out` the plan from one configuration to another, by an enum confscript_strategy, as an
  * enum confscript_output: what the program's mode plan prints for the pair. Each text is a configuration in one of these
  * forms:
- *     voters=(1 2 3)&&(1 2) learners=(4) learners_next=(1) autoleave       as the program prints it
+ *     voters=(1 2)&&(1 2 3) learners=(4) learners_next=(3) autoleave       as the program prints it
  *     Voters:[1 2 3] VotersOutgoing:[] Learners:[4] LearnersNext:[] AutoLeave:false
  *     {"voters":[1,2,3],"learners":[4]}                                     a raftpb.ConfState in JSON
  *     {"members":[{"ID":1},{"ID":2},{"ID":4,"isLearner":true}]}             etcdctl member list -w json
@@ -365,6 +429,22 @@ struct confscript_answer confscript_step(const uint64_t *configuration, size_t c
 struct confscript_answer confscript_stages(const uint64_t *configuration, size_t configuration_len,
                                            const uint64_t *target, size_t target_len, uint32_t strategy,
                                            const uint64_t *down, size_t down_len, uint64_t *out, size_t out_len);
+
+/*
+ * Writes to `out` what to do next on the way to a target, as an enum confscript_action_part. Call it on the thread that
+ * owns the raft node, with what the node knows now, do what it says, and call it again. It keeps nothing, so a crash
+ * between two calls does no harm, and neither does the same action twice. docs/SPECIFICATION.md has the rule.
+ *
+ * `configuration` is the one that the leader has applied. The strategy is CONFSCRIPT_STRATEGY_LEARNERS_FIRST or
+ * CONFSCRIPT_STRATEGY_ONE_AT_A_TIME; by the shortest plan new voters vote with empty logs. `down` has the ids that do
+ * not come back: a member that is merely silent is not down. Unlike in confscript_stages, an id that is a member of
+ * neither configuration is ignored. `view` is what else is known, as an enum confscript_view_part; if it lists a member
+ * twice, its first match counts. The configurations are checked as by confscript_stages. The number is how many numbers
+ * are written.
+ */
+struct confscript_answer confscript_next(const uint64_t *configuration, size_t configuration_len, const uint64_t *target,
+                                         size_t target_len, uint32_t strategy, const uint64_t *down, size_t down_len,
+                                         const uint64_t *view, size_t view_len, uint64_t *out, size_t out_len);
 
 /*
  * Returns how many ids may be down, whichever they are, while the other voters in `incoming`, and in `outgoing` if

@@ -2,29 +2,8 @@
 
 package confscript
 
-/*
-#include "confscript.h"
-
-// The values of a few voters, the incoming ones first. They are passed by value, so that Go keeps them on its stack.
-struct few_indexes { uint64_t each[8]; };
-struct more_indexes { uint64_t each[16]; };
-struct few_ballots { uint8_t each[16]; };
-
-static inline uint64_t committed_of_few(struct few_indexes few, size_t incoming, size_t outgoing) {
-	return confscript_committed(few.each, incoming, few.each + incoming, outgoing);
-}
-
-static inline uint64_t committed_of_more(struct more_indexes more, size_t incoming, size_t outgoing) {
-	return confscript_committed(more.each, incoming, more.each + incoming, outgoing);
-}
-
-static inline struct confscript_answer vote_of_few(struct few_ballots few, size_t incoming, size_t outgoing) {
-	return confscript_vote(few.each, incoming, few.each + incoming, outgoing);
-}
-*/
+// #include "confscript.h"
 import "C"
-
-import "unsafe"
 
 // VoteResult is the result of a vote.
 type VoteResult uint64
@@ -47,14 +26,14 @@ const (
 )
 
 // FewVoters is how many voters CommittedOfFew takes, those of both sets together.
-const FewVoters = len(C.struct_few_indexes{}.each)
+const FewVoters = len(fewIndexes{})
 
 // CommittedOfFew is CommittedIndex for a few voters, in the least time: the array has the indexes of the incoming voters and
 // then those of the outgoing ones, as many as the numbers say.
 func CommittedOfFew(indexes *[FewVoters]uint64, incoming, outgoing int) uint64 {
 	// There are as many, or else this panics.
 	_ = indexes[incoming:][:outgoing]
-	return uint64(C.committed_of_few(*(*C.struct_few_indexes)(unsafe.Pointer(indexes)), C.size_t(incoming), C.size_t(outgoing)))
+	return committedOfFew(indexes, incoming, outgoing)
 }
 
 // CommittedIndex returns the committed index of a voter set, or of a joint pair, from the index that each voter has
@@ -66,40 +45,37 @@ func CommittedIndex(incoming, outgoing []uint64) uint64 {
 		copy(few[copy(few[:], incoming):], outgoing)
 		return CommittedOfFew(&few, len(incoming), len(outgoing))
 	}
-	var more C.struct_more_indexes
-	if count <= len(more.each) {
-		all := (*[len(more.each)]uint64)(unsafe.Pointer(&more.each))
-		copy(all[copy(all[:], incoming):], outgoing)
-		return uint64(C.committed_of_more(more, C.size_t(len(incoming)), C.size_t(len(outgoing))))
+	var more moreIndexes
+	if count <= len(more) {
+		copy(more[copy(more[:], incoming):], outgoing)
+		return committedOfMore(&more, len(incoming), len(outgoing))
 	}
 	// The arguments themselves are not passed to C, which would move those of every caller to the heap.
 	all := append(append(make([]uint64, 0, count), incoming...), outgoing...)
-	in, out := all[:len(incoming)], all[len(incoming):]
-	return uint64(C.confscript_committed(first(in), C.size_t(len(in)), first(out), C.size_t(len(out))))
+	return committedOf(all[:len(incoming)], all[len(incoming):])
 }
 
 // TallyVotes returns the result of a vote by a voter set, or by a joint pair, from the ballot of each voter. It is VoteWon
 // if there are no voters. Each ballot counts as that of another voter. A value that is not a ballot counts as NotVoted.
 func TallyVotes(incoming, outgoing []Ballot) VoteResult {
-	var few C.struct_few_ballots
-	if len(incoming)+len(outgoing) <= len(few.each) {
+	var few fewBallots
+	if len(incoming)+len(outgoing) <= len(few) {
 		for i, ballot := range incoming {
-			few.each[i] = cast(ballot)
+			few[i] = cast(ballot)
 		}
 		for i, ballot := range outgoing {
-			few.each[len(incoming)+i] = cast(ballot)
+			few[len(incoming)+i] = cast(ballot)
 		}
-		return VoteResult(C.vote_of_few(few, C.size_t(len(incoming)), C.size_t(len(outgoing))).number)
+		return voteOfFew(&few, len(incoming), len(outgoing))
 	}
-	in, out := castAll(incoming), castAll(outgoing)
-	return VoteResult(C.confscript_vote(start(in), C.size_t(len(in)), start(out), C.size_t(len(out))).number)
+	return voteOf(castAll(incoming), castAll(outgoing))
 }
 
-func cast(ballot Ballot) C.uint8_t {
+func cast(ballot Ballot) Ballot {
 	if ballot > NotVoted {
-		return C.uint8_t(NotVoted)
+		return NotVoted
 	}
-	return C.uint8_t(ballot)
+	return ballot
 }
 
 func castAll(ballots []Ballot) []byte {
@@ -155,14 +131,5 @@ func BallotOf(votes map[uint64]bool, id uint64) Ballot {
 // uncounted ids do not count. A voter that a list names twice counts once. If the voters that count are not a quorum even
 // when all are up, as if there are none, the error wraps ErrNoQuorum.
 func MayBeDown(incoming, outgoing, uncounted []uint64) (uint64, error) {
-	return number(C.confscript_may_be_down(first(incoming), C.size_t(len(incoming)), first(outgoing), C.size_t(len(outgoing)),
-		first(uncounted), C.size_t(len(uncounted))))
-}
-
-// first returns a pointer to the first number, which is not nil even if there is none.
-func first(numbers []uint64) *C.uint64_t {
-	if len(numbers) == 0 {
-		numbers = make([]uint64, 1)
-	}
-	return (*C.uint64_t)(unsafe.Pointer(&numbers[0]))
+	return number(callMayBeDown(incoming, outgoing, uncounted))
 }

@@ -32,10 +32,7 @@ type Stage struct {
 // must have a voter.
 func Stages(options Options, configuration, target ConfState) (stages []Stage, stalls bool, err error) {
 	from, to, down := configuration.numbers(), target.numbers(), options.Down
-	numbers, err := filled(func(out []uint64) C.struct_confscript_answer {
-		return C.confscript_stages(first(from), C.size_t(len(from)), first(to), C.size_t(len(to)), C.uint32_t(options.Strategy),
-			first(down), C.size_t(len(down)), first(out), C.size_t(len(out)))
-	})
+	numbers, err := filled(func(out []uint64) answer { return callStages(from, to, options.Strategy, down, out) })
 	if err != nil {
 		return nil, false, err
 	}

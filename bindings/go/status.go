@@ -48,13 +48,12 @@ const (
 	ErrBadJSON              Status = C.CONFSCRIPT_STATUS_BAD_JSON
 	ErrBadChangeList        Status = C.CONFSCRIPT_STATUS_BAD_CHANGE_LIST
 	ErrDownNotAMember       Status = C.CONFSCRIPT_STATUS_DOWN_NOT_A_MEMBER
+	ErrStrategyMayStall     Status = C.CONFSCRIPT_STATUS_STRATEGY_MAY_STALL
 )
 
 // Error returns what the status means, in words.
 func (status Status) Error() string {
-	text, err := written(func(out *C.uint8_t, room C.size_t) C.struct_confscript_answer {
-		return C.confscript_status_text(C.uint32_t(status), out, room)
-	})
+	text, err := written(func(out []byte) answer { return callStatusText(status, out) })
 	if err != nil {
 		return fmt.Sprintf("status %d", uint32(status))
 	}

@@ -1,4 +1,4 @@
-//go:build !cgo
+//go:build !cgo && (confscript_flags || confscript_pkg_config || (linux && (amd64 || arm64)))
 
 package confscript
 

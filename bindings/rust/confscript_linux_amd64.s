@@ -1,1 +1,1 @@
-../go/confscript_linux_amd64.s
+../go/confscript_linux_amd64.h

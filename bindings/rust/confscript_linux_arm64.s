@@ -1,1 +1,1 @@
-../go/confscript_linux_arm64.s
+../go/confscript_linux_arm64.h

@@ -6,10 +6,15 @@ include/confscript.h says what each call returns.
 A plan leads from a configuration to a target, both of which are str in one of the forms of confscript.h. The target
 may also be a list of changes:
 
-    >>> plan("voters=(1 2 3)", "r1 v4", output=Output.TABLE)
-    >>> apply("Voters:[1 2] ..", plan("Voters:[1 2] ..", "r1 v3"))
+    >>> print(plan("voters=(1 2 3)", "r1 v4"), end="")
+    enter-joint autoleave=false r1 v4
+    leave-joint
 
-`apply` and `check` take a ConfState line.
+`apply` and `check` take a ConfState line:
+
+    >>> apply("Voters:[1 2] VotersOutgoing:[] Learners:[] LearnersNext:[] AutoLeave:false", "simple v3")
+    'Voters:[1 2 3] VotersOutgoing:[] Learners:[] LearnersNext:[] AutoLeave:false'
+
 A program that embeds the library keeps a Configuration and makes its steps by `step`, without texts; `stages` gives it
 a plan as proposals to a raft library.
 
@@ -21,16 +26,19 @@ The library is the one that CONFSCRIPT_LIBRARY names, or else the one in this pa
 not built, the one that the system's loader finds.
 """
 import ctypes
+import dataclasses
 import operator
 import os
 from enum import IntEnum
 from typing import Any, Callable, Iterable, Iterator, List, Mapping, NamedTuple, Optional, Sequence, SupportsIndex, Tuple, Union
 
 __all__ = [
-    "ChangeKind", "ConfChangeSingle", "ConfChangeTransition", "ConfChangeType", "ConfChangeV2", "Configuration", "Output", "Plan", "Refused", "Stage",
-    "Status", "StepKind", "Strategy", "Vote", "apply", "apply_conf_change", "check", "committed", "may_be_down", "plan", "restore", "stages", "step",
+    "Action", "ChangeKind", "ConfChangeSingle", "ConfChangeTransition", "ConfChangeType", "ConfChangeV2", "Configuration", "Done", "MemberView", "Output", "Plan",
+    "Propose", "Refused", "Stage", "Start", "Status", "StepKind", "Stop", "Strategy", "Stuck", "StuckReason", "Transfer", "View", "Vote", "Wait", "WaitReason",
+    "apply", "apply_conf_change", "check", "committed", "committed_index", "may_be_down", "next_action", "plan", "restore", "stages", "step", "tally_votes",
     "version", "vote",
 ]
+__version__ = "0.1.0"
 
 DONE, TOO_SMALL = 0, 1
 # What a stage in numbers has in place of a count, if nothing commits.
@@ -74,6 +82,7 @@ class Status(IntEnum):
     BAD_JSON = 31
     BAD_CHANGE_LIST = 32
     DOWN_NOT_A_MEMBER = 33
+    STRATEGY_MAY_STALL = 34
 
 
 _TEXTS = {
@@ -140,10 +149,15 @@ class Vote(IntEnum):
     WON = 2
 
 
-class Configuration(NamedTuple):
-    """A configuration: etcd's ConfState, and the members whose progress begins afresh in the step that led to it.
+@dataclasses.dataclass(frozen=True)
+class Configuration:
+    """A configuration: etcd's ConfState.
 
-    The ids of a list may be in any order. A call that is passed the configuration ignores `fresh`.
+    The ids of a list may be in any order, and are kept ascending in a tuple: two configurations are equal if their sets are,
+    and may be the keys of a dict. It is printed as the program prints it, and as `plan` reads it:
+
+    >>> print(Configuration([2, 1], [1, 2, 3], learners_next=[3]))
+    voters=(1 2)&&(1 2 3) learners_next=(3)
     """
 
     voters: Sequence[int] = ()
@@ -151,7 +165,18 @@ class Configuration(NamedTuple):
     learners: Sequence[int] = ()
     learners_next: Sequence[int] = ()
     auto_leave: bool = False
-    fresh: Sequence[int] = ()
+
+    def __post_init__(self) -> None:
+        for name in ("voters", "voters_outgoing", "learners", "learners_next"):
+            object.__setattr__(self, name, tuple(sorted(getattr(self, name))))
+
+    def __str__(self) -> str:
+        voters, outgoing, learners, learners_next = (
+            "({})".format(" ".join(map(str, ids))) for ids in (self.voters, self.voters_outgoing, self.learners, self.learners_next)
+        )
+        parts = [("voters=", voters), ("&&", outgoing), (" learners=", learners), (" learners_next=", learners_next)]
+        text = "".join(what + ids for what, ids in parts if ids != "()" or what == "voters=")
+        return text + (" autoleave" if self.auto_leave else "")
 
 
 class ChangeKind(IntEnum):
@@ -213,11 +238,13 @@ class Stage(NamedTuple):
 
     Propose `conf_change` once the stage before it is applied and its members have caught up. A joint configuration with
     auto_leave is left by raft itself: the stage that leaves it is not proposed, but waited for. `conf_state` is the
-    configuration once it is applied; its `fresh` members have to catch up.
+    configuration once it is applied.
     """
 
     conf_change: ConfChangeV2
     conf_state: Configuration
+    # The members that begin afresh there, and have to catch up.
+    catching_up: Tuple[int, ...]
     # How many ids may be down there, whichever they are.
     may_be_down: Optional[int]
     # How many until the members have caught up; None if nothing commits until then.
@@ -234,6 +261,161 @@ class Plan(NamedTuple):
 
     stages: Tuple[Stage, ...]
     stalls: bool
+
+
+class MemberView(NamedTuple):
+    """What is known of a member: the last index at which it has the leader's log, and whether it was heard from lately.
+
+    Raft resets RecentActive only with CheckQuorum.
+    """
+
+    match: int = 0
+    recent_active: bool = False
+
+
+class View(NamedTuple):
+    """What a leader knows of its cluster, or a tool that asks all members. The names are those of etcd's raft."""
+
+    # The configuration that the leader has applied.
+    conf_state: Configuration
+    # Who has this index knows that the configuration is in force. For a leader that applies a change: its last index plus
+    # one; for one that begins to lead: its last index. If `match` is what the member has applied: the index of the change.
+    conf_index: int = 0
+    # Who leads, or 0.
+    lead: int = 0
+    # The leader's commit index.
+    commit: int = 0
+    # The index of a change in the leader's log that it has not applied, or 0.
+    pending_conf_index: int = 0
+    # The members, by id.
+    progress: Mapping[int, MemberView] = {}
+    # The servers that were started, and not stopped for good.
+    running: Iterable[int] = ()
+    # The servers that were stopped for good.
+    retired: Iterable[int] = ()
+
+
+class WaitReason(IntEnum):
+    """Why to wait."""
+
+    NO_LEADER = 1
+    # A change is not applied yet.
+    PENDING = 2
+    # They are named as down, and are heard from, or one leads.
+    HEARD = 3
+    # They are neither heard from nor named as down.
+    UNHEARD = 4
+    # They are heard from, and have not caught up.
+    BEHIND = 5
+    # Raft leaves the joint configuration by itself.
+    LEAVING = 6
+
+
+class StuckReason(IntEnum):
+    """Why the target is not reached."""
+
+    # The voters that are not down are not a quorum.
+    QUORUM_LOST = 7
+    # With these ids down, nothing commits in a configuration on the way.
+    STALLS = 8
+    # The target adds ids that were stopped for good.
+    REUSED = 9
+
+
+class Start(NamedTuple):
+    """Start these servers, each with an empty log that is created, and never opened anew."""
+
+    ids: Tuple[int, ...]
+
+    def __str__(self) -> str:
+        return f"start {_listed(self.ids)}"
+
+
+class Stop(NamedTuple):
+    """Stop these servers for good: their ids do not come back."""
+
+    ids: Tuple[int, ...]
+
+    def __str__(self) -> str:
+        return f"stop {_listed(self.ids)} for good"
+
+
+class Transfer(NamedTuple):
+    """Make this member the leader."""
+
+    to: int
+
+    def __str__(self) -> str:
+        return f"transfer leadership to {self.to}"
+
+
+class Propose(NamedTuple):
+    """Propose this stage, at once, to the leader whose view this is."""
+
+    stage: Stage
+
+    def __str__(self) -> str:
+        return f"propose {_step_of(self.stage.conf_change)}"
+
+
+class Wait(NamedTuple):
+    """Do nothing until these ids are as the reason says.
+
+    `matches` are their indexes, and `needed` the one that they have to have, if the reason is BEHIND or PENDING.
+    """
+
+    reason: WaitReason
+    ids: Tuple[int, ...]
+    needed: int = 0
+    matches: Tuple[int, ...] = ()
+
+    def __str__(self) -> str:
+        ids = _listed(self.ids)
+        if self.reason is WaitReason.BEHIND:
+            return ", ".join(f"{id} has not caught up: {match} of {self.needed}" for id, match in zip(self.ids, self.matches))
+        return {
+            WaitReason.NO_LEADER: f"there is no leader: waiting for {ids}",
+            WaitReason.PENDING: f"the change at index {self.needed} is not applied: waiting for {ids}",
+            WaitReason.HEARD: f"{ids} named as down, but heard from",
+            WaitReason.UNHEARD: f"not heard from {ids}",
+            WaitReason.LEAVING: f"the joint configuration is left automatically: waiting for {ids}",
+        }[self.reason]
+
+
+class Stuck(NamedTuple):
+    """Do nothing, since the target is not reached as things are."""
+
+    reason: StuckReason
+    ids: Tuple[int, ...]
+
+    def __str__(self) -> str:
+        ids = _listed(self.ids)
+        return {
+            StuckReason.QUORUM_LOST: f"quorum is lost with {ids} down",
+            StuckReason.STALLS: f"with {ids} down, nothing commits in a configuration on the way",
+            StuckReason.REUSED: f"stopped for good, and not used again: {ids}",
+        }[self.reason]
+
+
+class Done(NamedTuple):
+    """Do nothing, since the target is reached."""
+
+    def __str__(self) -> str:
+        return "done"
+
+
+# What to do next. As text it is a line for a log.
+Action = Union[Start, Stop, Transfer, Propose, Wait, Stuck, Done]
+
+
+def _listed(ids: Iterable[int]) -> str:
+    return " ".join(map(str, ids))
+
+
+def _step_of(change: ConfChangeV2) -> str:
+    """The line of the step of a plan that a proposal is for."""
+    command = {0: "simple" if change.changes else "leave-joint", 1: "enter-joint autoleave=true", 2: "enter-joint autoleave=false"}[change.transition]
+    return " ".join([command, *("vrul"[single.type] + str(single.node_id) for single in change.changes)])
 
 
 class _Answer(ctypes.Structure):
@@ -277,6 +459,7 @@ for _name, _types in {
     "restore": _IDS * 2,
     "step": (*_IDS, ctypes.c_uint32, ctypes.POINTER(_Change), ctypes.c_size_t, *_IDS),
     "stages": (*_IDS * 2, ctypes.c_uint32, *_IDS * 2),
+    "next": (*_IDS * 2, ctypes.c_uint32, *_IDS * 3),
     "status_text": (ctypes.c_uint32, *_OUT),
 }.items():
     _call = getattr(_library, f"confscript_{_name}")
@@ -337,11 +520,11 @@ def _array(configuration: Configuration) -> List[SupportsIndex]:
     return [bool(configuration.auto_leave), *map(len, parts), 0, *(id for part in parts for id in part)]
 
 
-def _configuration(numbers: Iterator[int]) -> Configuration:
-    """The configuration of an array that a call wrote."""
+def _configuration(numbers: Iterator[int]) -> Tuple[Configuration, Tuple[int, ...]]:
+    """The configuration of an array that a call wrote, and the members that begin afresh in it."""
     auto_leave, *counts = _next(numbers, 6)
-    voters, outgoing, learners, learners_next, fresh = (_next(numbers, count) for count in counts)
-    return Configuration(voters, outgoing, learners, learners_next, bool(auto_leave), fresh)
+    voters, outgoing, learners, learners_next, catching_up = (_next(numbers, count) for count in counts)
+    return Configuration(voters, outgoing, learners, learners_next, bool(auto_leave)), catching_up
 
 
 def _next(numbers: Iterator[int], count: int) -> Tuple[int, ...]:
@@ -349,8 +532,8 @@ def _next(numbers: Iterator[int], count: int) -> Tuple[int, ...]:
     return tuple(next(numbers) for _ in range(count))
 
 
-def _configured(call: Callable[..., _Answer], configuration: Configuration, changes: int, *arguments: Any) -> Configuration:
-    """The configuration that a call writes, for this number of changes.
+def _configured(call: Callable[..., _Answer], configuration: Configuration, changes: int, *arguments: Any) -> Tuple[Configuration, Tuple[int, ...]]:
+    """The configuration that a call writes, for this number of changes, and the members that begin afresh in it.
 
     The buffer has the length of the macro CONFSCRIPT_STEP_ROOM of confscript.h.
     """
@@ -382,6 +565,11 @@ def stages(configuration: Configuration, target: Configuration, strategy: Strate
 
     A simple step of several changes is as many stages of one change each, since raft would take them through a joint
     configuration. Both configurations are checked as by `restore`, and must have a voter.
+
+    >>> for stage in stages(Configuration([1, 2, 3]), Configuration([1, 2, 3, 4]), Strategy.LEARNERS_FIRST).stages:
+    ...     print(stage.conf_change.changes[0].type.name, stage.conf_state, stage.catching_up)
+    ConfChangeAddLearnerNode voters=(1 2 3) learners=(4) (4,)
+    ConfChangeAddNode voters=(1 2 3 4) ()
     """
     ids = [*down]
     arrays = (*_numbers(_array(configuration)), *_numbers(_array(target)))
@@ -396,11 +584,53 @@ def _stage(numbers: Iterator[int], are_down: bool) -> Stage:
     may_be_down, until_then, besides = (None if count == NO_QUORUM else count for count in counts)
     changes = tuple(ConfChangeSingle(ConfChangeType(next(numbers)), next(numbers)) for _ in range(change_count))
     change = ConfChangeV2(ConfChangeTransition(transition), changes)
-    return Stage(change, _configuration(numbers), may_be_down, until_then, besides if are_down else None)
+    return Stage(change, *_configuration(numbers), may_be_down, until_then, besides if are_down else None)
 
 
-def apply_conf_change(configuration: Configuration, change: ConfChangeV2) -> Configuration:
-    """Returns the configuration after a proposal, as raft applies it."""
+def next_action(target: Configuration, view: View, strategy: Strategy, *, down: Iterable[int] = (), max_lag: int = 0) -> Action:
+    """Returns what to do next on the way to a target, by LEARNERS_FIRST or ONE_AT_A_TIME.
+
+    Call it with what is known now, do what it says, and call it again; it keeps nothing. `down` are the ids that do not
+    come back: a member that is merely silent is not down. `max_lag` is how many of the committed entries a member that has
+    caught up may lack. The configuration and the target are checked as by `stages`, but for ids that are down and that
+    neither has, which are ignored.
+    """
+    ids = [*down]
+    arrays = (*_numbers(_array(view.conf_state)), *_numbers(_array(target)))
+    known = _numbers(_view(view, max_lag))
+    numbers = iter(_filled(ctypes.c_uint64, _library.confscript_next, *arrays, _uint(strategy, 32), *_numbers(ids), *known))
+    kind, reason, count = _next(numbers, 3)
+    named = _next(numbers, count)
+    actions: Mapping[int, Callable[[], Action]] = {
+        0: lambda: Start(named),
+        1: lambda: Stop(named),
+        2: lambda: Transfer(*named),
+        3: lambda: Propose(_stage(numbers, bool(ids))),
+        4: lambda: _wait(WaitReason(reason), named, view, max_lag),
+        5: lambda: Stuck(StuckReason(reason), named),
+        6: Done,
+    }
+    return actions[kind]()
+
+
+def _view(view: View, max_lag: SupportsIndex) -> List[SupportsIndex]:
+    """A view as an array (enum confscript_view_part)."""
+    running, retired = [*view.running], [*view.retired]
+    members = [number for id, member in view.progress.items() for number in (id, member.match, bool(member.recent_active))]
+    head = [view.conf_index, view.lead, view.commit, view.pending_conf_index, max_lag]
+    return [*head, len(view.progress), len(running), len(retired), *members, *running, *retired]
+
+
+def _wait(reason: WaitReason, ids: Tuple[int, ...], view: View, max_lag: int) -> Wait:
+    """A wait, with the index that it waits for."""
+    index = {WaitReason.PENDING: view.pending_conf_index, WaitReason.BEHIND: max(view.conf_index, view.commit - max_lag)}.get(reason)
+    if index is None:
+        return Wait(reason, ids)
+    return Wait(reason, ids, index, tuple(view.progress.get(id, MemberView()).match for id in ids))
+
+
+def apply_conf_change(configuration: Configuration, change: ConfChangeV2) -> Tuple[Configuration, Tuple[int, ...]]:
+    """Returns the configuration after a proposal, as raft applies it, and the members that begin afresh in it, as `step`."""
     kind = StepKind(ConfChangeTransition(change.transition))
     return step(configuration, kind, [(ChangeKind(single.type), single.node_id) for single in change.changes])
 
@@ -420,15 +650,22 @@ def committed(incoming: Iterable[int], outgoing: Iterable[int], acknowledged: Ma
 
     An id that is not in the map has acknowledged 0. The committed index is 2**64-1 if there are no voters. A voter that
     is named twice counts once.
+
+    >>> committed([1, 2, 3], [], {1: 9, 2: 7})
+    7
     """
     known = {_uint(id): _uint(index) for id, index in acknowledged.items()}
-    indexes = ([known.get(id, 0) for id in {*map(_uint, voters)}] for voters in (incoming, outgoing))
-    index: int = _library.confscript_committed(*(argument for part in indexes for argument in _numbers(part)))
+    return committed_index(*([known.get(id, 0) for id in {*map(_uint, voters)}] for voters in (incoming, outgoing)))
+
+
+def committed_index(incoming: Iterable[int], outgoing: Iterable[int] = ()) -> int:
+    """Returns what `committed` does from the indexes themselves, each that of another voter."""
+    index: int = _library.confscript_committed(*_numbers(incoming), *_numbers(outgoing))
     return index
 
 
-def _ballots(voters: Iterable[int], votes: Mapping[int, bool]) -> Tuple[bytes, int]:
-    ballots = [votes.get(id) for id in {*map(_uint, voters)}]
+def _ballots(votes: Iterable[Optional[bool]]) -> Tuple[bytes, int]:
+    ballots = [*votes]
     for ballot in ballots:
         if ballot is not None and not isinstance(ballot, bool):
             raise TypeError(f"a vote is a bool, not {ballot!r}")
@@ -439,20 +676,36 @@ def vote(incoming: Iterable[int], outgoing: Iterable[int], votes: Mapping[int, b
     """Returns the result of a vote by a voter set, or by a joint pair; `votes` maps each id that voted to a bool.
 
     It is won if there are no voters. A voter that is named twice counts once.
+
+    >>> vote([1, 2, 3], [], {1: True, 3: True})
+    <Vote.WON: 2>
     """
-    return Vote(_number(_library.confscript_vote(*_ballots(incoming, votes), *_ballots(outgoing, votes))))
+    return tally_votes(*([votes.get(id) for id in {*map(_uint, voters)}] for voters in (incoming, outgoing)))
 
 
-def restore(configuration: Configuration) -> Configuration:
-    """Checks a saved configuration, and returns it with its ids in ascending order and all members beginning afresh.
+def tally_votes(incoming: Iterable[Optional[bool]], outgoing: Iterable[Optional[bool]] = ()) -> Vote:
+    """Returns what `vote` does from the votes themselves, each that of another voter, None if it has not voted."""
+    return Vote(_number(_library.confscript_vote(*_ballots(incoming), *_ballots(outgoing))))
+
+
+def restore(configuration: Configuration) -> Tuple[Configuration, Tuple[int, ...]]:
+    """Checks a saved configuration, and returns it and all its members, which begin afresh.
 
     So a server restores it when it restarts (etcd's confchange.Restore).
     """
     return _configured(_library.confscript_restore, configuration, 0)
 
 
-def step(configuration: Configuration, kind: StepKind, changes: Iterable[Tuple[ChangeKind, int]] = ()) -> Configuration:
-    """Returns the configuration after one step; each of `changes` is a pair of a ChangeKind and an id."""
+def step(
+    configuration: Configuration, kind: StepKind, changes: Iterable[Tuple[ChangeKind, int]] = ()
+) -> Tuple[Configuration, Tuple[int, ...]]:
+    """Returns the configuration after one step, and the members that begin afresh in it; the others keep their progress.
+
+    Each of `changes` is a pair of a ChangeKind and an id.
+
+    >>> step(Configuration([1, 2, 3]), StepKind.SIMPLE, [(ChangeKind.LEARNER, 4)])
+    (Configuration(voters=(1, 2, 3), voters_outgoing=(), learners=(4,), learners_next=(), auto_leave=False), (4,))
+    """
     checked = [_Change(_uint(change, 32), _uint(id)) for change, id in changes]
     array = (_Change * max(len(checked), 1))(*checked)
     return _configured(_library.confscript_step, configuration, len(checked), _uint(kind, 32), array, len(checked))

@@ -1,5 +1,7 @@
 """Tests the calls of the binding from a Python program."""
 import copy
+import dataclasses
+import doctest
 import json
 import multiprocessing
 import pickle
@@ -100,10 +102,10 @@ class Calls(unittest.TestCase):
         )
         joint = ConfChangeV2(ConfChangeTransition.ConfChangeTransitionJointExplicit, tuple(ConfChangeSingle(*it) for it in [(remove, 1), (remove, 2), (add, 6), (add, 7)]))
         expected = (
-            Stage(ConfChangeV2(auto, (ConfChangeSingle(add_learner, 6),)), Configuration(five, learners=(6,), fresh=(6,)), 2, 2, None),
-            Stage(ConfChangeV2(auto, (ConfChangeSingle(add_learner, 7),)), Configuration(five, learners=(6, 7), fresh=(7,)), 2, 2, None),
-            Stage(joint, Configuration(last, five), 2, 2, None),
-            Stage(ConfChangeV2(auto), Configuration(last), 2, 2, None),
+            Stage(ConfChangeV2(auto, (ConfChangeSingle(add_learner, 6),)), Configuration(five, learners=(6,)), (6,), 2, 2, None),
+            Stage(ConfChangeV2(auto, (ConfChangeSingle(add_learner, 7),)), Configuration(five, learners=(6, 7)), (7,), 2, 2, None),
+            Stage(joint, Configuration(last, five), (), 2, 2, None),
+            Stage(ConfChangeV2(auto), Configuration(last), (), 2, 2, None),
         )
         self.assertEqual(confscript.stages(Configuration([5, 4, 3, 2, 1]), Configuration(last), Strategy.LEARNERS_FIRST), Plan(expected, False))
 
@@ -126,9 +128,9 @@ class Calls(unittest.TestCase):
                         continue
                     state = now
                     for stage in confscript.stages(now, target, strategy).stages:
-                        state = confscript.apply_conf_change(state, stage.conf_change)
-                        self.assertEqual(state, stage.conf_state)
-                    self.assertEqual(state._replace(fresh=()), target)
+                        state, catching_up = confscript.apply_conf_change(state, stage.conf_change)
+                        self.assertEqual((state, catching_up), (stage.conf_state, stage.catching_up))
+                    self.assertEqual(state, target)
 
     def test_stages_with_ids_down(self):
         from confscript import Configuration
@@ -139,13 +141,57 @@ class Calls(unittest.TestCase):
         plan = confscript.stages(Configuration([1]), Configuration([1, 2]), down=iter([2]))
         self.assertEqual((plan.stages[0].may_be_down, plan.stages[0].may_be_down_besides, plan.stalls), (0, None, True))
         stage = confscript.stages(Configuration([1]), Configuration([1, 2])).stages[0]
-        self.assertEqual((stage.may_be_down, stage.until_then, stage.conf_state.fresh), (0, None, (2,)))
+        self.assertEqual((stage.may_be_down, stage.until_then, stage.catching_up), (0, None, (2,)))
 
     def test_stages_of_more_numbers_than_the_first_room(self):
         from confscript import Configuration
         learners = tuple(range(1, 101))
         stages = confscript.stages(Configuration([1000]), Configuration([1000], learners=learners)).stages
-        self.assertEqual((len(stages), stages[99].conf_state), (100, Configuration((1000,), learners=learners, fresh=(100,))))
+        self.assertEqual((len(stages), stages[99].conf_state, stages[99].catching_up), (100, Configuration((1000,), learners=learners), (100,)))
+
+    def test_next_action(self):
+        from confscript import Configuration, MemberView, Strategy, View
+        three, target, joint = Configuration((1, 2, 3)), Configuration((1, 2, 4)), Configuration((1, 2, 4), (1, 2, 3))
+        learning, leaving = Configuration((1, 2, 3), learners=(4,)), Configuration((1, 2, 4), (1, 2, 3), auto_leave=True)
+
+        def view(state, lead=1, indexes=(9, 9, 9, 9), running=(1, 2, 3, 4), silent=(), **more):
+            progress = {id: MemberView(index, id not in silent) for id, index in enumerate(indexes, 1)}
+            return View(state, 5, lead, 9, progress=progress, running=running, **more)
+
+        for known, to, options, text in [
+            (view(three), target, {"down": [2, 3]}, "quorum is lost with 2 3 down"),
+            (view(three), target, {"down": iter([3])}, "3 named as down, but heard from"),
+            (view(three, 0, silent=[3]), target, {}, "there is no leader: waiting for 3"),
+            (view(three, pending_conf_index=10, indexes=(10, 9, 10)), target, {}, "the change at index 10 is not applied: waiting for 2"),
+            (view(three, indexes=(9, 9, 9)), Configuration((3, 4)), {"down": [4]}, "with 4 down, nothing commits in a configuration on the way"),
+            (view(three, running=[1, 2, 3], retired=[4]), target, {}, "stopped for good, and not used again: 4"),
+            (view(three, running=iter([1, 2, 3])), target, {}, "start 4"),
+            (view(three), three, {}, "stop 4 for good"),
+            (view(leaving, indexes=(9, 9, 4, 9)), target, {}, "the joint configuration is left automatically: waiting for 3"),
+            (view(joint, 3), target, {}, "transfer leadership to 1"),
+            (view(three, running=(1, 2, 3), silent=[3]), three, {}, "not heard from 3"),
+            (view(learning, indexes=(9, 9, 9, 2)), target, {"max_lag": 3}, "4 has not caught up: 2 of 6"),
+            (view(learning, indexes=(9, 9, 9, 6)), target, {"max_lag": 3}, "propose enter-joint autoleave=false r3 v4"),
+            (view(three), target, {}, "propose simple l4"),
+            (view(joint), target, {}, "propose leave-joint"),
+            (view(three, running=(1, 2, 3)), three, {"down": [9]}, "done"),
+        ]:
+            self.assertEqual(str(confscript.next_action(to, known, Strategy.LEARNERS_FIRST, **options)), text)
+        wait = confscript.next_action(target, view(learning, indexes=(9, 9, 9, 2)), Strategy.ONE_AT_A_TIME)
+        self.assertEqual(wait, confscript.Wait(confscript.WaitReason.BEHIND, (4,), 9, (2,)))
+        propose = confscript.next_action(target, view(three), Strategy.LEARNERS_FIRST)
+        self.assertEqual(propose.stage, confscript.stages(three, target, Strategy.LEARNERS_FIRST).stages[0])
+        for call, status, number in [
+            (lambda: confscript.next_action(target, view(three), Strategy.SHORTEST), "STRATEGY_MAY_STALL", 0),
+            (lambda: confscript.next_action(target, view(three), Strategy.LEARNERS_FIRST, down=[0]), "ZERO_ID", 0),
+            (lambda: confscript.next_action(Configuration(), view(three), Strategy.LEARNERS_FIRST), "NO_VOTER", 2),
+            (lambda: confscript.next_action(joint, view(three), Strategy.ONE_AT_A_TIME), "JOINT_TARGET", 0),
+        ]:
+            with self.assertRaises(confscript.Refused) as raised:
+                call()
+            self.assertEqual((raised.exception.status.name, raised.exception.number), (status, number))
+        with self.assertRaises(OverflowError):
+            confscript.next_action(target, view(three, -1), Strategy.LEARNERS_FIRST)
 
     def test_refused_stages(self):
         from confscript import Configuration, Strategy
@@ -195,6 +241,32 @@ class Calls(unittest.TestCase):
         self.assertEqual(confscript.vote([1, 2, 3], [], {1: False, 2: False}), confscript.Vote.LOST)
         self.assertEqual(confscript.vote([1, 2, 3], [], {}), confscript.Vote.PENDING)
 
+    def test_quorums_of_values(self):
+        self.assertEqual(confscript.committed_index([9, 7, 0]), 7)
+        self.assertEqual(confscript.committed_index([9, 7, 0], [5]), 5)
+        self.assertEqual(confscript.committed_index([]), 2**64 - 1)
+        self.assertEqual(confscript.tally_votes([True, True, None]), confscript.Vote.WON)
+        self.assertEqual(confscript.tally_votes([True], [None]), confscript.Vote.PENDING)
+        self.assertEqual(confscript.tally_votes([False, False, None]), confscript.Vote.LOST)
+
+    def test_configurations(self):
+        from confscript import Configuration
+        one = Configuration([2, 1], voters_outgoing=(3, 2**64 - 1), learners={5}, learners_next=[3], auto_leave=True)
+        self.assertEqual(one, Configuration((1, 2), [2**64 - 1, 3], [5], (3,), True))
+        self.assertEqual(len({one, Configuration((1, 2), [2**64 - 1, 3], [5], (3,), True), Configuration([1]), Configuration((1,), auto_leave=True)}), 3)
+        self.assertEqual(str(one), "voters=(1 2)&&(3 18446744073709551615) learners=(5) learners_next=(3) autoleave")
+        self.assertEqual(str(Configuration()), "voters=()")
+        self.assertEqual(dataclasses.replace(one, voters=[4, 1]).voters, (1, 4))
+        for made in [copy.deepcopy(one), pickle.loads(pickle.dumps(one))]:
+            self.assertEqual((made, hash(made)), (one, hash(one)))
+        with self.assertRaises(dataclasses.FrozenInstanceError):
+            one.voters = (1,)
+
+    def test_examples_of_the_documentation(self):
+        result = doctest.testmod(confscript)
+        self.assertEqual(result.failed, 0)
+        self.assertGreaterEqual(result.attempted, 7)
+
     def test_a_voter_named_twice_counts_once(self):
         acknowledged = {1: 9, 2: 7, 3: 5, 4: 3}
         self.assertEqual(confscript.committed([1, 1, 1, 2, 3], [], acknowledged), 7)
@@ -207,16 +279,17 @@ class Calls(unittest.TestCase):
     def test_steps(self):
         from confscript import ChangeKind, Configuration, StepKind
         joint = confscript.step(Configuration(voters=[3, 2, 1]), StepKind.AUTO, [(ChangeKind.VOTER, 4), (ChangeKind.REMOVE, 1)])
-        self.assertEqual(joint, Configuration((2, 3, 4), (1, 2, 3), (), (), True, (4,)))
-        self.assertEqual(confscript.step(joint, StepKind.LEAVE_JOINT), Configuration((2, 3, 4)))
-        many = confscript.step(Configuration([501]), StepKind.SIMPLE, [(ChangeKind.LEARNER, id) for id in range(1, 501)])
+        self.assertEqual(joint, (Configuration((2, 3, 4), (1, 2, 3), (), (), True), (4,)))
+        joint, _ = joint
+        self.assertEqual(confscript.step(joint, StepKind.LEAVE_JOINT), (Configuration((2, 3, 4)), ()))
+        many, _ = confscript.step(Configuration([501]), StepKind.SIMPLE, [(ChangeKind.LEARNER, id) for id in range(1, 501)])
         self.assertEqual(many.learners, tuple(range(1, 501)))
         with self.assertRaises(confscript.Refused) as raised:
             confscript.step(joint, StepKind.SIMPLE)
         self.assertEqual((raised.exception.status, raised.exception.number), (12, 0))
 
     def test_restore(self):
-        self.assertEqual(confscript.restore(confscript.Configuration([3, 1])), confscript.Configuration((1, 3), fresh=(1, 3)))
+        self.assertEqual(confscript.restore(confscript.Configuration([3, 1])), (confscript.Configuration((1, 3)), (1, 3)))
         with self.assertRaises(confscript.Refused) as raised:
             confscript.restore(confscript.Configuration([1, 2], learners=[2]))
         self.assertEqual((raised.exception.status, str(raised.exception)), (18, "a learner is a voter (id 2)"))
@@ -228,6 +301,7 @@ class Calls(unittest.TestCase):
             lambda: confscript.committed([-1], [], {}),
             lambda: confscript.committed([2**64], [], {}),
             lambda: confscript.vote([2**64], [], {}),
+            lambda: confscript.committed_index([-1]),
             lambda: confscript.may_be_down([1, -1], []),
             lambda: confscript.plan(NOW, TARGET, 2**32),
             lambda: confscript.plan(NOW, TARGET, output=2**32),
@@ -245,6 +319,9 @@ class Calls(unittest.TestCase):
         for call in [
             lambda: confscript.committed([1], [], {1: 1.5}),
             lambda: confscript.committed(["1"], [], {}),
+            lambda: confscript.committed_index([1.5]),
+            lambda: confscript.tally_votes([1]),
+            lambda: confscript.tally_votes(["no"]),
             lambda: confscript.vote([1, 2], [], {1: "no", 2: "no"}),
             lambda: confscript.vote([1, 2], [], {1: 1, 2: 1}),
             lambda: confscript.restore(Configuration([1.0])),
@@ -262,6 +339,7 @@ class Calls(unittest.TestCase):
 
     def test_version(self):
         self.assertEqual(confscript.version(), (0, 1, 0))
+        self.assertEqual(confscript.__version__, "0.1.0")
 
 
 if __name__ == "__main__":

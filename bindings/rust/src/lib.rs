@@ -5,7 +5,8 @@
 //! A plan leads from a configuration to a target, both of which are texts in one of the forms of `confscript.h`, such as
 //! `voters=(1 2 3)`; the target may also be a list of changes, such as `r1 v4`. [`apply`] and [`check`] take a ConfState
 //! line. A program that embeds the library keeps a [`Configuration`], makes its steps by [`step`], and counts by
-//! [`committed`] and [`vote`], without texts; [`stages`] gives it a plan as proposals to a raft library.
+//! [`committed`] and [`vote`], without texts; [`stages`] gives it a plan as proposals to a raft library, and
+//! [`next`] what to do next on the way.
 //!
 //! Any thread may call, also at the same time as others: a call keeps no state, and only reads its arguments.
 //!
@@ -26,9 +27,17 @@ extern crate std;
 use alloc::{string::String, vec, vec::Vec};
 use core::sync::atomic::{AtomicBool, Ordering};
 
+mod configuration;
+mod next;
+mod options;
+mod quorums;
 mod stages;
 mod status;
 
+pub use configuration::Configuration;
+pub use next::{next, Action, DriveOptions, MemberView, StuckReason, View, WaitReason, Waited};
+pub use options::{Options, Output, Strategy, UnknownName};
+pub use quorums::{committed, committed_index, may_be_down, tally_votes, vote, VoteResult};
 pub use stages::{apply_conf_change, stages, ConfChangeSingle, ConfChangeTransition, ConfChangeType, ConfChangeV2, Plan, Stage};
 pub use status::{Error, Status};
 
@@ -65,6 +74,10 @@ extern "C" {
         configuration: *const u64, configuration_len: usize, target: *const u64, target_len: usize, strategy: u32, down: *const u64, down_len: usize, out: *mut u64,
         out_len: usize,
     ) -> Answer;
+    fn confscript_next(
+        configuration: *const u64, configuration_len: usize, target: *const u64, target_len: usize, strategy: u32, down: *const u64, down_len: usize, view: *const u64,
+        view_len: usize, out: *mut u64, out_len: usize,
+    ) -> Answer;
     fn confscript_may_be_down(
         incoming: *const u64, incoming_len: usize, outgoing: *const u64, outgoing_len: usize, uncounted: *const u64, uncounted_len: usize,
     ) -> Answer;
@@ -84,94 +97,9 @@ fn check_library() {
 const DONE: u32 = 0;
 const TOO_SMALL: u32 = 1;
 
-/// How a plan goes from one configuration to another.
-#[derive(Clone, Copy, Debug, Default, PartialEq, Eq)]
-pub enum Strategy {
-    /// By as few steps as possible.
-    #[default]
-    Shortest = 0,
-    /// New voters are learners first, so that they can catch up before they vote.
-    LearnersFirst = 1,
-    /// One member changes a step, once a joint configuration is left; no plan leads into one.
-    OneAtATime = 2,
-}
-
-/// What is written of a plan.
-#[derive(Clone, Copy, Debug, Default, PartialEq, Eq)]
-pub enum Output {
-    /// A line for each step. If the plan stalls with the ids that are down, a line such as `# stalls with 4 5 down` or
-    /// `# no quorum with 4 5 down: no step can be made` comes before them.
-    #[default]
-    Steps = 0,
-    /// Who votes on the way, and how many failures the cluster tolerates there.
-    Table = 1,
-    /// An object on a line for each proposal to etcd's raft.
-    Json = 2,
-}
-
-/// How a plan is made and written. The default is the shortest plan, as steps, with no ids down.
-#[derive(Clone, Copy, Debug, Default, PartialEq, Eq)]
-pub struct Options<'a> {
-    /// How the plan goes from the configuration to the target.
-    pub strategy: Strategy,
-    /// What is written of it.
-    pub output: Output,
-    /// The ids that are down, in any order.
-    pub down: &'a [u64],
-}
-
-/// A configuration: etcd's `ConfState`, and the members whose progress begins afresh in the step that led to it.
-#[derive(Clone, Debug, Default, PartialEq, Eq)]
-pub struct Configuration {
-    /// The voters, or in a joint configuration the incoming ones.
-    pub voters: Vec<u64>,
-    /// The outgoing voters, none if the configuration is not joint.
-    pub voters_outgoing: Vec<u64>,
-    /// The learners.
-    pub learners: Vec<u64>,
-    /// The outgoing voters that become learners when the joint configuration is left.
-    pub learners_next: Vec<u64>,
-    /// Whether the joint configuration is left automatically.
-    pub auto_leave: bool,
-    /// The members that begin afresh; a call that is passed the configuration ignores them.
-    pub fresh: Vec<u64>,
-}
-
-impl Configuration {
-    fn parts(&self) -> [&Vec<u64>; 5] {
-        [&self.voters, &self.voters_outgoing, &self.learners, &self.learners_next, &self.fresh]
-    }
-
-    // The array of the configuration (`enum confscript_part`).
-    fn numbers(&self) -> Vec<u64> {
-        let counts = self.parts().map(|part| part.len() as u64);
-        let ids = self.parts().into_iter().flatten();
-        [u64::from(self.auto_leave)].iter().chain(&counts).chain(ids).copied().collect()
-    }
-
-    // The configuration of an array that a call wrote, and the numbers after it.
-    fn of(numbers: &[u64]) -> (Configuration, &[u64]) {
-        let (head, mut rest) = numbers.split_at(6);
-        let mut part = |count: u64| {
-            let (part, others) = rest.split_at(count as usize);
-            rest = others;
-            part.to_vec()
-        };
-        let configuration = Configuration {
-            auto_leave: head[0] == 1,
-            voters: part(head[1]),
-            voters_outgoing: part(head[2]),
-            learners: part(head[3]),
-            learners_next: part(head[4]),
-            fresh: part(head[5]),
-        };
-        (configuration, rest)
-    }
-}
-
 /// What a change does to its id. The numbers are those of `raftpb.ConfChangeType`.
 #[repr(u32)]
-#[derive(Clone, Copy, Debug, PartialEq, Eq)]
+#[derive(Clone, Copy, Debug, PartialEq, Eq, Hash)]
 pub enum ChangeKind {
     /// Makes it a voter.
     Voter = 0,
@@ -185,7 +113,7 @@ pub enum ChangeKind {
 
 /// A change of an id. A change of the id 0 has no effect.
 #[repr(C)]
-#[derive(Clone, Copy, Debug, PartialEq, Eq)]
+#[derive(Clone, Copy, Debug, PartialEq, Eq, Hash)]
 pub struct Change {
     /// What it does to the id.
     pub kind: ChangeKind,
@@ -194,7 +122,7 @@ pub struct Change {
 }
 
 /// How the changes of a step are made.
-#[derive(Clone, Copy, Debug, PartialEq, Eq)]
+#[derive(Clone, Copy, Debug, PartialEq, Eq, Hash)]
 pub enum StepKind {
     /// As etcd does: no change leaves a joint configuration, one is a simple step, and more enter a joint configuration,
     /// which is left automatically.
@@ -207,17 +135,6 @@ pub enum StepKind {
     Simple = 3,
     /// A joint configuration is left, and the changes are ignored.
     LeaveJoint = 4,
-}
-
-/// The result of a vote.
-#[derive(Clone, Copy, Debug, PartialEq, Eq)]
-pub enum VoteResult {
-    /// It depends on voters that have not voted.
-    Pending,
-    /// It is lost, however the others vote.
-    Lost,
-    /// It is won, however the others vote.
-    Won,
 }
 
 fn number(answer: Answer) -> Result<u64, Error> {
@@ -244,17 +161,23 @@ fn written(call: impl Fn(&mut [u8]) -> Answer) -> Result<String, Error> {
     Ok(String::from_utf8_lossy(&filled(call)?).into_owned())
 }
 
-// The configuration that a call writes, from a configuration and this number of changes. The buffer has the length of the
-// macro CONFSCRIPT_STEP_ROOM of confscript.h.
-fn configured(from: &Configuration, changes: usize, call: impl Fn(&[u64], &mut [u64]) -> Answer) -> Result<Configuration, Error> {
+// The configuration that a call writes, from a configuration and this number of changes, and the members that begin afresh in
+// it. The buffer has the length of the macro CONFSCRIPT_STEP_ROOM of confscript.h.
+fn configured(from: &Configuration, changes: usize, call: impl Fn(&[u64], &mut [u64]) -> Answer) -> Result<(Configuration, Vec<u64>), Error> {
     check_library();
     let numbers = from.numbers();
     let mut out = vec![0; 6 + 2 * (numbers.len() - 6 + changes)];
     let length = number(call(&numbers, &mut out))?;
-    Ok(Configuration::of(&out[..length as usize]).0)
+    let (configuration, catching_up, _) = Configuration::of(&out[..length as usize]);
+    Ok((configuration, catching_up))
 }
 
 /// The steps of the shortest plan from a configuration to a target.
+///
+/// ```
+/// assert_eq!(confscript::plan("voters=(1 2 3)", "r1 v4")?, "enter-joint autoleave=false r1 v4\nleave-joint\n");
+/// # Ok::<(), confscript::Error>(())
+/// ```
 pub fn plan(configuration: &str, target: &str) -> Result<String, Error> {
     plan_by(Options::default(), configuration, target)
 }
@@ -283,50 +206,27 @@ pub fn check(configuration: &str) -> Result<(), Error> {
     number(unsafe { confscript_check(configuration.as_ptr(), configuration.len()) }).map(|_| ())
 }
 
-/// The committed index of a voter set, or of a joint pair, from the index that each voter has acknowledged, 0 if it is
-/// unknown. It is `u64::MAX` if there are no voters. Each index counts as that of another voter.
-pub fn committed(incoming: &[u64], outgoing: &[u64]) -> u64 {
-    check_library();
-    // SAFETY: as in `plan_by`.
-    unsafe { confscript_committed(incoming.as_ptr(), incoming.len(), outgoing.as_ptr(), outgoing.len()) }
-}
-
-/// The result of a vote by a voter set, or by a joint pair, from the vote of each voter, `None` if it has not voted. The
-/// vote is won if there are no voters. Each vote counts as that of another voter.
-pub fn vote(incoming: &[Option<bool>], outgoing: &[Option<bool>]) -> VoteResult {
-    check_library();
-    let [incoming, outgoing] = [incoming, outgoing].map(|votes| votes.iter().map(|vote| vote.map_or(2, u8::from)).collect::<Vec<_>>());
-    // SAFETY: as in `plan_by`; a vector's pointer is not null, even if the vector is empty.
-    match unsafe { confscript_vote(incoming.as_ptr(), incoming.len(), outgoing.as_ptr(), outgoing.len()) }.number {
-        0 => VoteResult::Pending,
-        1 => VoteResult::Lost,
-        _ => VoteResult::Won,
-    }
-}
-
-/// Checks a saved configuration, and returns it with its ids in ascending order and all members beginning afresh, as
+/// Checks a saved configuration, and returns it with its ids in ascending order, and all its members, which begin afresh, as
 /// when a server restarts (etcd's `confchange.Restore`).
-pub fn restore(configuration: &Configuration) -> Result<Configuration, Error> {
-    // SAFETY: as in `vote`.
+pub fn restore(configuration: &Configuration) -> Result<(Configuration, Vec<u64>), Error> {
+    // SAFETY: a vector's pointer is not null, even if the vector is empty, and the count its length.
     configured(configuration, 0, |numbers, out| unsafe { confscript_restore(numbers.as_ptr(), numbers.len(), out.as_mut_ptr(), out.len()) })
 }
 
-/// The configuration after one step.
-pub fn step(configuration: &Configuration, kind: StepKind, changes: &[Change]) -> Result<Configuration, Error> {
-    // SAFETY: as in `vote`; a `Change` has the layout of a `struct confscript_change`.
+/// The configuration after one step, and the members that begin afresh in it: those that were none before, and those that
+/// the changes remove and add again, unless they are outgoing voters. The others keep their progress.
+///
+/// ```
+/// # use confscript::{step, Change, ChangeKind, Configuration, StepKind};
+/// let now = Configuration { voters: vec![1, 2, 3], ..Default::default() };
+/// let (next, catching_up) = step(&now, StepKind::Simple, &[Change { kind: ChangeKind::Learner, id: 4 }])?;
+/// assert_eq!((next.to_string().as_str(), catching_up), ("voters=(1 2 3) learners=(4)", vec![4]));
+/// # Ok::<(), confscript::Error>(())
+/// ```
+pub fn step(configuration: &Configuration, kind: StepKind, changes: &[Change]) -> Result<(Configuration, Vec<u64>), Error> {
+    // SAFETY: as in `restore`; a `Change` has the layout of a `struct confscript_change`.
     configured(configuration, changes.len(), |numbers, out| unsafe {
         confscript_step(numbers.as_ptr(), numbers.len(), kind as u32, changes.as_ptr(), changes.len(), out.as_mut_ptr(), out.len())
-    })
-}
-
-/// How many ids may be down, whichever they are, while the other voters are a quorum, for which the uncounted ids do
-/// not count. A voter that is listed twice counts once. The status is `NoQuorum` if the voters that count are not
-/// a quorum even when all are up, as if there are none.
-pub fn may_be_down(incoming: &[u64], outgoing: &[u64], uncounted: &[u64]) -> Result<u64, Error> {
-    check_library();
-    // SAFETY: as in `plan_by`.
-    number(unsafe {
-        confscript_may_be_down(incoming.as_ptr(), incoming.len(), outgoing.as_ptr(), outgoing.len(), uncounted.as_ptr(), uncounted.len())
     })
 }
 

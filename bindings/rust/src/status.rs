@@ -73,15 +73,17 @@ pub enum Status {
     BadChangeList = 32,
     /// An id that is down is a member of neither configuration.
     DownNotAMember = 33,
+    /// By the strategy a new voter votes with an empty log, so that the cluster may stall.
+    StrategyMayStall = 34,
 }
 
 impl Status {
-    const ALL: [Status; 32] = [
+    const ALL: [Status; 33] = [
         Status::NoMemory, Status::BadConfState, Status::RepeatedId, Status::NotAConfiguration, Status::NoVoter, Status::BadLine, Status::NotAMember, Status::AlreadyJoint,
         Status::ZeroVoterJoint, Status::NotJoint, Status::SimpleInJoint, Status::RemovedAllVoters, Status::MoreThanOneVoter, Status::ZeroId,
         Status::NextNotOutgoing, Status::NextAndIncoming, Status::LearnerAndVoter, Status::AddedAgain, Status::NotJointButAutoLeave, Status::DifferentLengths, Status::BadVote,
         Status::NoQuorum, Status::BadStrategy, Status::JointTarget, Status::BadStep, Status::BadChange, Status::BadOutput, Status::UnknownForm,
-        Status::BadPrinted, Status::BadJson, Status::BadChangeList, Status::DownNotAMember,
+        Status::BadPrinted, Status::BadJson, Status::BadChangeList, Status::DownNotAMember, Status::StrategyMayStall,
     ];
 
     /// The status with this number in `confscript.h`.
@@ -92,7 +94,7 @@ impl Status {
 
 /// The error of a call that is refused: its status, and the number that `confscript.h` gives with it. Its text names the
 /// id, text, line, step or change that the number denotes.
-#[derive(Clone, Copy, Debug, PartialEq, Eq)]
+#[derive(Clone, Copy, Debug, PartialEq, Eq, Hash)]
 pub struct Error {
     code: u32,
     number: u64,

@@ -1,7 +1,7 @@
 //! Tests the calls of the binding from a Rust program.
 use confscript::{
-    apply, apply_conf_change, check, committed, may_be_down, plan, plan_by, restore, stages, step, version, vote, Change, ChangeKind, ConfChangeSingle,
-    ConfChangeTransition, ConfChangeType, ConfChangeV2, Configuration, Error, Options, Output, Stage, Status, StepKind, Strategy, VoteResult,
+    apply, apply_conf_change, check, committed, committed_index, may_be_down, next, plan, plan_by, restore, stages, step, tally_votes, version, vote, Action, Change,
+    ChangeKind, Configuration, DriveOptions, Error, MemberView, Options, Output, Status, StepKind, Strategy, UnknownName, View, VoteResult,
 };
 
 const NOW: &str = "Voters:[1 2 3] VotersOutgoing:[] Learners:[] LearnersNext:[] AutoLeave:false";
@@ -115,16 +115,45 @@ extern "C" {
 
 #[test]
 fn counts() {
-    assert_eq!(committed(&[9, 7, 0], &[]), 7);
-    assert_eq!(committed(&[9, 7, 0], &[5]), 5);
-    assert_eq!(committed(&[], &[]), u64::MAX);
-    assert_eq!(vote(&[Some(true), Some(true), None], &[]), VoteResult::Won);
-    assert_eq!(vote(&[Some(false), Some(false), None], &[]), VoteResult::Lost);
-    assert_eq!(vote(&[None, None, None], &[]), VoteResult::Pending);
-    assert_eq!(vote(&[Some(true)], &[None]), VoteResult::Pending);
+    assert_eq!(committed_index(&[9, 7, 0], &[]), 7);
+    assert_eq!(committed_index(&[9, 7, 0], &[5]), 5);
+    assert_eq!(committed_index(&[], &[]), u64::MAX);
+    assert_eq!(tally_votes(&[Some(true), Some(true), None], &[]), VoteResult::Won);
+    assert_eq!(tally_votes(&[Some(false), Some(false), None], &[]), VoteResult::Lost);
+    assert_eq!(tally_votes(&[None, None, None], &[]), VoteResult::Pending);
+    assert_eq!(tally_votes(&[Some(true)], &[None]), VoteResult::Pending);
     assert_eq!(may_be_down(&[1, 2, 3], &[], &[]), Ok(1));
     assert_eq!(may_be_down(&[1, 1, 1, 2, 3], &[], &[]), Ok(1));
     assert_eq!(refused(may_be_down(&[], &[], &[])), why(Status::NoQuorum, 0, "the voters are no quorum"));
+}
+
+// A voter that is listed twice counts once.
+#[test]
+fn counts_by_id() {
+    let acknowledged = |id| [0, 9, 7, 5, 3][id as usize];
+    assert_eq!(committed(&[1, 2, 3], &[], acknowledged), 7);
+    assert_eq!(committed(&[1, 1, 1, 2, 3], &[], acknowledged), 7);
+    assert_eq!(committed(&[1, 2], &[1, 1, 1, 3, 4, 4], acknowledged), 5);
+    assert_eq!(committed(&[], &[], acknowledged), u64::MAX);
+    assert_eq!(vote(&[1, 1, 1, 2, 2, 3], &[], |id| (id == 1).then_some(true)), VoteResult::Pending);
+    assert_eq!(vote(&[1, 1, 1, 2, 2], &[3], |_| Some(true)), VoteResult::Won);
+    assert_eq!(vote(&[1, 2, 3], &[], |id| Some(id == 3)), VoteResult::Lost);
+}
+
+#[test]
+fn prints_values() {
+    let all = Configuration { voters: vec![2, 1], voters_outgoing: vec![u64::MAX, 3], learners: vec![5], learners_next: vec![3], auto_leave: true };
+    assert_eq!(all.to_string(), "voters=(1 2)&&(3 18446744073709551615) learners=(5) learners_next=(3) autoleave");
+    assert_eq!(voters(&[]).to_string(), "voters=()");
+    for (strategy, name) in [(Strategy::Shortest, "shortest"), (Strategy::LearnersFirst, "learners-first"), (Strategy::OneAtATime, "one-at-a-time")] {
+        assert_eq!((strategy.to_string().as_str(), name.parse()), (name, Ok(strategy)));
+    }
+    for (output, name) in [(Output::Steps, "steps"), (Output::Table, "table"), (Output::Json, "json")] {
+        assert_eq!((output.to_string().as_str(), name.parse()), (name, Ok(output)));
+    }
+    assert_eq!(("Shortest".parse::<Strategy>(), "".parse::<Output>()), (Err(UnknownName), Err(UnknownName)));
+    assert_eq!([VoteResult::Pending, VoteResult::Lost, VoteResult::Won].map(|it| it.to_string()), ["VotePending", "VoteLost", "VoteWon"]);
+    assert_eq!(std::collections::HashSet::from([voters(&[1, 3]), voters(&[3, 1]), voters(&[1]), Configuration { auto_leave: true, ..voters(&[1]) }]).len(), 3);
 }
 
 fn voters(ids: &[u64]) -> Configuration {
@@ -135,45 +164,37 @@ fn voters(ids: &[u64]) -> Configuration {
 fn steps() {
     let change = |kind, id| Change { kind, id };
     let joint = step(&voters(&[3, 2, 1]), StepKind::Auto, &[change(ChangeKind::Voter, 4), change(ChangeKind::Remove, 1)]).unwrap();
-    assert_eq!(joint, Configuration { voters_outgoing: vec![1, 2, 3], auto_leave: true, fresh: vec![4], ..voters(&[2, 3, 4]) });
-    assert_eq!(step(&joint, StepKind::LeaveJoint, &[]), Ok(voters(&[2, 3, 4])));
+    let (joint, catching_up) = joint;
+    assert_eq!(joint, Configuration { voters_outgoing: vec![1, 2, 3], auto_leave: true, ..voters(&[2, 3, 4]) });
+    assert_eq!(catching_up, [4]);
+    assert_eq!(step(&joint, StepKind::LeaveJoint, &[]), Ok((voters(&[2, 3, 4]), vec![])));
     assert_eq!(refused(step(&joint, StepKind::Simple, &[])), why(Status::SimpleInJoint, 0, "can't apply simple config change in joint config"));
     let many: Vec<Change> = (1..=500).map(|id| change(ChangeKind::Learner, id)).collect();
-    assert_eq!(step(&voters(&[501]), StepKind::Simple, &many).unwrap().learners, (1..=500).collect::<Vec<_>>());
+    assert_eq!(step(&voters(&[501]), StepKind::Simple, &many).unwrap().0.learners, (1..=500).collect::<Vec<_>>());
 }
 
 #[test]
 fn restores() {
-    assert_eq!(restore(&voters(&[3, 1])), Ok(Configuration { fresh: vec![1, 3], ..voters(&[1, 3]) }));
-    assert_eq!(restore(&voters(&[])), Ok(voters(&[])));
+    assert_eq!(restore(&voters(&[3, 1])), Ok((voters(&[1, 3]), vec![1, 3])));
+    assert_eq!(restore(&voters(&[])), Ok((voters(&[]), vec![])));
     assert_eq!(refused(restore(&voters(&[1, 3, 3]))), why(Status::RepeatedId, 3, "an id is named twice (id 3)"));
     let learner = Configuration { learners: vec![2], ..voters(&[1, 2]) };
     assert_eq!(refused(restore(&learner)), why(Status::LearnerAndVoter, 2, "a learner is a voter (id 2)"));
     assert_eq!(refused(restore(&Configuration { learners: vec![2], ..voters(&[]) })), why(Status::NoVoter, 0, "no incoming voter"));
 }
 
-fn proposal(transition: ConfChangeTransition, changes: &[(ConfChangeType, u64)]) -> ConfChangeV2 {
-    ConfChangeV2 { transition, changes: changes.iter().map(|&(change_type, node_id)| ConfChangeSingle { change_type, node_id }).collect() }
-}
-
 #[test]
 fn stages_a_plan() {
-    use ConfChangeType::*;
-    let five = [1, 2, 3, 4, 5];
-    let stage = |conf_change, conf_state| Stage { conf_change, conf_state, may_be_down: Some(2), until_then: Some(2), may_be_down_besides: None };
-    let with = |learners: &[u64], fresh: &[u64]| Configuration { learners: learners.to_vec(), fresh: fresh.to_vec(), ..voters(&five) };
-    let last = voters(&[3, 4, 5, 6, 7]);
-    let expected = [
-        stage(proposal(ConfChangeTransition::Auto, &[(AddLearnerNode, 6)]), with(&[6], &[6])),
-        stage(proposal(ConfChangeTransition::Auto, &[(AddLearnerNode, 7)]), with(&[6, 7], &[7])),
-        stage(
-            proposal(ConfChangeTransition::Explicit, &[(RemoveNode, 1), (RemoveNode, 2), (AddNode, 6), (AddNode, 7)]),
-            Configuration { voters_outgoing: five.to_vec(), ..last.clone() },
-        ),
-        stage(proposal(ConfChangeTransition::Auto, &[]), last.clone()),
-    ];
-    let plan = stages(Options { strategy: Strategy::LearnersFirst, ..Options::default() }, &voters(&five), &last).unwrap();
-    assert_eq!((plan.stages.as_slice(), plan.stalls), (expected.as_slice(), false));
+    let (five, last) = (voters(&[5, 4, 3, 2, 1]), voters(&[3, 4, 5, 6, 7]));
+    let plan = stages(Options { strategy: Strategy::LearnersFirst, ..Options::default() }, &five, &last).unwrap();
+    let lines: Vec<String> = plan.stages.iter().map(|it| it.to_string()).collect();
+    assert_eq!(lines, [
+        "Auto AddLearnerNode(6) -> voters=(1 2 3 4 5) learners=(6), catching up (6), may be down 2, until then 2",
+        "Auto AddLearnerNode(7) -> voters=(1 2 3 4 5) learners=(6 7), catching up (7), may be down 2, until then 2",
+        "Explicit RemoveNode(1) RemoveNode(2) AddNode(6) AddNode(7) -> voters=(3 4 5 6 7)&&(1 2 3 4 5), may be down 2, until then 2",
+        "Auto -> voters=(3 4 5 6 7), may be down 2, until then 2",
+    ]);
+    assert_eq!((&plan.stages[3].conf_state, plan.stalls), (&last, false));
 }
 
 // Each proposal leads to the configuration of its stage, the last one to the target.
@@ -192,10 +213,11 @@ fn stages_lead() {
                 }
                 let mut state = now.clone();
                 for stage in plan.unwrap().stages {
-                    state = apply_conf_change(&state, &stage.conf_change).unwrap();
-                    assert_eq!(state, stage.conf_state);
+                    let (next, catching_up) = apply_conf_change(&state, &stage.conf_change).unwrap();
+                    assert_eq!((&next, &catching_up), (&stage.conf_state, &stage.catching_up));
+                    state = next;
                 }
-                assert_eq!(Configuration { fresh: vec![], ..state }, *target);
+                assert_eq!(state, *target);
             }
         }
     }
@@ -211,7 +233,51 @@ fn stages_with_ids_down() {
     let plan = stages(options(&[2]), &voters(&[1]), &voters(&[1, 2])).unwrap();
     assert_eq!((plan.stages[0].may_be_down, plan.stages[0].may_be_down_besides, plan.stalls), (Some(0), None, true));
     let plan = stages(Options::default(), &voters(&[1]), &voters(&[1, 2])).unwrap();
-    assert_eq!((plan.stages[0].may_be_down, plan.stages[0].until_then, &plan.stages[0].conf_state.fresh), (Some(0), None, &vec![2]));
+    assert_eq!((plan.stages[0].may_be_down, plan.stages[0].until_then, &plan.stages[0].catching_up), (Some(0), None, &vec![2]));
+}
+
+// A view in which the members have these indexes, those that are silent are not heard from, and 9 is committed.
+fn view(conf_state: Configuration, lead: u64, indexes: &[u64], silent: &[u64], running: &[u64]) -> View {
+    let progress = (1..).zip(indexes).map(|(id, matched)| MemberView { id, matched: *matched, recent_active: !silent.contains(&id) });
+    View { conf_state, conf_index: 5, lead, commit: 9, progress: progress.collect(), running: running.to_vec(), ..View::default() }
+}
+
+#[test]
+fn next_actions() {
+    let (three, target) = (voters(&[1, 2, 3]), voters(&[1, 2, 4]));
+    let learning = Configuration { learners: vec![4], ..three.clone() };
+    let joint = Configuration { voters_outgoing: vec![1, 2, 3], ..target.clone() };
+    let leaving = Configuration { auto_leave: true, ..joint.clone() };
+    let (all, four) = ([9, 9, 9, 9], [1, 2, 3, 4]);
+    let pending = View { pending_conf_index: 10, ..view(three.clone(), 1, &[10, 9, 10], &[], &four) };
+    let retired = View { retired: vec![4], ..view(three.clone(), 1, &all, &[], &four[..3]) };
+    for (known, to, down, text) in [
+        (view(three.clone(), 1, &all, &[], &four), &target, &[2, 3][..], "quorum is lost with 2 3 down"),
+        (view(three.clone(), 1, &all, &[], &four), &target, &[3], "3 named as down, but heard from"),
+        (view(three.clone(), 0, &all, &[3], &four), &target, &[], "there is no leader: waiting for 3"),
+        (pending, &target, &[], "the change at index 10 is not applied: waiting for 2"),
+        (view(three.clone(), 1, &all[..3], &[], &four), &voters(&[3, 4]), &[4], "with 4 down, nothing commits in a configuration on the way"),
+        (retired, &target, &[], "stopped for good, and not used again: 4"),
+        (view(three.clone(), 1, &all, &[], &four[..3]), &target, &[], "start 4"),
+        (view(three.clone(), 1, &all, &[], &four), &three, &[], "stop 4 for good"),
+        (view(leaving, 1, &[9, 9, 4, 9], &[], &four), &target, &[], "the joint configuration is left automatically: waiting for 3"),
+        (view(joint.clone(), 3, &all, &[], &four), &target, &[], "transfer leadership to 1"),
+        (view(three.clone(), 1, &all, &[3], &four[..3]), &three, &[], "not heard from 3"),
+        (view(learning.clone(), 1, &[9, 9, 9, 2], &[], &four), &target, &[], "4 has not caught up: 2 of 6"),
+        (view(learning, 1, &[9, 9, 9, 6], &[], &four), &target, &[], "propose enter-joint autoleave=false r3 v4"),
+        (view(three.clone(), 1, &all, &[], &four), &target, &[], "propose simple l4"),
+        (view(joint.clone(), 1, &all, &[], &four), &target, &[], "propose leave-joint"),
+        (view(three.clone(), 1, &all, &[], &four[..3]), &three, &[9], "done"),
+    ] {
+        let options = DriveOptions { strategy: Strategy::LearnersFirst, down, max_lag: 3 };
+        assert_eq!(next(options, to, &known).unwrap().to_string(), text);
+    }
+    let known = view(three.clone(), 1, &all, &[], &four);
+    let plan = stages(Options { strategy: Strategy::LearnersFirst, ..Options::default() }, &three, &target).unwrap();
+    let first = DriveOptions { strategy: Strategy::LearnersFirst, ..DriveOptions::default() };
+    assert_eq!(next(first, &target, &known), Ok(Action::Propose(plan.stages[0].clone())));
+    assert_eq!(refused(next(DriveOptions::default(), &target, &known)), why(Status::StrategyMayStall, 0, "by this strategy the cluster may stall"));
+    assert_eq!(refused(next(first, &voters(&[]), &known)), why(Status::NoVoter, 2, "no incoming voter (the target)"));
 }
 
 // The numbers are more than those of the first buffer.
@@ -219,7 +285,7 @@ fn stages_with_ids_down() {
 fn stages_many_changes() {
     let target = Configuration { learners: (1..=100).collect(), ..voters(&[1000]) };
     let plan = stages(Options::default(), &voters(&[1000]), &target).unwrap();
-    assert_eq!((plan.stages.len(), &plan.stages[99].conf_state), (100, &Configuration { fresh: vec![100], ..target }));
+    assert_eq!((plan.stages.len(), &plan.stages[99].conf_state, &plan.stages[99].catching_up), (100, &target, &vec![100]));
 }
 
 #[test]

@@ -9,3 +9,5 @@ pub mod StagesStepped
 pub mod StagesOfThePlan
 pub mod PathsFound
 mod WorkedExamples
+mod MembersRead
+mod ActionFound

@@ -13,4 +13,7 @@ pub mod Version
 pub mod Numbers
 pub mod Stepped
 pub mod Stages
+pub mod Views
+pub mod Actions
+pub mod Next
 pub mod Room

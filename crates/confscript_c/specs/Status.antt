@@ -1,7 +1,7 @@
 -- The codes of the statuses and their texts, which include/confscript.h gives to callers.
 use Rattle.std.specs.Prelude.{ℕ, List, codes, ◌==◌, if◌then◌else◌}
 use Rattle.confscript_c.specs.declared.status.Status.{Status}
-use Rattle.confscript_c.specs.declared.status.Status.TheVariants.{Done, TooSmall, NoMemory, BadConfState, RepeatedId, NotAConfiguration, NoVoter, BadLine, NotAMember, AlreadyJoint, ZeroVoterJoint, NotJoint, SimpleInJoint, RemovedAllVoters, MoreThanOneVoter, ZeroId, NextNotOutgoing, NextAndIncoming, LearnerAndVoter, AddedAgain, NotJointButAutoLeave, DifferentLengths, BadVote, NoQuorum, BadStrategy, JointTarget, BadStep, BadChange, BadOutput, UnknownForm, BadPrinted, BadJson, BadChangeList, DownNotAMember}
+use Rattle.confscript_c.specs.declared.status.Status.TheVariants.{Done, TooSmall, NoMemory, BadConfState, RepeatedId, NotAConfiguration, NoVoter, BadLine, NotAMember, AlreadyJoint, ZeroVoterJoint, NotJoint, SimpleInJoint, RemovedAllVoters, MoreThanOneVoter, ZeroId, NextNotOutgoing, NextAndIncoming, LearnerAndVoter, AddedAgain, NotJointButAutoLeave, DifferentLengths, BadVote, NoQuorum, BadStrategy, JointTarget, BadStep, BadChange, BadOutput, UnknownForm, BadPrinted, BadJson, BadChangeList, DownNotAMember, StrategyMayStall}
 
 -- the code of a status; codes never change
 abbrev pub code_of : Status → ℕ
@@ -39,6 +39,7 @@ code_of BadPrinted = 30
 code_of BadJson = 31
 code_of BadChangeList = 32
 code_of DownNotAMember = 33
+code_of StrategyMayStall = 34
 
 -- what a status means; the text of a refused step is what the program prints
 abbrev pub status_text : Status → List ℕ
@@ -76,8 +77,9 @@ status_text BadPrinted = codes "not a printed configuration"
 status_text BadJson = codes "not the JSON of a configuration"
 status_text BadChangeList = codes "not a list of changes"
 status_text DownNotAMember = codes "down and not a member"
+status_text StrategyMayStall = codes "by this strategy the cluster may stall"
 
--- what the status of a code means; the numbers above 33 are codes of none
+-- what the status of a code means; the numbers above 34 are codes of none
 abbrev pub text_of_code : ℕ → List ℕ
 text_of_code code =
     if code == 0 then status_text Done
@@ -114,4 +116,5 @@ text_of_code code =
     else (if code == 31 then status_text BadJson
     else (if code == 32 then status_text BadChangeList
     else (if code == 33 then status_text DownNotAMember
-    else codes "unknown status")))))))))))))))))))))))))))))))))
+    else (if code == 34 then status_text StrategyMayStall
+    else codes "unknown status"))))))))))))))))))))))))))))))))))

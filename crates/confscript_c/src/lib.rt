@@ -16,6 +16,7 @@
 //! ```text
 //! confscript_plan         two texts, a strategy        the steps from the first to the second, a table, or JSON
 //! confscript_stages       two arrays, a strategy       what to propose on the way, and where each proposal leads
+//! confscript_next         arrays, what is known        what to do next on the way: whom to start, wait for, propose
 //! confscript_apply        a line, steps                the line after the steps
 //! confscript_check        a line                       the first broken invariant, and the id that breaks it
 //! confscript_committed    an index for each voter      the committed index
@@ -28,12 +29,14 @@
 //! The rules are those of the crates below, which name their sources. The form of the calls is own.
 #![tactic(auto)]
 
+mod actions;
 mod answer;
 mod applying;
 mod buffer;
 mod checking;
 mod input_lines;
 pub mod laws;
+mod next;
 mod numbers;
 mod paths;
 mod plan_texts;
@@ -45,10 +48,12 @@ mod stages;
 mod status;
 mod stepping;
 mod version;
+mod views;
 
 pub use answer::Answer;
 pub use applying::confscript_apply;
 pub use checking::confscript_check;
+pub use next::confscript_next;
 pub use planning::confscript_plan;
 pub use quorums::{confscript_committed, confscript_may_be_down, confscript_vote};
 pub use restoring::confscript_restore;

@@ -181,8 +181,8 @@ pub(crate) fn flag_number(auto_leave: bool) -> u64
     if auto_leave { 1 } else { 0 }
 }
 
-// Appends the ids of a set, in ascending order.
-fn append_ids<S: MemberSet>(numbers: &mut Numbers, ids: &S) -> Result<(), NoMemory>
+/// Appends the ids of a set, in ascending order.
+pub(crate) fn append_ids<S: MemberSet>(numbers: &mut Numbers, ids: &S) -> Result<(), NoMemory>
     ensures { OnOk result (numbers.new.items ≡ numbers.old.items ++ ascending (S.ids ids.now)) }
 {
     for position in 0..ids.len() {

@@ -176,8 +176,8 @@ fn append_stages(
     Ok(())
 }
 
-// Appends the stage after a step.
-fn append_stage(
+/// Appends the stage after a step.
+pub(crate) fn append_stage(
     numbers: &mut Numbers,
     down: &InlineIds,
     before: &Stage<InlineIds>,

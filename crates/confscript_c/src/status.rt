@@ -71,10 +71,12 @@ pub enum Status {
     BadChangeList = 32,
     /// An id that is down is a member of neither configuration. The number is the least such id.
     DownNotAMember = 33,
+    /// By the strategy a new voter votes with an empty log, so that the cluster may stall.
+    StrategyMayStall = 34,
 }
 
 impl Status {
-    /// The code of the status, from 0 to 33.
+    /// The code of the status, from 0 to 34.
     pub fn code(self) -> u32
         ensures { result ≡ code_of self }
     {
@@ -120,6 +122,7 @@ impl Status {
             Status::BadJson => "not the JSON of a configuration",
             Status::BadChangeList => "not a list of changes",
             Status::DownNotAMember => "down and not a member",
+            Status::StrategyMayStall => "by this strategy the cluster may stall",
         }
     }
 }
@@ -173,6 +176,7 @@ fn text_of_code(code: u32) -> &'static str
         31 => Status::BadJson.text(),
         32 => Status::BadChangeList.text(),
         33 => Status::DownNotAMember.text(),
+        34 => Status::StrategyMayStall.text(),
         _ => "unknown status",
     }
 }

@@ -20,7 +20,7 @@ func (c Changer) Simple(ccs ...pb.ConfChangeSingle) (tracker.Config, tracker.Pro
 	if err != nil {
 		return tracker.Config{}, nil, err
 	}
-	return c.after(confscript.Simple(stateOf(c.Tracker.Config), changes))
+	return c.after(confscript.Simple(stateByConfscript(c.Tracker.Config), changes))
 }
 
 // EnterJoint makes changes and enters a joint configuration.
@@ -29,12 +29,12 @@ func (c Changer) EnterJoint(autoLeave bool, ccs ...pb.ConfChangeSingle) (tracker
 	if err != nil {
 		return tracker.Config{}, nil, err
 	}
-	return c.after(confscript.EnterJoint(stateOf(c.Tracker.Config), autoLeave, changes))
+	return c.after(confscript.EnterJoint(stateByConfscript(c.Tracker.Config), autoLeave, changes))
 }
 
 // LeaveJoint leaves a joint configuration.
 func (c Changer) LeaveJoint() (tracker.Config, tracker.ProgressMap, error) {
-	return c.after(confscript.LeaveJoint(stateOf(c.Tracker.Config)))
+	return c.after(confscript.LeaveJoint(stateByConfscript(c.Tracker.Config)))
 }
 
 // Restore returns the configuration of a ConfState, in which each member begins afresh. The changer must have an empty
@@ -88,8 +88,8 @@ func (c Changer) keep(prs tracker.ProgressMap, id uint64) error {
 	return nil
 }
 
-// stateOf returns a configuration with its sets as lists.
-func stateOf(cfg tracker.Config) confscript.ConfState {
+// stateByConfscript returns a configuration with its sets as lists.
+func stateByConfscript(cfg tracker.Config) confscript.ConfState {
 	return confscript.ConfState{
 		Voters:         idsOf(cfg.Voters[0]),
 		VotersOutgoing: idsOf(cfg.Voters[1]),

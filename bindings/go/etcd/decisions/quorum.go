@@ -10,15 +10,15 @@ const fewVoters = 16
 
 // CommittedIndex returns the index that a majority of the set has acknowledged.
 func (c MajorityConfig) CommittedIndex(l AckedIndexer) Index {
-	return committed(c, nil, l)
+	return committedByConfscript(c, nil, l)
 }
 
 // CommittedIndex returns the index that majorities of both sets have acknowledged.
 func (c JointConfig) CommittedIndex(l AckedIndexer) Index {
-	return committed(c[0], c[1], l)
+	return committedByConfscript(c[0], c[1], l)
 }
 
-func committed(incoming, outgoing MajorityConfig, l AckedIndexer) Index {
+func committedByConfscript(incoming, outgoing MajorityConfig, l AckedIndexer) Index {
 	first, count := len(incoming), len(incoming)+len(outgoing)
 	if count <= confscript.FewVoters {
 		var few [confscript.FewVoters]uint64

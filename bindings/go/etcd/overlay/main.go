@@ -1,11 +1,11 @@
 // Overlay writes the files with which etcd's raft decides by confscript, and the list of them for go's flag -overlay.
 //
-//	overlay RAFT_FOLDER RAFT_IMPORT_PATH DECISIONS_FOLDER OUT_FOLDER
+//	overlay DECISIONS_FOLDER OUT_FOLDER {RAFT_IMPORT_PATH RAFT_FOLDER}..
 //
-// Each file DECISIONS_FOLDER/PACKAGE.go belongs to the package of that name below the raft folder. The files of the
-// package are copied to OUT_FOLDER without the functions that the decisions define, and without the private functions that
-// nothing calls any more. The decisions are added at the end of the file that lost most, since `go vet` does not see files
-// that only the overlay has. The list is OUT_FOLDER/overlay.json.
+// Each file DECISIONS_FOLDER/PACKAGE.go belongs to the package of that name below each raft folder. The files of the
+// package are copied to a folder in OUT_FOLDER without the functions that the decisions define, and without the private
+// functions that nothing calls any more. The decisions are added at the end of the file that lost most, since `go vet` does
+// not see files that only the overlay has. The list is OUT_FOLDER/overlay.json.
 package main
 
 import (
@@ -18,18 +18,21 @@ import (
 )
 
 func main() {
-	if len(os.Args) != 5 {
-		fail(fmt.Errorf("wrong usage: overlay RAFT_FOLDER RAFT_IMPORT_PATH DECISIONS_FOLDER OUT_FOLDER"))
+	if len(os.Args) < 5 || len(os.Args)%2 == 0 {
+		fail(fmt.Errorf("wrong usage: overlay DECISIONS_FOLDER OUT_FOLDER {RAFT_IMPORT_PATH RAFT_FOLDER}.."))
 	}
-	raft, importPath, decisions, out := os.Args[1], os.Args[2], os.Args[3], os.Args[4]
+	decisions, out := os.Args[1], os.Args[2]
 	sources, err := filepath.Glob(filepath.Join(decisions, "*.go"))
 	if err != nil {
 		fail(err)
 	}
 	replaced := map[string]string{}
-	for _, source := range sources {
-		if err := replace(raft, importPath, source, out, replaced); err != nil {
-			fail(err)
+	for rafts := os.Args[3:]; len(rafts) > 0; rafts = rafts[2:] {
+		importPath, raft := rafts[0], rafts[1]
+		for _, source := range sources {
+			if err := replace(raft, importPath, source, filepath.Join(out, importPath), replaced); err != nil {
+				fail(err)
+			}
 		}
 	}
 	list, err := json.MarshalIndent(map[string]map[string]string{"Replace": replaced}, "", "\t")

@@ -5,14 +5,16 @@ import (
 	"encoding/json"
 	"io"
 	"os"
+	"path/filepath"
 
 	"go.etcd.io/etcd/raft"
 	pb "go.etcd.io/etcd/raft/raftpb"
 )
 
-// A journal is the disk of a server: a file with a record on each line. A record is written whole or not at all, so the
-// entries and the hard state of a Ready are saved as one, which raft leaves to the program. No record is ever dropped; a
-// program that runs for long writes a new journal now and then, which begins with the newest snapshot.
+// A journal is the disk of a server: a file with a record on each line. A record is written whole or not at all, and synced.
+// So two rules are kept that raft leaves to the program: the entries and the hard state of a Ready are saved as one, and a
+// hard state is not lost if anything is kept that was saved after it. No record is ever dropped; a program that runs for long
+// writes a new journal now and then, which begins with the newest snapshot, while the configuration is not joint (see load).
 type journal struct{ file *os.File }
 
 // A record is what a server saves at once. The parts are those of raft, in the form that they have on the wire.
@@ -20,11 +22,35 @@ type record struct {
 	Received, Taken []byte   `json:",omitempty"` // a snapshot of the leader's, or of its own
 	Entries         [][]byte `json:",omitempty"`
 	HardState       []byte   `json:",omitempty"`
+	Retired         bool     `json:",omitempty"` // the server was stopped for good
 }
 
-// openJournal opens the journal of this name, and returns what it has.
+// createJournal creates an empty journal. It fails if there is one: an id is used once, since a server that comes back
+// without its log could vote twice.
+func createJournal(name string) error {
+	file, err := os.OpenFile(name, os.O_WRONLY|os.O_CREATE|os.O_EXCL, 0o644)
+	if err != nil {
+		return err
+	}
+	if err := file.Close(); err != nil {
+		return err
+	}
+	return syncFolder(filepath.Dir(name))
+}
+
+// syncFolder makes the names in a folder durable.
+func syncFolder(name string) error {
+	folder, err := os.Open(name)
+	if err != nil {
+		return err
+	}
+	defer folder.Close()
+	return folder.Sync()
+}
+
+// openJournal opens the journal of this name, and returns what it has, or no storage if the server was stopped for good.
 func openJournal(name string) (*journal, *raft.MemoryStorage, error) {
-	file, err := os.OpenFile(name, os.O_RDWR|os.O_CREATE, 0o644)
+	file, err := os.OpenFile(name, os.O_RDWR, 0)
 	if err != nil {
 		return nil, nil, err
 	}
@@ -49,6 +75,9 @@ func openJournal(name string) (*journal, *raft.MemoryStorage, error) {
 		if err := json.Unmarshal(line, &saved); err != nil {
 			return nil, nil, err
 		}
+		if saved.Retired {
+			return nil, nil, file.Close()
+		}
 		if err := saved.load(storage); err != nil {
 			return nil, nil, err
 		}
@@ -56,7 +85,9 @@ func openJournal(name string) (*journal, *raft.MemoryStorage, error) {
 	return &journal{file}, storage, nil
 }
 
-// load puts a record into raft's storage.
+// load puts a record into raft's storage. What the server's own snapshot has is dropped from the log, but not while the
+// configuration is joint: in raft 3.4 an outgoing voter accepts no snapshot, and one that lacks an entry would never catch
+// up. Before the joint change was proposed, all had the log up to there.
 func (r record) load(storage *raft.MemoryStorage) error {
 	var snapshot pb.Snapshot
 	var state pb.HardState
@@ -90,7 +121,10 @@ func (r record) load(storage *raft.MemoryStorage) error {
 			return err
 		}
 		_, err := storage.CreateSnapshot(snapshot.Metadata.Index, &snapshot.Metadata.ConfState, snapshot.Data)
-		return err
+		if err != nil || len(snapshot.Metadata.ConfState.VotersOutgoing) > 0 {
+			return err
+		}
+		return storage.Compact(snapshot.Metadata.Index)
 	}
 	return nil
 }

@@ -1,13 +1,14 @@
 // Members is a raft cluster, on etcd's RawNode, that changes its members by plans of confscript while it serves: servers
 // 4, 5 and 6 take the place of 1, 2 and 3.
 //
-//	members -folder DIR [-exit-after N]
+//	members -folder DIR [-target 4,5,6] [-exit-after N]
 //
 // All servers are in this program, each in a goroutine, with a journal in the folder; a real one has each server in a
 // program of its own, and sends the messages over a network. A run that is stopped at any point, by kill -9 too, is
 // carried on by the same command. With -exit-after the program stops by itself after N stages, without any care.
 //
-// membership.go is how a plan is carried out, server.go is raft's loop, and journal.go the disk.
+// membership.go is how a plan is carried out, server.go is raft's loop, and journal.go the disk. The rules that raft leaves
+// to a program (docs/ETCD.md) are kept in these, each where a comment says so. README.md says how to build it.
 package main
 
 import (
@@ -46,25 +47,45 @@ type cluster struct {
 
 func main() {
 	folder := flag.String("folder", "", "where the journals are")
+	target := flag.String("target", "4,5,6", "the last members")
 	exitAfter := flag.Int("exit-after", 0, "stop after this many stages")
 	flag.Parse()
-	if *folder == "" {
-		log.Fatal("usage: members -folder DIR [-exit-after N]")
+	last, err := readIDs(*target)
+	if *folder == "" || err != nil {
+		log.Fatal("usage: members -folder DIR [-target 4,5,6] [-exit-after N]")
 	}
 	c := &cluster{folder: *folder, exitAfter: *exitAfter, servers: map[uint64]*server{}}
-	if err := c.serve(); err != nil {
+	if err := c.serve([]uint64{1, 2, 3}, last); err != nil {
 		log.Fatal(err)
 	}
 }
 
+func readIDs(text string) ([]uint64, error) {
+	var ids []uint64
+	for _, word := range strings.Split(text, ",") {
+		id, err := strconv.ParseUint(word, 10, 64)
+		if err != nil {
+			return nil, err
+		}
+		ids = append(ids, id)
+	}
+	return ids, nil
+}
+
 // serve leads the cluster from its first members to the last ones, while lines are proposed.
-func (c *cluster) serve() error {
-	if err := c.startAll([]uint64{1, 2, 3}); err != nil {
+func (c *cluster) serve(first, last []uint64) error {
+	if err := c.found(first); err != nil {
+		return err
+	}
+	if err := c.startAll(); err != nil {
 		return err
 	}
 	stop, stopped := make(chan struct{}), make(chan struct{})
 	go c.propose(stop, stopped)
-	target := confscript.ConfState{Voters: []uint64{4, 5, 6}}
+	target, err := stateOf(pb.ConfState{Voters: last})
+	if err != nil {
+		return err
+	}
 	if err := c.lead(target); err != nil {
 		return err
 	}
@@ -79,17 +100,33 @@ func (c *cluster) serve() error {
 	return err
 }
 
-// startAll starts the first members, but for those that were removed, and all other servers that have a journal.
-func (c *cluster) startAll(first []uint64) error {
+// found creates the journals of the first members, unless there are journals already. The folder gets its name last, so
+// that it has all of them: one that is missing later was lost, and its server does not start again.
+func (c *cluster) found(first []uint64) error {
+	if names, err := c.journals(); err != nil || len(names) > 0 {
+		return err
+	}
+	draft := c.folder + ".new"
+	if err := os.RemoveAll(draft); err != nil {
+		return err
+	}
+	if err := os.MkdirAll(draft, 0o755); err != nil {
+		return err
+	}
 	for _, id := range first {
-		if _, err := os.Stat(c.path(id, "removed")); err == nil {
-			continue
-		}
-		if err := c.start(id, first); err != nil {
+		if err := found(filepath.Join(draft, fmt.Sprint(id, ".journal")), first); err != nil {
 			return err
 		}
 	}
-	names, err := filepath.Glob(filepath.Join(c.folder, "*.journal"))
+	if err := os.Rename(draft, c.folder); err != nil {
+		return err
+	}
+	return syncFolder(filepath.Dir(c.folder))
+}
+
+// startAll starts the servers that have a journal.
+func (c *cluster) startAll() error {
+	names, err := c.journals()
 	if err != nil {
 		return err
 	}
@@ -98,17 +135,19 @@ func (c *cluster) startAll(first []uint64) error {
 		if err != nil {
 			return err
 		}
-		if c.server(id) == nil {
-			if err := c.start(id, nil); err != nil {
-				return err
-			}
+		if err := c.start(id); err != nil {
+			return err
 		}
 	}
 	return nil
 }
 
-func (c *cluster) path(id uint64, kind string) string {
-	return filepath.Join(c.folder, fmt.Sprint(id, ".", kind))
+func (c *cluster) journals() ([]string, error) {
+	return filepath.Glob(filepath.Join(c.folder, "*.journal"))
+}
+
+func (c *cluster) journal(id uint64) string {
+	return filepath.Join(c.folder, fmt.Sprint(id, ".journal"))
 }
 
 func contains(ids []uint64, id uint64) bool {
@@ -120,9 +159,10 @@ func contains(ids []uint64, id uint64) bool {
 	return false
 }
 
-func (c *cluster) start(id uint64, first []uint64) error {
-	s, err := startServer(id, c.path(id, "journal"), first, c.send)
-	if err != nil {
+// start starts a server from its journal, unless it was stopped for good.
+func (c *cluster) start(id uint64) error {
+	s, err := startServer(id, c.journal(id), c.send)
+	if err != nil || s == nil {
 		return err
 	}
 	c.mutex.Lock()
@@ -131,20 +171,24 @@ func (c *cluster) start(id uint64, first []uint64) error {
 	return nil
 }
 
-// startNew starts the members of a configuration that do not run yet, with empty journals.
+// startNew starts the members of a configuration that do not run yet, with empty journals. It fails if one was ever
+// started: an id is used once.
 func (c *cluster) startNew(state confscript.ConfState) error {
 	for _, id := range members(state) {
-		if c.server(id) == nil {
-			if err := c.start(id, nil); err != nil {
-				return err
-			}
+		if c.server(id) != nil {
+			continue
+		}
+		if err := createJournal(c.journal(id)); err != nil {
+			return err
+		}
+		if err := c.start(id); err != nil {
+			return err
 		}
 	}
 	return nil
 }
 
-// retire stops the servers that are not members any more. Their journals get another name, so that they never start again:
-// an id that comes back without its log could vote twice.
+// retire stops the servers that are not members any more, for good. Their journals stay, so that no id is used again.
 func (c *cluster) retire(state confscript.ConfState) error {
 	for _, s := range c.running() {
 		if contains(members(state), s.id) {
@@ -155,7 +199,10 @@ func (c *cluster) retire(state confscript.ConfState) error {
 		c.mutex.Unlock()
 		close(s.quit)
 		<-s.done
-		if err := os.Rename(c.path(s.id, "journal"), c.path(s.id, "removed")); err != nil {
+		if err := s.journal.write(record{Retired: true}); err != nil {
+			return err
+		}
+		if err := s.journal.file.Close(); err != nil {
 			return err
 		}
 	}

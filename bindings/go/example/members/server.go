@@ -29,22 +29,28 @@ type server struct {
 	lines   []string
 }
 
-// startServer starts a server from its journal. If that is empty and `first` is not, it is one of the first members.
-func startServer(id uint64, name string, first []uint64, send func(pb.Message) bool) (*server, error) {
-	journal, storage, err := openJournal(name)
-	if err != nil {
-		return nil, err
+// found writes the journal of one of the first members: a snapshot that all of them have.
+func found(name string, first []uint64) error {
+	if err := createJournal(name); err != nil {
+		return err
 	}
-	if last, _ := storage.LastIndex(); last == 0 && len(first) > 0 {
-		// The first members begin with a snapshot that all of them have.
-		snapshot := pb.Snapshot{Metadata: pb.SnapshotMetadata{Index: 1, Term: 1, ConfState: pb.ConfState{Voters: first}}}
-		begin := record{Received: marshaled(&snapshot), HardState: marshaled(&pb.HardState{Term: 1, Commit: 1})}
-		if err := journal.write(begin); err != nil {
-			return nil, err
-		}
-		if err := begin.load(storage); err != nil {
-			return nil, err
-		}
+	journal, _, err := openJournal(name)
+	if err != nil {
+		return err
+	}
+	snapshot := pb.Snapshot{Metadata: pb.SnapshotMetadata{Index: 1, Term: 1, ConfState: pb.ConfState{Voters: first}}}
+	if err := journal.write(record{Received: marshaled(&snapshot), HardState: marshaled(&pb.HardState{Term: 1, Commit: 1})}); err != nil {
+		return err
+	}
+	return journal.file.Close()
+}
+
+// startServer starts a server from its journal. It returns nil for one that was stopped for good. Config.Applied is the index
+// of the newest snapshot, whose ConfState is the one that raft starts with.
+func startServer(id uint64, name string, send func(pb.Message) bool) (*server, error) {
+	journal, storage, err := openJournal(name)
+	if err != nil || storage == nil {
+		return nil, err
 	}
 	s := &server{
 		id: id, journal: journal, storage: storage, send: send,
@@ -66,13 +72,16 @@ func startServer(id uint64, name string, first []uint64, send func(pb.Message) b
 	return s, nil
 }
 
-// run is the server's goroutine. Between two events all that is committed is applied. So the server never campaigns, and
-// never takes over leadership or a snapshot, while it has a change to apply.
+// run is the server's goroutine. Before the first event, and between two, all that is committed is applied. So the server
+// never campaigns, and never takes over leadership or a snapshot, while it has a change to apply.
 func (s *server) run() {
 	defer close(s.done)
 	ticker := time.NewTicker(10 * time.Millisecond)
 	defer ticker.Stop()
 	for {
+		for s.node.HasReady() {
+			s.handle(s.node.Ready())
+		}
 		select {
 		case <-s.quit:
 			return
@@ -82,9 +91,6 @@ func (s *server) run() {
 			s.node.Step(message) // an error says that the message is out of date
 		case call := <-s.calls:
 			call()
-		}
-		for s.node.HasReady() {
-			s.handle(s.node.Ready())
 		}
 	}
 }
@@ -101,7 +107,8 @@ func (s *server) do(call func()) bool {
 	}
 }
 
-// handle saves, sends and applies what the node has ready, in this order, before it goes on.
+// handle saves what the node has ready before it sends and applies it, so a crash takes nothing of that back. Advance comes
+// after ApplyConfChange: until then raft lets no further change through.
 func (s *server) handle(ready raft.Ready) {
 	s.save(ready)
 	for _, message := range ready.Messages {
@@ -164,7 +171,8 @@ func (s *server) restore(snapshot pb.Snapshot) {
 }
 
 // apply applies a committed entry. With each change of the members it takes a snapshot, since a server with an empty log is
-// sent one, which has to name it.
+// sent one, which has to name it. So a restart, which is told that all up to the snapshot is applied, has the configuration
+// there.
 func (s *server) apply(entry pb.Entry) {
 	s.applied = entry.Index
 	if entry.Type == pb.EntryNormal {

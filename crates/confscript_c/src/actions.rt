@@ -1,0 +1,135 @@
+//! Actions in numbers: the number of the action, that of the reason, how many ids follow, and the ids, or for a proposal
+//! its stage. From `(1 2 3)`:
+//!
+//! ```text
+//! 0, 0, 1,  4                                           start 4
+//! 4, 5, 1,  4                                           wait for 4, which has not caught up
+//! 3, 0, 0,  0, 1, 0, 1, 1,  3, 4,  0, 3, 0, 1, 0, 1,  1, 2, 3,  4,  4     propose the learner 4
+//! 6, 0, 0                                               done
+//! ```
+//!
+//! The numbers of a stage are those of `confscript_stages`.
+ghost use Rattle.std.specs.Prelude.{◌≡◌, ◌∷◌, ◌++◌, length, IfOk, OnOk};
+ghost use Rattle.plan_output.specs.Stages.{first_stage, stage_after};
+ghost use Rattle.confscript_c.specs.Stages.{stage_numbers};
+ghost use Rattle.conf_driver.specs.declared.action.Action.TheVariants.{Propose};
+ghost use Rattle.confscript_c.specs.Actions as spec;
+ghost use Rattle.confscript_c.specs.Actions.{action_numbers, counted_ids};
+
+use crate::numbers::{Numbers, append_ids};
+use crate::stages::append_stage;
+use conf_change::{Config, Step};
+use conf_driver::{Action, StuckReason, WaitReason};
+use plan_output::Stage;
+use quorum_sets::{InlineIds, MemberSet, NoMemory};
+use smallvec::SmallVec;
+use std::alloc::Global;
+
+/// The array of an action in a configuration, while these ids are down.
+pub(crate) fn numbers_of_action(
+    alloc: Global,
+    down: &InlineIds,
+    now: &Config<InlineIds>,
+    action: &Action,
+) -> Result<Numbers, NoMemory>
+    ensures { IfOk result (λ numbers. numbers.items ≡ action_numbers down.now now.now action.now) }
+{
+    match action {
+        Action::Start(ids) => numbers_naming(alloc, 0, 0, ids),
+        Action::Stop(ids) => numbers_naming(alloc, 1, 0, ids),
+        Action::Transfer(id) => numbers_listing(alloc, 2, 0, &[*id]),
+        Action::Propose(step) => numbers_of_proposal(alloc, down, now, step),
+        Action::Wait(why, ids) => numbers_naming(alloc, 4, wait_number(*why), ids),
+        Action::Stuck(why, ids) => numbers_naming(alloc, 5, stuck_number(*why), ids),
+        Action::Done => numbers_listing(alloc, 6, 0, &[]),
+    }
+}
+
+// The array of an action that names these ids.
+fn numbers_naming(
+    alloc: Global,
+    action: u64,
+    reason: u64,
+    ids: &InlineIds,
+) -> Result<Numbers, NoMemory>
+    ensures { IfOk result (λ numbers. numbers.items ≡ action ∷ reason ∷ counted_ids ids.now) }
+{
+    let mut numbers = SmallVec::new(alloc);
+    numbers.push(action)?;
+    numbers.push(reason)?;
+    numbers.push(ids.len() as u64)?;
+    append_ids(&mut numbers, ids)?;
+    Ok(numbers)
+}
+
+// The array of an action that names the ids of a list.
+fn numbers_listing(
+    alloc: Global,
+    action: u64,
+    reason: u64,
+    ids: &[u64],
+) -> Result<Numbers, NoMemory>
+    ensures { IfOk result (λ numbers. numbers.items ≡ action ∷ reason ∷ length ids.now ∷ ids.now) }
+{
+    let mut numbers = SmallVec::new(alloc);
+    numbers.push(action)?;
+    numbers.push(reason)?;
+    numbers.push(ids.len() as u64)?;
+    numbers.extend_from_slice(ids)?;
+    Ok(numbers)
+}
+
+// The array of a proposal.
+fn numbers_of_proposal(
+    alloc: Global,
+    down: &InlineIds,
+    now: &Config<InlineIds>,
+    step: &Step,
+) -> Result<Numbers, NoMemory>
+    ensures { IfOk result (λ numbers. numbers.items ≡ action_numbers down.now now.now (Propose step.now)) }
+{
+    let mut numbers = numbers_listing(alloc, 3, 0, &[])?;
+    append_first_stage(alloc, &mut numbers, down, now, step)?;
+    Ok(numbers)
+}
+
+// Appends the stage after a step from a configuration.
+fn append_first_stage(
+    alloc: Global,
+    numbers: &mut Numbers,
+    down: &InlineIds,
+    now: &Config<InlineIds>,
+    step: &Step,
+) -> Result<(), NoMemory>
+    ensures { OnOk result (numbers.new.items
+        ≡ numbers.old.items ++ stage_numbers down.now (first_stage now.now) step.now (stage_after now.now step.now)) }
+{
+    let before = Stage::first(alloc, now)?;
+    let after = before.next(alloc, step)?;
+    append_stage(numbers, down, &before, step, &after)
+}
+
+// The number of a reason to wait.
+fn wait_number(why: WaitReason) -> u64
+    ensures { result ≡ spec.wait_number why }
+{
+    match why {
+        WaitReason::NoLeader => 1,
+        WaitReason::Pending => 2,
+        WaitReason::Heard => 3,
+        WaitReason::Unheard => 4,
+        WaitReason::Behind => 5,
+        WaitReason::Leaving => 6,
+    }
+}
+
+// The number of a reason why the target is not reached.
+fn stuck_number(why: StuckReason) -> u64
+    ensures { result ≡ spec.stuck_number why }
+{
+    match why {
+        StuckReason::QuorumLost => 7,
+        StuckReason::Stalls => 8,
+        StuckReason::Reused => 9,
+    }
+}
