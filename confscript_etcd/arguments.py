@@ -2,21 +2,30 @@
 import argparse
 import os
 import subprocess
-import sys
 
-from . import commands
+from . import output, status
 from .cluster import Cluster
+from .commands import COMMANDS
 from .etcdctl import of_environment
-from .reasons import Stop
+from .reasons import Stop, last_line
+from .running import Run
 from .servers import address
 
-ABOUT = """Carries out membership changes on a running etcd cluster: plans them by confscript, shows who votes and how many
-servers may be down at each step, asks, and makes the changes by etcdctl. The same command again carries on where a run
+ABOUT = """Carries out membership changes on a running etcd cluster: plans them by
+confscript, shows who votes and how many servers may be down at each step, asks,
+and makes the changes by etcdctl. The same command again carries on where a run
 was interrupted."""
 
-ETCDCTL = """etcdctl takes certificates and the user from its options (--etcdctl 'etcdctl --cacert ca.pem') or from its
-environment (ETCDCTL_CACERT, ETCDCTL_CERT, ETCDCTL_KEY, ETCDCTL_USER). The exit status is 0 if all is done, 1 if not (for
-status: if some member does not answer), and 2 if the arguments are wrong."""
+ETCDCTL = """etcdctl takes certificates and the user from its options
+(--etcdctl 'etcdctl --cacert ca.pem') or from its environment (ETCDCTL_CACERT,
+ETCDCTL_CERT, ETCDCTL_KEY, ETCDCTL_USER).
+
+Exit status: 0 done; 1 refused, nothing was changed; 2 wrong arguments; 3 stopped
+on the way, the same command carries on; for status also 4 if writes are taken and
+something is amiss, 5 if nothing can be written.
+
+It was tested with etcd 3.4.23, 3.5.16 and 3.5.30, and with clusters of both 3.4
+and 3.5."""
 
 EXAMPLES = {
     "status": "confscript-etcd status --endpoints http://10.0.0.1:2379",
@@ -47,7 +56,11 @@ def parser():
     def healthy(it):
         it.add_argument("--healthy", action="store_true", help="also members that answer; new ones join before these leave")
 
-    command("status", "show the members, which of them answer, and how many more may fail")
+    def shown(it):
+        it.add_argument("--output", choices=("text", "json"), default="text", help="how to print it (default: text)")
+        it.add_argument("--watch", action="store_true", help="print it again every five seconds, until interrupted")
+
+    command("status", "show the members, which of them answer, whether writes are taken, and how many more may fail", shown)
     replace = command("replace", "replace members by new servers; a failed one leaves before its successor joins", named, healthy)
     replace.add_argument("--with", dest="new", action="append", required=True, metavar="NAME=URL",
                          help="the successor: its name and its peer URL; several with commas between, in the order of the members")
@@ -68,7 +81,7 @@ def examples(found):
 def for_all(it, changes):
     it.add_argument("--endpoints", default=os.environ.get("ETCDCTL_ENDPOINTS", "http://127.0.0.1:2379"), metavar="URLS",
                     help="client URLs of some voters, with commas between (default: ETCDCTL_ENDPOINTS, or http://127.0.0.1:2379); "
-                    "the others are reached at those that they advertise")
+                    "a member is reached at the URL that it advertises, or at one of these")
     it.add_argument("--client-url", action="append", default=[], metavar="NAME=URL",
                     help="where the member of this name or id is reached, if not at the client URL that it advertises")
     it.add_argument("--etcdctl", default="etcdctl", metavar="COMMAND", help="how etcdctl is called, with its options (default: etcdctl)")
@@ -76,6 +89,8 @@ def for_all(it, changes):
     if changes:
         it.add_argument("--dry-run", action="store_true", help="show the plan and the commands, and change nothing")
         it.add_argument("--yes", action="store_true", help="do not ask")
+        it.add_argument("--snapshot", metavar="FILE", help="save a snapshot of the keys to this file before the first change, and check it")
+        it.add_argument("--peer-proxy", action="store_true", help="something listens at peer URLs even where no server runs, such as a proxy")
         it.add_argument("--start", metavar="COMMAND", help="a shell command that starts the new server whose settings are in its environment "
                         "(ETCD_NAME, ETCD_INITIAL_CLUSTER, ETCD_INITIAL_CLUSTER_STATE, ETCD_INITIAL_ADVERTISE_PEER_URLS); without it you start it")
 
@@ -97,12 +112,26 @@ def client_urls(texts):
     return {name: tuple(its) for name, its in urls.items()}
 
 
+def endpoints(text):
+    """The client URLs of --endpoints. As in etcdctl, one may lack the scheme."""
+    urls = [url if "://" in url else f"http://{url}" for url in text.split(",")]
+    for url in urls:
+        address(url)
+    return urls
+
+
 def version(program):
-    run = subprocess.run([program, "--version"], stdin=subprocess.DEVNULL, capture_output=True, text=True, check=True)
+    try:
+        run = subprocess.run([program, "--version"], stdin=subprocess.DEVNULL, capture_output=True, text=True, errors="replace", check=False)
+    except OSError as error:
+        raise Stop(f"{program} cannot be run: {error.strerror}") from None
+    if run.returncode:
+        raise Stop(f"{program} cannot be run: {last_line(run.stderr) or f'status {run.returncode}'}")
     return f"confscript-etcd {run.stdout.split()[-1]}"
 
 
 def main(program):
+    output.prepare()
     top = parser()
     options = top.parse_args()
     if options.command is None and not options.version:
@@ -110,19 +139,27 @@ def main(program):
     if options.command == "carry-out" and options.plan == "-" and not (options.yes or options.dry_run):
         top.error("the plan is read from standard input, so the answer can't be: give --yes, or the plan as a file")
     try:
-        if options.version:
-            print(version(program))
-            return 0
-        cluster = Cluster(of_environment(options.etcdctl), options.endpoints.split(","), client_urls(options.client_url))
-        return commands.run(options, cluster, program)
+        return run(options, program)
     except Stop as stop:
-        reason = str(stop)
-    except (OSError, subprocess.CalledProcessError) as error:
-        reason = f"{getattr(error, 'filename', None) or 'output'}: {getattr(error, 'strerror', None) or error}"
+        output.complain(f"confscript-etcd: {stop}")
+        return stop.status
+    except OSError as error:
+        reason = f"{error.filename or 'output'}: {error.strerror or error}"
     except UnicodeDecodeError:
         reason = "the plan is not UTF-8"
     except KeyboardInterrupt:
-        reason = "interrupted; the same command again carries on"
-    sys.stdout.flush()
-    print(f"confscript-etcd: {reason}", file=sys.stderr)
-    return 1
+        reason = "interrupted; nothing was changed"
+    output.complain(f"confscript-etcd: {reason}")
+    return Stop.status
+
+
+def run(options, program):
+    """Runs a command. Its arguments are read before the cluster is asked."""
+    if options.version:
+        output.say(version(program))
+        return 0
+    command = COMMANDS[options.command](options) if options.command in COMMANDS else None
+    cluster = Cluster(of_environment(options.etcdctl, options.limit), endpoints(options.endpoints), client_urls(options.client_url))
+    if command:
+        return Run(options, command, cluster, program).run()
+    return (status.watch if options.watch else status.show)(cluster, options.output == "json")

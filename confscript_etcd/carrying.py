@@ -3,17 +3,21 @@ import os
 import subprocess
 from typing import NamedTuple, Optional
 
+from .output import note, say
 from .plan import Call
-from .reasons import NotYet, Stop, listed, say, verb, wait
-from .servers import NewServer, unreachable
+from .reasons import NotYet, Stop, listed, verb, wait
+from .refusals import refuse_cut_off, refuse_up
+from .servers import NewServer, address, is_address, unreachable
 from .table import step_text
 
 
 class Options(NamedTuple):
-    """How the steps are taken: the command that starts a new server, and how long to wait for one state."""
+    """How the steps are taken: the command that starts a new server, how long to wait for one state, and whether something
+    listens at peer URLs even where no server runs."""
 
     start: Optional[str]
     limit: float
+    is_proxied: bool
 
 
 def words_of(step, etcd_id, new):
@@ -46,22 +50,38 @@ def settings(new, members):
     }
 
 
+def listening(new, members):
+    """What the server of a new member also needs, with its client URL to be filled in. It listens at an address, not at a
+    name."""
+    schemes = {url.partition(":")[0] for member in members for url in member.clients}
+    client = f"{min(schemes, default='http')}://HOST:PORT"
+    return {
+        "ETCD_LISTEN_PEER_URLS": ",".join(url if is_address(url) else f"{url.partition(':')[0]}://0.0.0.0:{address(url)[1]}" for url in new.peers),
+        "ETCD_LISTEN_CLIENT_URLS": client,
+        "ETCD_ADVERTISE_CLIENT_URLS": client,
+    }
+
+
 class Carrying:
     """A task while its steps are taken in a cluster."""
 
-    def __init__(self, cluster, task, options):
-        self.cluster, self.task, self.options = cluster, task, options
+    def __init__(self, cluster, task, options, lock):
+        self.cluster, self.task, self.options, self.lock = cluster, task, options, lock
         self.starting, self.described = {}, set()
 
     def wait(self, attempt):
-        return wait(self.options.limit, attempt)
+        def renewing():
+            self.lock.renew()
+            return attempt()
+
+        return wait(self.options.limit, renewing)
 
     def take_all(self):
         """Takes the steps, and starts the members that were added before and have not started."""
         for member in self.task.pending():
             self.bring_up(self.task.number_of(member))
         for at, step in enumerate(self.task.steps, 1):
-            say(f"{at} {step_text(self.task, step)}")
+            note(f"{at} {step_text(self.task, step)}")
             try:
                 self.take(step, self.task.steps[at:])
             except Stop as reason:
@@ -82,8 +102,8 @@ class Carrying:
         """Prints the settings of a new server, once: before it is added, or before it is started if an earlier run added it."""
         if new.name not in self.described:
             self.described.add(new.name)
-            say(f"  {new.name} joins with these settings and an empty data directory:")
-            for name, value in settings(new, members).items():
+            note(f"  {new.name} joins with these settings and an empty data directory; fill in its client URL:")
+            for name, value in {**settings(new, members), **listening(new, members)}.items():
                 say(f'    {name}="{value}"')
 
     def make(self, step, later):
@@ -107,7 +127,7 @@ class Carrying:
             words = words_of(step, member and f"{member.id:x}", self.task.new.get(step.id))
             endpoints = self.endpoints(view, member)
             if words != shown:
-                say(f"  {self.cluster.etcdctl.shown(words, endpoints)}")
+                note(f"  {self.cluster.etcdctl.shown(words, endpoints)}", is_command=True)
                 shown = words
             self.change(words, endpoints, view)
             is_accepted = True
@@ -144,21 +164,21 @@ class Carrying:
         """What has to hold before a change: a server that failed does not answer again, no other voter is silent, and all
         have applied the change before. A learner that is in sync is promoted while a voter is silent, too, since no
         configuration tolerates less then."""
-        member = self.task.member(view, step.id)
-        if step.call is Call.REMOVE and step.id in self.task.failed and view.answers(member):
-            raise Stop(f"{member.label} answers again, so it is not removed as a failed server. Stop it, or give --healthy")
+        if step.call is Call.REMOVE and step.id in self.task.failed and step.id in step.before.voters:
+            refuse_up(self.task.member(view, step.id), view, self.cluster, self.options.is_proxied)
         silent = [it.label for it in self.task.unexpected(view)]
         if silent and step.call is not Call.PROMOTE:
             raise NotYet(f"{listed(silent)} {verb(silent, 'does', 'do')} not answer")
+        if step.call is not Call.PROMOTE:
+            refuse_cut_off(view)
         self.check_applied(view)
 
     def check_applied(self, view):
-        """Each voter that answers lists the members of now: it has applied the last change. What etcd's raft promises of
-        changes rests on that (ETCD.md), and a new server asks any of them for the members."""
-        now = self.task.configuration(view.members)
-        for voter in view.answering_voters():
-            if self.task.configuration(self.cluster.list_at([view.statuses[voter.id].url])) != now:
-                raise NotYet(f"{voter.label} has not applied the last change yet")
+        """Each voter that answers has applied the last change. What etcd's raft promises of changes rests on that (ETCD.md),
+        and a new server asks any of them for the members."""
+        behind = self.cluster.behind(view)
+        if behind:
+            raise NotYet(f"{listed(member.label for member in behind)} {verb(behind, 'has', 'have')} not applied the last change yet")
 
     def move_leadership(self, step, later):
         """Moves leadership from the member that a step removes, if it leads, to one that stays."""
@@ -169,16 +189,18 @@ class Carrying:
             view = self.cluster.look()
             leader = view.leader()
             if leader is None:
-                raise NotYet("there is no leader that answers")
+                raise NotYet("there is no leader")
             if self.task.number_of(leader) != step.id:
                 return
+            if not view.answers(leader):
+                raise NotYet(f"{leader.label} leads, and does not answer at {' or '.join(self.cluster.clients_of(leader))}")
             voters = {self.task.number_of(member): member for member in view.answering_voters()}
             chosen = voters.get(successor(step, later, voters))
             if chosen is None:
                 raise NotYet(f"no voter answers that could lead in place of {leader.label}")
             words, endpoints = ["move-leader", f"{chosen.id:x}"], [view.statuses[leader.id].url]
             if words != shown:
-                say(f"  {self.cluster.etcdctl.shown(words, endpoints)}")
+                note(f"  {self.cluster.etcdctl.shown(words, endpoints)}", is_command=True)
                 shown = words
             self.cluster.etcdctl.run(words, endpoints)
             raise NotYet(f"leadership moves from {leader.label} to {chosen.label}")
@@ -187,30 +209,37 @@ class Carrying:
 
     def bring_up(self, number):
         """Waits until a member that was added has started, has all that was committed before, and is reached by its
-        peers."""
-        committed = max(status.committed for status in self.wait(self.cluster.look).statuses.values())
-
-        def attempt():
-            view = self.cluster.look()
+        peers. Where it never does, it is said how it is taken out again."""
+        view = self.wait(self.cluster.look)
+        committed = max(status.committed for status in view.statuses.values())
+        try:
+            self.wait(lambda: self.check_up(number, committed))
+        except Stop as reason:
             member = self.task.member(view, number)
-            if member is None:
-                raise NotYet(f"{self.task.name(number)} is not a member yet")
-            new = self.task.new.get(number, NewServer(member.label, member.peers))
-            if not member.has_started:
-                self.start(new, member, view)
-                raise NotYet(f"{new.name} has not started: see its log; its data directory must be empty")
-            status = view.statuses.get(member.id)
-            if status is None:
-                urls = ", ".join(self.cluster.clients_of(member))
-                raise NotYet(f"{member.label} does not answer at {urls} (--client-url {member.label}=URL if it is reached elsewhere)")
-            if status.applied < committed:
-                raise NotYet(f"{member.label} has applied {status.applied} of {committed} entries")
-            for url in member.peers:
-                reason = unreachable(url)
-                if reason:
-                    raise NotYet(f"nothing listens at {url}, where the others are to reach {member.label}: {reason}")
+            if member is None or not member.is_learner:
+                raise
+            out = self.cluster.suggestion("remove", f"{member.id:x}", "--healthy")
+            raise Stop(f"{reason}. To take {self.task.name(number)} out again: {out}") from None
 
-        self.wait(attempt)
+    def check_up(self, number, committed):
+        view = self.cluster.look()
+        member = self.task.member(view, number)
+        if member is None:
+            raise NotYet(f"{self.task.name(number)} is not a member yet")
+        new = self.task.new.get(number, NewServer(member.label, member.peers))
+        if not member.has_started:
+            self.start(new, member, view)
+            raise NotYet(f"{new.name} has not started: see its log; its data directory must be empty")
+        status = view.statuses.get(member.id)
+        if status is None:
+            urls = ", ".join(self.cluster.clients_of(member))
+            raise NotYet(f"{member.label} does not answer at {urls} ({self.cluster.client_hint(member)} if it is reached elsewhere)")
+        if status.applied < committed:
+            raise NotYet(f"{member.label} has not applied all that was committed when it joined", f": {status.applied} of {committed} entries")
+        for url in member.peers:
+            reason = unreachable(url)
+            if reason:
+                raise NotYet(f"nothing listens at {url}, where the others are to reach {member.label}: {reason}")
 
     def start(self, new, member, view):
         """Starts the server of a new member, once, by the command or by the operator. One at whose peer URL something
@@ -222,13 +251,13 @@ class Carrying:
             return
         self.check_applied(view)
         self.starting[member.id] = None
-        if not all(unreachable(url) for url in member.peers):
-            say(f"  something listens at {', '.join(member.peers)} already, so {new.name} is not started again")
+        if not self.options.is_proxied and not all(unreachable(url) for url in member.peers):
+            note(f"  something listens at {', '.join(member.peers)} already, so {new.name} is not started again")
         elif self.options.start is None:
             self.show_settings(new, view.members)
-            say(f"  start {new.name} now")
+            note(f"  start {new.name} now")
         else:
-            say(f"  starting {new.name}: {self.options.start}")
+            note(f"  starting {new.name}: {self.options.start}", is_command=True)
             environment = {**os.environ, **settings(new, view.members)}
             self.starting[member.id] = subprocess.Popen(
                 self.options.start, shell=True, stdin=subprocess.DEVNULL, env=environment, start_new_session=True)

@@ -1,49 +1,16 @@
-"""The members of a cluster, and which of them answer."""
+"""A cluster, as etcdctl shows it."""
+import json
+import shlex
 from concurrent.futures import ThreadPoolExecutor
-from typing import Dict, NamedTuple, Optional, Tuple
 
-from .reasons import NotYet, Stop
+from .etcdctl import without_user
+from .metrics import active_peers, context_of
+from .reasons import Leaderless, NotYet, Stop, listed, verb
 from .servers import Member, unreachable
+from .view import Status, View
 
 
-class Status(NamedTuple):
-    """What a member says of itself, and the client URL at which it says so."""
-
-    url: str
-    version: str
-    leader: int
-    committed: int
-    applied: int
-
-
-class View(NamedTuple):
-    """The members of a cluster as the server lists them that has applied most, and what those that answer say."""
-
-    members: Tuple[Member, ...]
-    statuses: Dict[int, Status]
-    # Whether the list has all that was committed before.
-    is_current: bool
-
-    @property
-    def voters(self):
-        return [member for member in self.members if not member.is_learner]
-
-    def answers(self, member):
-        return member.id in self.statuses
-
-    def answering_voters(self):
-        return [member for member in self.voters if self.answers(member)]
-
-    def silent_voters(self):
-        return [member for member in self.voters if not self.answers(member)]
-
-    def leader(self) -> Optional[Member]:
-        """The member that all who answer take as the leader, if it answers. None if there is none."""
-        leaders = {status.leader for status in self.statuses.values()} - {0}
-        return next((member for member in self.answering_voters() if {member.id} == leaders), None)
-
-    def has_quorum(self):
-        return 2 * len(self.answering_voters()) > len(self.voters)
+ALARMS = {1: "NOSPACE", 2: "CORRUPT"}
 
 
 class Cluster:
@@ -52,9 +19,13 @@ class Cluster:
 
     def __init__(self, etcdctl, endpoints, urls):
         self.etcdctl, self.endpoints, self.urls = etcdctl, tuple(endpoints), urls
-        self.id = None
+        self.context, self.id = context_of(etcdctl), None
         # The members that were listed last.
         self.members = ()
+        # The client URLs of the voters that answered last.
+        self.seen = ()
+        # Whether the members that answer report who their peers are. It is asked if a member does not answer.
+        self.metrics_read = True
 
     def clients_of(self, member):
         """The client URLs at which a member is reached."""
@@ -65,7 +36,7 @@ class Cluster:
         try:
             answer = self.etcdctl.answer(["member", "list"], urls)
         except NotYet as reason:
-            raise NotYet(f"no list of members from {', '.join(urls)}: {reason}") from None
+            raise NotYet(f"cannot reach {', '.join(urls)} (etcdctl: {str(reason).partition(': ')[2]}); is --endpoints right?") from None
         cluster = answer["header"]["cluster_id"]
         if self.id not in (None, cluster):
             raise Stop(f"{', '.join(urls)} is of the cluster {cluster:x}, and the others are of {self.id:x}")
@@ -74,51 +45,133 @@ class Cluster:
                    for it in answer["members"]]
         return tuple(sorted(members, key=lambda member: (not member.name, member.name, member.id)))
 
-    def status_at(self, url):
-        """The id of the server that answers at a client URL, and its status. None if none does."""
+    def list_at_endpoints(self):
+        """The members as a server at one of the endpoints lists them. From 3.5 on etcd's list is current: a server that has
+        no leader gives none, so those that have one are asked."""
+        try:
+            return self.list_at(self.endpoints)
+        except NotYet as reason:
+            why = reason
+        answers = {url: self.status_at(url) for url in self.endpoints}
+        leaders = {url: answer[1].leader for url, answer in answers.items() if answer}
+        for url in (url for url, leader in leaders.items() if leader):
+            try:
+                return self.list_at([url])
+            except NotYet as reason:
+                why = reason
+        if not leaders or any(leaders.values()):
+            raise why
+        silent = [url for url in answers if url not in leaders]
+        others = f", and {listed(silent)} {verb(silent, 'does', 'do')} not answer" if silent else ""
+        raise Leaderless(f"no list of members: {listed(leaders)} {verb(leaders, 'answers and has', 'answer and have')} no leader{others}. Name other "
+                     "voters (--endpoints). If a majority of them is down, nothing can be written (ETCD.md, 'If quorum is lost')")
+
+    def status_at(self, url, beside=()):
+        """The id of the server that answers at a client URL, and its status. None if none does. A learner can't find out who
+        asks: the voters with the client URLs `beside` do that for it."""
         if unreachable(url):
             return None
-        answers = self.ask_status(url, with_user=False)
+        answers = self.ask_status([url], with_user=False)
         if answers is None and self.etcdctl.has_user():
-            # Later versions of etcd may want to know who asks. A learner of 3.4 can't find out.
-            answers = self.ask_status(url, with_user=True)
-        if not answers:
-            return None
-        it = answers[0]["Status"]
-        return it["header"]["member_id"], Status(
-            url, it.get("version", ""), it.get("leader", 0), it.get("raftIndex", 0), it.get("raftAppliedIndex", 0))
+            # Later releases of 3.5 want to know who asks.
+            answers = self.ask_status([url, *beside], with_user=True)
+        it = next((answer["Status"] for answer in answers or () if answer["Endpoint"] == url), None)
+        return it and (it["header"]["member_id"], Status(
+            url, it.get("version", ""), it.get("leader", 0), it.get("raftIndex", 0), it.get("raftAppliedIndex", 0), it.get("dbSize", 0)))
 
-    def ask_status(self, url, with_user):
+    def ask_status(self, urls, with_user):
         try:
-            return self.etcdctl.answer(["endpoint", "status"], [url], with_user)
+            return self.etcdctl.answer(["endpoint", "status"], urls, with_user)
         except NotYet:
             return []
         except Stop:
             return None
 
-    def statuses(self, members):
-        """The statuses of the members that answer at their client URLs, by their ids."""
-        places = [(member.id, url) for member in members for url in self.clients_of(member)]
-        with ThreadPoolExecutor(max_workers=16) as pool:
-            answers = list(pool.map(lambda place: self.status_at(place[1]), places))
-        found = {}
-        for (id, _), answer in zip(places, answers):
-            # Another server may answer there: one that was started anew, or that of another member.
-            if answer and answer[0] == id:
-                found.setdefault(id, answer[1])
+    def statuses(self, members, beside=(), endpoints=()):
+        """The statuses of the servers that answer at the client URLs of these members or at these endpoints, by their ids. Who
+        answers at a URL says so: it may be another member, or a server that was started anew."""
+        own, found = {url: member.id for member in members for url in self.clients_of(member)}, {}
+        for id, status in self.answers_at(list(dict.fromkeys([*own, *endpoints])), beside):
+            if id not in found or (own.get(status.url) == id and own.get(found[id].url) != id):
+                found[id] = status
         return found
 
+    def answers_at(self, urls, beside):
+        with ThreadPoolExecutor(max_workers=16) as pool:
+            return [it for it in pool.map(lambda url: self.status_at(url, beside), urls) if it]
+
+    def hearers(self, members, statuses):
+        """For each member that has started and does not answer, the members that hear from it."""
+        silent = [member for member in members if member.has_started and member.id not in statuses]
+        if not silent:
+            return {}
+        here = [member for member in members if member.id in statuses]
+        with ThreadPoolExecutor(max_workers=16) as pool:
+            peers = list(pool.map(lambda member: active_peers(statuses[member.id].url, self.context), here))
+        self.metrics_read = any(it is not None for it in peers)
+        return {it.id: tuple(member for member, heard in zip(here, peers) if statuses[member.id].leader == it.id or it.id in (heard or ()))
+                for it in silent}
+
+    def behind(self, view):
+        """The voters that answer and have not applied the last change: they list other members than the view has, or, from
+        3.5 on, none."""
+        def roles(members):
+            return {(member.id, member.is_learner) for member in members}
+
+        def lists(voter):
+            try:
+                return roles(self.list_at([view.statuses[voter.id].url]))
+            except NotYet:
+                return None
+
+        return [voter for voter in view.answering_voters() if lists(voter) != roles(view.members)]
+
+    def alarms(self, view):
+        """The alarms of the cluster, each as the name of a member and of the alarm. None are known if etcd does not say."""
+        try:
+            found = self.etcdctl.answer(["alarm", "list"], self.voter_urls(view)).get("alarms", [])
+        except Stop:
+            return []
+        names = {member.id: member.label for member in view.members}
+        return [(names.get(it.get("memberID", 0), f"{it.get('memberID', 0):x}"), ALARMS.get(it.get("alarm"), "of a kind that is not known")) for it in found]
+
+    def read_errors(self, view):
+        """Why a read that a majority has to confirm fails at each voter that answers, by its id. None where it succeeds."""
+        ids = {view.statuses[member.id].url: member.id for member in view.answering_voters()}
+        _, printed, error = self.etcdctl.call(["endpoint", "health", "--write-out=json"], list(ids))
+        try:
+            found = {ids[it["endpoint"]]: None if it["health"] else it.get("error", "unhealthy") for it in json.loads(printed)}
+        except (ValueError, KeyError, TypeError):
+            found = {}
+        return {id: found.get(id, error) for id in ids.values()}
+
+    def voter_urls(self, view):
+        return [view.statuses[member.id].url for member in view.answering_voters()]
+
+    def client_hint(self, member):
+        """The option that says where a member is reached."""
+        return f"--client-url {shlex.quote(f'{member.label}=URL')}"
+
+    def suggestion(self, *words):
+        """A command line of this command for the same cluster, without user and password."""
+        urls = [word for name, its in self.urls.items() for url in its for word in ("--client-url", f"{name}={url}")]
+        etcdctl = [] if self.etcdctl.words == ["etcdctl"] else ["--etcdctl", shlex.join(without_user(self.etcdctl.words))]
+        return shlex.join(["confscript-etcd", *words, "--endpoints", ",".join(self.endpoints), *urls, *etcdctl])
+
     def look(self):
-        """The cluster as it is now: the members as the voter lists them that has applied most."""
-        members = self.members or self.list_at(self.endpoints)
-        statuses = self.statuses(members)
-        voters = [member.id for member in members if not member.is_learner and member.id in statuses]
-        self.members = ()
-        if not voters:
+        """The cluster as it is now: the members as the voter lists them that has applied most, of those that have a leader."""
+        members = self.members or self.list_at_endpoints()
+        voters = [member for member in members if not member.is_learner]
+        statuses = self.statuses(voters, endpoints=self.endpoints)
+        answering = [statuses[member.id] for member in voters if member.id in statuses]
+        if not answering:
+            self.members = ()
             raise NotYet("no voter answers at the client URLs that are advertised (--client-url NAME=URL names others)")
-        newest = statuses[max(voters, key=lambda id: statuses[id].applied)]
+        newest = max(answering, key=lambda status: (status.leader != 0, status.applied))
         self.members = self.list_at([newest.url])
-        statuses.update(self.statuses([member for member in self.members if member not in members]))
-        view = View(self.members, {member.id: statuses[member.id] for member in self.members if member.id in statuses}, False)
+        statuses.update(self.statuses([member for member in self.members if member not in voters], [newest.url]))
+        statuses = {member.id: statuses[member.id] for member in self.members if member.id in statuses}
+        view = View(self.members, statuses, self.hearers(self.members, statuses), False)
+        self.seen = self.voter_urls(view)
         leader = view.leader()
-        return view._replace(is_current=leader is not None and newest.applied >= statuses[leader.id].committed)
+        return view._replace(is_current=leader is not None and view.answers(leader) and newest.applied >= statuses[leader.id].committed)

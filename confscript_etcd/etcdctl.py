@@ -4,10 +4,14 @@ import os
 import shlex
 import subprocess
 
-from .reasons import NotYet, Stop
+from .reasons import NotYet, Stop, Usage, last_line
 
+# Seconds for a call of etcdctl: as many as --limit, within these bounds.
+LEAST_LIMIT, MOST_LIMIT = 8, 30
+HUNG = "it did not end"
 # Parts of the answers of etcdctl after which a command is tried again.
 PASSING = (
+    HUNG,
     # The cluster is not ready yet: some voter was not reachable for five seconds, a member was added that has not
     # started, or the learner is not in sync with the leader (or was promoted, see below).
     "unhealthy cluster",
@@ -42,15 +46,20 @@ SECRET = ("--user", "--password")
 class Etcdctl:
     """etcdctl as the operator calls it: a command, perhaps with options, and an environment."""
 
-    def __init__(self, command, environment):
-        self.words = shlex.split(command)
+    def __init__(self, command, environment, limit):
+        try:
+            self.words = shlex.split(command)
+        except ValueError as error:
+            raise Usage(f"--etcdctl: {str(error).lower()}") from None
         if not self.words:
-            raise Stop("--etcdctl: expected a command")
+            raise Usage("--etcdctl: expected a command")
+        # etcdctl itself gives up after five seconds, unless it or what calls it hangs.
+        self.limit = max(LEAST_LIMIT, min(limit, MOST_LIMIT))
         self.environment = {name: value for name, value in environment.items() if name not in DECIDED}
         self.environment["ETCDCTL_API"] = "3"
         user = environment.get("ETCDCTL_USER", "")
         if user and ":" not in user and not environment.get("ETCDCTL_PASSWORD") and not any(it.startswith("--password") for it in self.words):
-            raise Stop(f"ETCDCTL_USER is {user}: give the password too, in ETCDCTL_PASSWORD or as ETCDCTL_USER={user}:PASSWORD")
+            raise Usage(f"ETCDCTL_USER is {user}: give the password too, in ETCDCTL_PASSWORD or as ETCDCTL_USER={user}:PASSWORD")
 
     def command(self, words, endpoints):
         return [*self.words, f"--endpoints={','.join(endpoints)}", *words]
@@ -59,26 +68,57 @@ class Etcdctl:
         """The command as it is printed, without user and password."""
         return shlex.join([*without_user(self.words), f"--endpoints={','.join(endpoints)}", *words])
 
-    def run(self, words, endpoints, with_user=True):
-        """Runs etcdctl at some endpoints, and returns what it prints."""
+    def option(self, name):
+        """The value of an option of etcdctl, of its arguments or of its environment. None if it has none."""
+        for at, word in enumerate(self.words):
+            if word == f"--{name}":
+                return next(iter(self.words[at + 1:]), None)
+            if word.startswith(f"--{name}="):
+                return word.partition("=")[2]
+        return self.environment.get(f"ETCDCTL_{name.upper()}") or None
+
+    def has_flag(self, name):
+        return f"--{name}" in self.words or self.environment.get(f"ETCDCTL_{name.upper().replace('-', '_')}") == "true"
+
+    def run(self, words, endpoints, with_user=True, given=None, limit=None):
+        """Runs etcdctl at some endpoints, with a text that it is given as input, and returns what it prints."""
+        status, printed, error = self.call(words, endpoints, with_user, given, limit)
+        if status:
+            reason = f"{' '.join(words)}: {error}"
+            if self.is_nameless(error):
+                reason += " (give the user and the password: ETCDCTL_USER=root:PASSWORD)"
+            raise NotYet(reason) if any(text in error for text in PASSING) else Stop(reason)
+        return printed
+
+    def call(self, words, endpoints, with_user=True, given=None, limit=None):
+        """The status of a call of etcdctl, what it prints, and the error that it reports."""
+        limit = limit or self.limit
         command, environment = self.command(words, endpoints), self.environment
         if not with_user:
             command = [*without_user(self.words), *command[len(self.words):]]
             environment = {name: value for name, value in environment.items() if name not in ("ETCDCTL_USER", "ETCDCTL_PASSWORD")}
         try:
-            run = subprocess.run(command, stdin=subprocess.DEVNULL, capture_output=True, text=True, errors="replace", env=environment, check=False)
+            with subprocess.Popen(command, stdin=subprocess.PIPE if given else subprocess.DEVNULL, stdout=subprocess.PIPE, stderr=subprocess.PIPE,
+                                  text=True, encoding="utf-8", errors="replace", env=environment) as it:
+                try:
+                    printed, errors = it.communicate(given, timeout=limit)
+                except subprocess.TimeoutExpired:
+                    it.kill()
+                    return 1, "", f"{HUNG} after {limit:g} s"
+                except BaseException:
+                    it.kill()
+                    raise
         except OSError as error:
             raise Stop(f"{command[0]} cannot be run: {error.strerror} (Debian has it in etcd-client; --etcdctl names another one)") from None
-        if run.returncode:
-            reason = f"{' '.join(words)}: {last_error(run.stderr)}"
-            if any(text in reason for text in NAMELESS):
-                reason += " (give the user and the password: ETCDCTL_USER=root:PASSWORD)"
-            raise NotYet(reason) if any(text in reason for text in PASSING) else Stop(reason)
-        return run.stdout
+        return it.returncode, printed, last_error(errors)
 
-    def answer(self, words, endpoints, with_user=True):
+    def is_nameless(self, error):
+        """Whether an error is that of a server that wants to know who asks."""
+        return any(text in error for text in NAMELESS)
+
+    def answer(self, words, endpoints, with_user=True, given=None):
         """What etcdctl prints as JSON, as a value."""
-        printed = self.run([*words, "--write-out=json"], endpoints, with_user)
+        printed = self.run([*words, "--write-out=json"], endpoints, with_user, given)
         try:
             return json.loads(printed)
         except ValueError:
@@ -100,9 +140,8 @@ def without_user(words):
 
 def last_error(text):
     """The reason that etcdctl gives for a failure, without its log."""
-    lines = [line for line in text.splitlines() if line.strip()]
-    return lines[-1].removeprefix("Error: ") if lines else "etcdctl failed without a reason"
+    return last_line(text).removeprefix("Error: ") or "etcdctl failed without a reason"
 
 
-def of_environment(command):
-    return Etcdctl(command, os.environ)
+def of_environment(command, limit):
+    return Etcdctl(command, os.environ, limit)

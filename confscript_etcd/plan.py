@@ -5,7 +5,7 @@ import json
 import subprocess
 from typing import NamedTuple, Optional, Tuple
 
-from .reasons import Stop
+from .reasons import Stop, last_line
 
 
 class Configuration(NamedTuple):
@@ -126,11 +126,11 @@ def made_by(program, configuration, changes, down):
     if down:
         words += ["--down", ",".join(map(str, sorted(down)))]
     try:
-        run = subprocess.run(words, stdin=subprocess.DEVNULL, capture_output=True, text=True, check=False)
+        run = subprocess.run(words, stdin=subprocess.DEVNULL, capture_output=True, text=True, encoding="utf-8", errors="replace", check=False)
     except OSError as error:
         raise Stop(f"{program} cannot be run: {error.strerror}") from None
     if run.returncode not in (0, 1) or not run.stdout:
-        raise Stop(f"confscript plan: {run.stderr.strip() or f'status {run.returncode}'}")
+        raise Stop(f"{program} makes no plan: {last_line(run.stderr) or f'status {run.returncode}'}")
     return read_plan(run.stdout.splitlines())
 
 

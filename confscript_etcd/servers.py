@@ -1,9 +1,10 @@
 """How a server is named: a new one by NAME=URL, a member by its name or its id."""
+import ipaddress
 import socket
 import urllib.parse
 from typing import NamedTuple, Tuple
 
-from .reasons import Stop
+from .reasons import Stop, Usage
 
 
 class NewServer(NamedTuple):
@@ -46,8 +47,17 @@ def address(url):
         host = port = None
     if not host or not port or parts.scheme not in ("http", "https") or (parts.path, parts.query, parts.fragment) != ("", "", "") \
             or parts.username is not None:
-        raise Stop(f"{url!r}: expected a URL with a scheme, a host and a port, such as http://10.0.0.4:2380")
+        raise Usage(f"{url!r}: expected a URL with a scheme, a host and a port, such as http://10.0.0.4:2380")
     return host, port
+
+
+def is_address(url):
+    """Whether the host of a URL is an address, and no name."""
+    try:
+        ipaddress.ip_address(address(url)[0])
+    except ValueError:
+        return False
+    return True
 
 
 def unreachable(url):
@@ -56,6 +66,8 @@ def unreachable(url):
         socket.create_connection(address(url), timeout=3).close()
     except OSError as error:
         return (error.strerror or str(error)).lower()
+    except (Stop, UnicodeError) as reason:
+        return str(reason)
     return None
 
 
@@ -66,13 +78,13 @@ def new_servers(texts):
     for pair in (pair for text in texts for pair in text.split(",")):
         name, equals, url = pair.partition("=")
         if not equals or not name:
-            raise Stop(f"{pair!r}: expected NAME=URL, such as n4=http://10.0.0.4:2380")
+            raise Usage(f"{pair!r}: expected NAME=URL, such as n4=http://10.0.0.4:2380")
         address(url)
         urls.setdefault(name, []).append(url)
     every = [url for its in urls.values() for url in its]
     for url in every:
         if every.count(url) > 1:
-            raise Stop(f"{url} is given twice")
+            raise Usage(f"{url} is given twice")
     return [NewServer(name, tuple(its)) for name, its in urls.items()]
 
 
@@ -81,9 +93,9 @@ def server_names(texts):
     names = [name for text in texts for name in text.split(",")]
     for name in names:
         if not name:
-            raise Stop("a server is named by its name or its id, and servers are separated by commas: n2,n3")
+            raise Usage("a server is named by its name or its id, and servers are separated by commas: n2,n3")
         if names.count(name) > 1:
-            raise Stop(f"{name} is named twice")
+            raise Usage(f"{name} is named twice")
     return names
 
 

@@ -1,4 +1,5 @@
 """How a plan and the members of a cluster are shown."""
+from .output import paragraph
 from .reasons import listed, verb
 
 
@@ -47,11 +48,13 @@ def plan_lines(task):
 
 def notes(task):
     """What the operator has to know before the first step: who has to stay stopped, and who is started when."""
-    names = task.names(task.failed)
-    if names:
-        yield (f"{listed(names)} must stay stopped. Started again with an empty directory before {verb(names, 'it is', 'they are')} removed, "
-               f"{verb(names, 'it takes its old id', 'they take their old ids')} and {verb(names, 'votes', 'vote')} a second time: "
-               "acknowledged keys may be lost.")
+    names = task.names(id for id in task.failed if task.steps and id in task.steps[0].before.voters)
+    if len(names) == 1:
+        yield (f"Keep {names[0]} stopped. If it restarts with an empty data directory before it is removed, it rejoins under its old id and may vote "
+               "twice; acknowledged writes can be lost.")
+    elif names:
+        yield (f"Keep {listed(names)} stopped. One that restarts with an empty data directory before it is removed rejoins under its old id and may vote "
+               "twice; acknowledged writes can be lost.")
     for member in task.pending():
         yield f"{task.name(task.number_of(member))} is a member already, and has not started."
     for at, step in enumerate(task.steps, 1):
@@ -60,6 +63,41 @@ def notes(task):
     lowest = min((step.besides if step.besides is not None else step.may_be_down for step in task.steps), default=None)
     if task.steps and not lowest:
         yield "Where the last column is 0, one more failure stops all writes until a server is back."
+
+
+def show_untested(view):
+    untested = view.untested_versions()
+    if untested:
+        paragraph(f"servers of etcd {listed(untested)}: this command was tested with 3.4 and 3.5")
+
+
+def identity(task, cluster):
+    """Which cluster is changed, by its id and the ids of its members."""
+    members = ", ".join(f"{member.label} {member.id:x}" for member in task.view.members)
+    return f"This is the cluster {cluster.id:x} at {','.join(cluster.endpoints)}: {members}."
+
+
+def servers(view):
+    """The versions of the servers that answer, and the sizes of their databases."""
+    statuses = {member.label: view.statuses[member.id] for member in view.members if view.answers(member)}
+    versions = {status.version for status in statuses.values()}
+    text = versions.pop() if len(versions) == 1 else ", ".join(f"{status.version} ({name})" for name, status in statuses.items())
+    return f"The servers are of etcd {text}, and their databases have up to {max(status.size for status in statuses.values()) / 1e6:.1f} MB."
+
+
+def count(view):
+    """How many voters are up."""
+    answering, up = view.answering_voters(), view.voters_up()
+    others = [member.label for member in up if member not in answering]
+    heard = f", and {listed(others)} {verb(others, 'is', 'are')} heard from by others" if others else ""
+    return f"{len(answering)} of {len(view.voters)} {verb(view.voters, 'voter answers', 'voters answer')} (majority: {view.majority()}){heard}."
+
+
+def tolerance(view):
+    """How many voters are up, and how many more may fail."""
+    more = len(view.voters_up()) - view.majority()
+    then = f"{more} more may fail." if more > 0 else "No further failure is tolerated." if more == 0 else "That is no majority."
+    return f"{count(view)} {then}"
 
 
 def member_lines(view):
@@ -73,6 +111,8 @@ def member_lines(view):
             role += ", has not started"
         elif status is None:
             role += ", does not answer"
+        elif view.is_cut_off(member):
+            role += ", has no leader"
         rows.append([member.name or "-", f"{member.id:x}", str(member.id), role, status.version if status else "-", ",".join(member.peers)])
     return lines_of(rows)
 

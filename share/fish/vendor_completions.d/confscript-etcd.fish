@@ -1,7 +1,7 @@
 # Completion of confscript-etcd for fish.
 set -l commands status replace add remove carry-out
 complete -c confscript-etcd -f
-complete -c confscript-etcd -n "not __fish_seen_subcommand_from $commands" -a status -d 'show the members, and which of them answer'
+complete -c confscript-etcd -n "not __fish_seen_subcommand_from $commands" -a status -d 'show the members, and whether writes are taken'
 complete -c confscript-etcd -n "not __fish_seen_subcommand_from $commands" -a replace -d 'replace members by new servers'
 complete -c confscript-etcd -n "not __fish_seen_subcommand_from $commands" -a add -d 'add servers as voters'
 complete -c confscript-etcd -n "not __fish_seen_subcommand_from $commands" -a remove -d 'remove members'
@@ -15,6 +15,10 @@ complete -c confscript-etcd -n "__fish_seen_subcommand_from $commands" -x -l lim
 complete -c confscript-etcd -n "__fish_seen_subcommand_from replace add remove carry-out" -l dry-run -d 'show the plan and the commands, and change nothing'
 complete -c confscript-etcd -n "__fish_seen_subcommand_from replace add remove carry-out" -l yes -d 'do not ask'
 complete -c confscript-etcd -n "__fish_seen_subcommand_from replace add remove carry-out" -x -l start -d 'a shell command that starts a new server'
+complete -c confscript-etcd -n "__fish_seen_subcommand_from replace add remove carry-out" -r -F -l snapshot -d 'save a snapshot before the first change'
+complete -c confscript-etcd -n "__fish_seen_subcommand_from replace add remove carry-out" -l peer-proxy -d 'something listens at peer URLs even where no server runs'
+complete -c confscript-etcd -n "__fish_seen_subcommand_from status" -x -l output -a 'text json' -d 'how to print it'
+complete -c confscript-etcd -n "__fish_seen_subcommand_from status" -l watch -d 'print it again every five seconds'
 complete -c confscript-etcd -n "__fish_seen_subcommand_from replace" -x -l with -d 'the successors'
 complete -c confscript-etcd -n "__fish_seen_subcommand_from replace remove" -l healthy -d 'also members that answer'
 complete -c confscript-etcd -n "__fish_seen_subcommand_from carry-out" -x -l new -d 'a server that the plan adds'

@@ -1,0 +1,70 @@
+"""A cluster as it is seen at one moment: its members, who answers, who leads, and who hears from whom."""
+from typing import Dict, NamedTuple, Optional, Tuple
+
+from .servers import Member
+
+
+# The versions of etcd with which the command was tested begin so.
+TESTED_VERSIONS = ("3.4.", "3.5.")
+
+
+class Status(NamedTuple):
+    """What a member says of itself, and the client URL at which it says so."""
+
+    url: str
+    version: str
+    leader: int
+    committed: int
+    applied: int
+    # Bytes of the database.
+    size: int
+
+
+class View(NamedTuple):
+    """The members of a cluster as the server lists them that has applied most, and what those that answer say."""
+
+    members: Tuple[Member, ...]
+    statuses: Dict[int, Status]
+    # The members that hear from one that does not answer: they take it as their leader, or report it as an active peer.
+    hearers: Dict[int, Tuple[Member, ...]]
+    # Whether the list has all that was committed before.
+    is_current: bool
+
+    @property
+    def voters(self):
+        return [member for member in self.members if not member.is_learner]
+
+    def answers(self, member):
+        return member.id in self.statuses
+
+    def answering_voters(self):
+        return [member for member in self.voters if self.answers(member)]
+
+    def silent_voters(self):
+        return [member for member in self.voters if not self.answers(member)]
+
+    def heard_by(self, member):
+        """The names of the members that hear from one that does not answer here."""
+        return [other.label for other in self.hearers.get(member.id, ())]
+
+    def leader(self) -> Optional[Member]:
+        """The member that all who answer and have a leader take as theirs. It may not answer here. None if there is none."""
+        leaders = {status.leader for status in self.statuses.values()} - {0}
+        return next((member for member in self.voters if {member.id} == leaders), None)
+
+    def is_cut_off(self, member):
+        """Whether a member answers here and has no leader."""
+        return self.answers(member) and not self.statuses[member.id].leader
+
+    def voters_up(self):
+        """The voters that answer and have a leader, and those that others hear from."""
+        return [member for member in self.voters if (self.answers(member) and not self.is_cut_off(member)) or self.heard_by(member)]
+
+    def untested_versions(self):
+        return sorted({status.version for status in self.statuses.values() if not status.version.startswith(TESTED_VERSIONS)})
+
+    def majority(self):
+        return len(self.voters) // 2 + 1
+
+    def has_quorum(self):
+        return len(self.answering_voters()) >= self.majority()
