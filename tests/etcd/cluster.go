@@ -127,16 +127,21 @@ func (c *cluster) wait() {
 
 // handle saves, sends and applies what a member has ready, at its pace.
 func (c *cluster) handle(m *member) {
-	for _, message := range m.take().Messages {
-		if to := c.members[message.To]; to != nil && c.reaches(message) {
-			to.raw.Step(message) // an error says that the message is out of date
-		}
-	}
+	c.send(m.take())
 	switch {
 	case m.pace == prompt || len(m.handed) == 0:
 		c.apply(m)
 	case m.pace == early:
 		m.advance()
+	}
+}
+
+// send delivers the messages that are ready.
+func (c *cluster) send(ready raft.Ready) {
+	for _, message := range ready.Messages {
+		if to := c.members[message.To]; to != nil && c.reaches(message) {
+			to.raw.Step(message) // an error says that the message is out of date
+		}
 	}
 }
 

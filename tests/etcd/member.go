@@ -14,15 +14,22 @@ import (
 // A member is a RawNode. Its storage is its disk: what it holds outlives a restart. Its state machine is the list of
 // the entries that it has applied.
 type member struct {
-	raw     *raft.RawNode
-	storage *raft.MemoryStorage
-	applied uint64
-	state   pb.ConfState // after the last change that it applied
-	entries []string     // all that it has applied but for changes and empty entries
-	pace    pace
-	handed  []pb.Entry  // what it was handed and has not applied
-	ready   *raft.Ready // what it has saved and sent, and Advance was not called for
+	raw                  *raft.RawNode
+	storage              *raft.MemoryStorage
+	applied              uint64
+	state                pb.ConfState        // after the last change that it applied
+	entries              []string            // all that it has applied but for changes and empty entries
+	given                map[uint64]pb.Entry // what it has applied since it started, by index
+	synced               hardStates
+	preVote, checkQuorum bool
+	pace                 pace
+	handed               []pb.Entry  // what it was handed and has not applied
+	ready                *raft.Ready // what it has saved and sent, and Advance was not called for
 }
+
+// What a crash leaves of the hard states that were saved: the last one that was synced with what was saved after it, and the
+// last one that was synced by itself.
+type hardStates struct{ withLater, alone pb.HardState }
 
 // A pace is when a member applies what it is handed.
 type pace int
@@ -63,12 +70,35 @@ func startMember(t reporter, id uint64, storage *raft.MemoryStorage) *member {
 	if err != nil {
 		t.Fatal(err)
 	}
-	raw, err := raft.NewRawNode(&raft.Config{
+	m := &member{storage: storage}
+	m.restore(snapshot)
+	m.begin(t, id)
+	return m
+}
+
+// startBeyond starts a member again whose application has kept all that it applied, also what is beyond the snapshot in its
+// storage.
+func startBeyond(t reporter, id uint64, before *member) *member {
+	m := &member{storage: before.storage, applied: before.applied, entries: before.entries}
+	m.begin(t, id)
+	return m
+}
+
+// begin starts raft, which takes all that the member has applied for applied, with the configuration that its storage has.
+func (m *member) begin(t reporter, id uint64) {
+	hardState, state, err := m.storage.InitialState()
+	if err != nil {
+		t.Fatal(err)
+	}
+	m.state, m.given, m.synced = state, map[uint64]pb.Entry{}, hardStates{hardState, hardState}
+	m.raw, err = raft.NewRawNode(&raft.Config{
 		ID:              id,
 		ElectionTick:    10,
 		HeartbeatTick:   1,
-		Storage:         storage,
-		Applied:         snapshot.Metadata.Index,
+		Storage:         m.storage,
+		Applied:         m.applied,
+		PreVote:         m.preVote,
+		CheckQuorum:     m.checkQuorum,
 		MaxSizePerMsg:   math.MaxUint64,
 		MaxInflightMsgs: 256,
 		Logger:          &raft.DefaultLogger{Logger: log.New(io.Discard, "", 0)},
@@ -76,9 +106,6 @@ func startMember(t reporter, id uint64, storage *raft.MemoryStorage) *member {
 	if err != nil {
 		t.Fatal(err)
 	}
-	m := &member{raw: raw, storage: storage}
-	m.restore(snapshot)
-	return m
 }
 
 // restore takes over what a snapshot holds.
@@ -97,15 +124,52 @@ func (m *member) save(ready raft.Ready) {
 		m.storage.SetHardState(ready.HardState)
 	}
 	m.storage.Append(ready.Entries)
+	if ready.MustSync || !raft.IsEmptySnap(ready.Snapshot) {
+		m.sync()
+		if !raft.IsEmptyHardState(ready.HardState) {
+			m.synced.alone = ready.HardState
+		}
+	}
+}
+
+// sync makes the hard state durable that was saved last.
+func (m *member) sync() {
+	m.synced.withLater, _, _ = m.storage.InitialState()
+}
+
+// crash leaves in the storage the hard state that was synced, and says whether its commit index is an older one. If hard
+// states are kept in a file of their own, they are not synced with what is saved after them.
+func (m *member) crash(inOwnFile bool) (isOlder bool) {
+	left := m.synced.withLater
+	if inOwnFile {
+		left = m.synced.alone
+	}
+	stored, _, _ := m.storage.InitialState()
+	m.storage.SetHardState(left)
+	return left.Commit < stored.Commit
+}
+
+// commitSnapshot raises the commit index of the stored hard state to the index of the snapshot, or raft would not start.
+func (m *member) commitSnapshot() {
+	hardState, _, _ := m.storage.InitialState()
+	if snapshot, _ := m.storage.Snapshot(); hardState.Commit < snapshot.Metadata.Index {
+		hardState.Commit = snapshot.Metadata.Index
+		m.storage.SetHardState(hardState)
+	}
 }
 
 // take takes what the member has ready, and saves it. It has to be sent, and applied.
 func (m *member) take() raft.Ready {
 	ready := m.raw.Ready()
+	m.accept(ready)
+	return ready
+}
+
+// accept saves what is ready, and hands the committed entries to the application.
+func (m *member) accept(ready raft.Ready) {
 	m.save(ready)
 	m.handed = append(m.handed, ready.CommittedEntries...)
 	m.ready = &ready
-	return ready
 }
 
 // advance ends what the member has taken.
@@ -118,6 +182,7 @@ func (m *member) advance() {
 // apply applies a committed entry, and says whether it changes the configuration.
 func (m *member) apply(entry pb.Entry) bool {
 	m.applied = entry.Index
+	m.given[entry.Index] = entry
 	change := changeOf(entry)
 	if change == nil {
 		m.entries = append(m.entries, strings.Fields(string(entry.Data))...)
@@ -129,6 +194,7 @@ func (m *member) apply(entry pb.Entry) bool {
 
 // snapshot stores a snapshot of what the member has applied, which a member that starts with an empty log is sent.
 func (m *member) snapshot() {
+	m.sync()
 	m.storage.CreateSnapshot(m.applied, &m.state, []byte(strings.Join(m.entries, " ")))
 }
 

@@ -90,10 +90,13 @@ func (o *observer) sees(m *member, ready raft.Ready) {
 // seesLeader looks at a member that leads.
 func (o *observer) seesLeader(m *member) {
 	status := m.raw.BasicStatus()
-	if _, isKnown := o.leaders[status.Term]; !isKnown {
-		o.seen["a leader"]++
+	// Before its term is saved it has sent nothing, and a crash makes it undone.
+	if stored, _, _ := m.storage.InitialState(); stored.Term == status.Term {
+		if _, isKnown := o.leaders[status.Term]; !isKnown {
+			o.seen["a leader"]++
+		}
+		o.leads(status.Term, status.ID)
 	}
-	o.leads(status.Term, status.ID)
 	applied := status.Applied
 	if m.applied < applied {
 		applied = m.applied

@@ -13,6 +13,7 @@ func TestRaft(t *testing.T) {
 	t.Run("a list without changes does not enter", enterWithoutChanges)
 	t.Run("a change is refused while another is not applied", twoAtOnce)
 	t.Run("a voter that is only outgoing is sent no snapshot", lateOutgoingVoter)
+	t.Run("the log is compacted while the configuration is joint", compactWhileJoint)
 	t.Run("removed members are stopped too early", stopTooEarly)
 	t.Run("auto-leave while entries are applied leaves twice", leaveTwice)
 	t.Run("several changes in one proposal end a cluster that serves", severalChanges)
@@ -61,8 +62,28 @@ func lateOutgoingVoter(t *testing.T) {
 		c.propose(change(pb.ConfChangeTransitionJointExplicit, changes))
 		c.startMissing(pb.ConfState{Voters: []uint64{4}})
 		c.wait()
-		if c.isCaughtUp() != isIncoming {
-			t.Errorf("%s: 4 has caught up: %v", changes, !isIncoming)
+		if wanted := isIncoming || isMended; c.isCaughtUp() != wanted {
+			t.Errorf("%s: 4 has caught up: %v", changes, !wanted)
+		}
+	}
+}
+
+// compactWhileJoint cuts 3 off while a change makes it an outgoing voter. When it is back, it catches up, unless the log was
+// compacted up to that change.
+func compactWhileJoint(t *testing.T) {
+	for _, isCompacted := range []bool{true, false} {
+		c := newCluster(t, pb.ConfState{Voters: []uint64{1, 2, 3}}, 1)
+		c.connect([]uint64{1, 2})
+		c.propose(change(pb.ConfChangeTransitionJointExplicit, "r3"))
+		if leader := c.leading(); isCompacted {
+			leader.storage.Compact(leader.applied)
+		}
+		c.connect([]uint64{1, 2, 3})
+		for i := 0; i < 10; i++ {
+			c.wait()
+		}
+		if wanted := !isCompacted || isMended; c.isCaughtUp() != wanted {
+			t.Errorf("if the log is compacted: %v, 3 has caught up: %v", isCompacted, !wanted)
 		}
 	}
 }
@@ -131,8 +152,12 @@ func (c *cluster) proposeWhileServing(change pb.ConfChangeV2) {
 func leaveTwice(t *testing.T) {
 	c := newCluster(t, pb.ConfState{Voters: []uint64{1, 2, 3}}, 1)
 	panicked := panicOf(func() { c.proposeWhileServing(change(pb.ConfChangeTransitionJointImplicit, "u1")) })
-	if panicked != leftTwice {
-		t.Errorf("etcd answered %q; configurations\n%s", panicked, describe(c.taken()...))
+	wanted := leftTwice
+	if isMended {
+		wanted = ""
+	}
+	if taken := c.taken(); panicked != wanted || isMended && len(taken) != 2 {
+		t.Errorf("etcd answered %q; configurations\n%s", panicked, describe(taken...))
 	}
 }
 
@@ -153,10 +178,16 @@ func severalChanges(t *testing.T) {
 	for _, id := range voters {
 		answers = append(answers, panicOf(func() { c.handleAll(startMember(t, id, c.members[id].storage)) }))
 	}
+	expected := pb.ConfState{Voters: voters, Learners: []uint64{4, 5}}
 	for _, answer := range answers {
-		if answer != leftTwice {
+		if answer != leftTwice && !isMended || answer != "" && isMended {
 			t.Errorf("etcd answered %q", answers)
 			break
+		}
+	}
+	if isMended {
+		if c.catchUp(); !isSame(c.leading().state, expected) {
+			t.Errorf("one proposal led to %s", describe(c.leading().state))
 		}
 	}
 	c = start()
@@ -164,7 +195,7 @@ func severalChanges(t *testing.T) {
 		c.proposeWhileServing(change(pb.ConfChangeTransitionAuto, changes))
 		c.catchUp()
 	}
-	if expected := (pb.ConfState{Voters: voters, Learners: []uint64{4, 5}}); !isSame(c.leading().state, expected) {
+	if !isSame(c.leading().state, expected) {
 		t.Errorf("they led to %s", describe(c.leading().state))
 	}
 }

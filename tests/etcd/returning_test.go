@@ -23,7 +23,7 @@ func TestReturningID(t *testing.T) {
 			if a, b := two.raw.BasicStatus(), three.raw.BasicStatus(); a.Term != 2 || b.Term != 2 || a.ID != 2 || b.ID != 3 {
 				t.Errorf("%d leads term %d, and %d leads term %d", a.ID, a.Term, b.ID, b.Term)
 			}
-			if index := firstDifference(t, two, three); index == 0 {
+			if index := firstDifference(two, three); index == 0 {
 				t.Errorf("both have applied the same:\n%v\n%v", two.entries, three.entries)
 			}
 		})
@@ -61,22 +61,14 @@ func replaceOne(t *testing.T, strategy string) (serving, cutOff *cluster) {
 	return serving, cutOff
 }
 
-// firstDifference returns the first index at which two members have applied different entries, or 0. It looks at those
-// that both have in their logs.
-func firstDifference(t *testing.T, a, b *member) uint64 {
-	index, _ := a.storage.FirstIndex()
-	if first, _ := b.storage.FirstIndex(); first > index {
-		index = first
-	}
-	for ; index <= a.applied && index <= b.applied; index++ {
-		ours, err := a.storage.Entries(index, index+1, 1)
-		theirs, other := b.storage.Entries(index, index+1, 1)
-		if err != nil || other != nil {
-			t.Fatal(err, other)
-		}
-		if ours[0].Type != theirs[0].Type || string(ours[0].Data) != string(theirs[0].Data) {
-			return index
+// firstDifference returns the first index at which two members have applied different entries since they started, or 0.
+func firstDifference(a, b *member) uint64 {
+	var first uint64
+	for index, ours := range a.given {
+		theirs, ok := b.given[index]
+		if ok && (ours.Type != theirs.Type || string(ours.Data) != string(theirs.Data)) && (first == 0 || index < first) {
+			first = index
 		}
 	}
-	return 0
+	return first
 }

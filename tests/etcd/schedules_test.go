@@ -23,6 +23,13 @@ func TestBrokenRules(t *testing.T) {
 	t.Run("Advance comes before ApplyConfChange", advanceBeforeApply)
 	t.Run("a snapshot comes while changes are applied", snapshotDuringApply)
 	t.Run("entries are saved without their hard state", tornWrite)
+	t.Run("a hard state is lost, and what is saved after it is not", crash(loseHardState).breaks)
+	t.Run("entries are applied before they are saved", crash(applyBeforeSave).breaks)
+	t.Run("a leader that is a quorum by itself sends before it saves", crash(sendBeforeSave).breaks)
+	t.Run("a leader that was a quorum by itself sends before it saves", crash(sendCommittedBeforeSave).breaks)
+	t.Run("a follower acknowledges before it saves", crash(answerBeforeSave).breaks)
+	t.Run("a follower votes before it saves", crash(voteBeforeSave).breaks)
+	t.Run("a restart with an older ConfState than what is applied", crash(restartWithOlderConfState).breaks)
 }
 
 // 4 and 5 are added to (1 2 3). 2 restarts from an older snapshot: it has both changes, committed, and has to apply them
@@ -38,10 +45,10 @@ func campaignBeforeApply(t *testing.T) {
 		c.commitWith(4, 5)
 		two := c.members[2]
 		two.raw.Campaign()
-		if hasCampaigned := two.raw.BasicStatus().RaftState == raft.StateCandidate; hasCampaigned != isV2 {
+		if hasCampaigned := two.raw.BasicStatus().RaftState == raft.StateCandidate; hasCampaigned != (isV2 && !isMended) {
 			t.Errorf("with V2 changes: %v; 2 campaigns: %v", isV2, hasCampaigned)
 		}
-		if isV2 {
+		if isV2 && !isMended {
 			c.electSecond()
 		}
 	}
@@ -61,6 +68,12 @@ func transferBeforeApply(t *testing.T) {
 	c.handle(one)
 	for i := 0; i < 10; i++ {
 		one.raw.Tick()
+	}
+	if isMended {
+		if state := c.members[2].raw.BasicStatus().RaftState; state != raft.StateFollower {
+			t.Errorf("2 is %v", state)
+		}
+		return
 	}
 	c.commitWith(4, 5)
 	c.electSecond()
@@ -171,6 +184,11 @@ func (c *cluster) add(id uint64, isV2 bool) {
 
 // restart restarts a member with its log and its hard state, from an older snapshot, of this configuration.
 func (c *cluster) restart(id uint64, older pb.ConfState) {
+	c.members[id] = startMember(c.t, id, c.olderStorage(id, older))
+}
+
+// olderStorage returns the storage of a member with an older snapshot, of this configuration.
+func (c *cluster) olderStorage(id uint64, older pb.ConfState) *raft.MemoryStorage {
 	before := c.members[id].storage
 	last, _ := before.LastIndex()
 	entries, err := before.Entries(2, last+1, math.MaxUint64)
@@ -181,7 +199,7 @@ func (c *cluster) restart(id uint64, older pb.ConfState) {
 	storage := storageOf(older)
 	storage.SetHardState(hardState)
 	storage.Append(entries)
-	c.members[id] = startMember(c.t, id, storage)
+	return storage
 }
 
 // commitWith lets the leader commit an entry with some others. Nobody else gets the entry, and only the leader knows that
@@ -202,7 +220,7 @@ func (c *cluster) commitWith(others ...uint64) {
 
 // expectDifference demands that two members have applied different entries at one index.
 func (c *cluster) expectDifference(a, b uint64) {
-	if firstDifference(c.t, c.members[a], c.members[b]) == 0 {
+	if firstDifference(c.members[a], c.members[b]) == 0 {
 		c.t.Errorf("%d and %d have applied the same entries, so etcd keeps this rule by itself", a, b)
 	}
 }

@@ -38,7 +38,7 @@ func newService(t *testing.T, state pb.ConfState, down []uint64, seed int64) *se
 		disks:   map[uint64]*raft.MemoryStorage{},
 		members: map[uint64]*member{},
 		history: newHistory(t),
-		isQuiet: state.AutoLeave,
+		isQuiet: state.AutoLeave && !isMended,
 	}
 	for _, id := range members(state) {
 		s.disks[id] = storageOf(state)
@@ -279,6 +279,9 @@ func (s *service) compareStates(state pb.ConfState) {
 // no snapshot that they accept.
 func (s *service) leftWithoutLog(state pb.ConfState) []uint64 {
 	var ids []uint64
+	if isMended {
+		return nil
+	}
 	for _, id := range without(state.VotersOutgoing, state.Voters) {
 		if s.disks[id] == nil {
 			ids = append(ids, id)

@@ -144,7 +144,7 @@ func (s *service) carryOut(line planLine, before pb.ConfState, seen map[string]i
 	if fresh := without(members(line.ConfState), members(before)); len(without(fresh, line.CatchUp)) > 0 {
 		s.t.Fatalf("%v have to catch up too in\n%s", fresh, describe(line.ConfState))
 	}
-	if before.AutoLeave || line.ConfState.AutoLeave {
+	if (before.AutoLeave || line.ConfState.AutoLeave) && !isMended {
 		s.pause()
 	}
 	passed := line.passed()

@@ -8,7 +8,6 @@ import (
 
 	"go.etcd.io/etcd/raft"
 	"go.etcd.io/etcd/wal"
-	"go.etcd.io/etcd/wal/walpb"
 	"go.uber.org/zap"
 )
 
@@ -26,7 +25,7 @@ func killedWhileSaving(t *testing.T, before *raft.MemoryStorage, ready raft.Read
 	directory := filepath.Join(t.TempDir(), "wal")
 	snapshot, err := before.Snapshot()
 	must(err)
-	start := walpb.Snapshot{Index: snapshot.Metadata.Index, Term: snapshot.Metadata.Term}
+	start := startOfWAL(snapshot.Metadata)
 	hardState, _, err := before.InitialState()
 	must(err)
 	first, _ := before.FirstIndex()

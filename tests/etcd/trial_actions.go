@@ -73,15 +73,52 @@ func (t *trial) handle(id uint64) bool {
 	case m.ready != nil:
 		m.advance()
 	case m.raw.HasReady():
-		ready := m.take()
-		t.observer.sees(m, ready)
-		for _, message := range ready.Messages {
-			t.send(message)
-		}
+		t.take(id)
 	default:
 		return false
 	}
 	return true
+}
+
+// take saves and sends what a member has ready. A leader sends first, if it may. Now and then a member is killed before it has
+// saved; then it may have sent, or applied, if a rule is left out.
+func (t *trial) take(id uint64) {
+	m := t.members[id]
+	ready := m.raw.Ready()
+	isKilled := t.chance.Intn(200) == 0
+	sendsFirst := maySendFirst(m.raw.BasicStatus(), ready) || t.leavesOut(sendRule)
+	if sendsFirst {
+		t.sendAll(ready)
+	}
+	if isKilled && t.leavesOut(applyRule) && raft.IsEmptySnap(ready.Snapshot) {
+		for m.handed = append(m.handed, ready.CommittedEntries...); t.members[id] == m && len(m.handed) > 0; {
+			t.apply(id)
+		}
+	}
+	if isKilled {
+		if sendsFirst && m.leads() {
+			t.observer.seen["a leader is killed after it has sent"]++
+		}
+		t.restart(id)
+		return
+	}
+	m.accept(ready)
+	t.observer.sees(m, ready)
+	if !sendsFirst {
+		t.sendAll(ready)
+	}
+}
+
+// maySendFirst says whether a member leads, and has not committed by itself what it has to save. That it is no quorum by
+// itself is not enough: it may have been one when it committed.
+func maySendFirst(status raft.BasicStatus, ready raft.Ready) bool {
+	return status.RaftState == raft.StateLeader && (len(ready.Entries) == 0 || status.Commit < ready.Entries[0].Index)
+}
+
+func (t *trial) sendAll(ready raft.Ready) {
+	for _, message := range ready.Messages {
+		t.send(message)
+	}
 }
 
 // apply applies the next entry that a member was handed. If that is a second change which leaves its joint configuration,
@@ -92,9 +129,9 @@ func (t *trial) apply(id uint64) {
 	m.handed = m.handed[1:]
 	t.observer.applies(id, entry)
 	isChange := false
-	switch panicked := panicOf(func() { isChange = m.apply(entry) }); panicked {
-	case "":
-	case leftTwice:
+	switch panicked := panicOf(func() { isChange = m.apply(entry) }); {
+	case panicked == "":
+	case panicked == leftTwice && !isMended:
 		delete(t.members, id)
 	default:
 		panic(panicked)
@@ -119,10 +156,15 @@ func (t *trial) campaign(id uint64) {
 	}
 }
 
-// restart kills a member, and starts it from its disk. If a rule is left out, it may be killed while it saves, between the
-// entries and their hard state, or its disk may be empty.
+// restart kills a member, and starts it from its disk, where hard states may be lost that were not synced. If its application
+// keeps all that it has applied, and no change is beyond the snapshot, it may start after that. If a rule is left out, it may
+// be killed while it saves, between the entries and their hard state, or its disk may be empty, or a change be beyond the
+// snapshot.
 func (t *trial) restart(id uint64) {
 	m := t.members[id]
+	if m == nil {
+		return
+	}
 	switch {
 	case t.leavesOut(hardStateRule) && m.ready == nil && m.raw.HasReady():
 		if ready := m.raw.Ready(); raft.IsEmptySnap(ready.Snapshot) {
@@ -131,11 +173,30 @@ func (t *trial) restart(id uint64) {
 	case t.leavesOut(diskRule) && t.chance.Intn(4) == 0:
 		t.disks[id] = raft.NewMemoryStorage()
 	}
-	t.start(id)
+	if m.crash(t.leavesOut(syncRule)) {
+		t.observer.seen["a hard state is lost"]++
+		m.commitSnapshot()
+	}
+	if t.disks[id] == m.storage && t.chance.Intn(2) == 0 && t.mayStartBeyond(m) {
+		t.members[id] = startBeyond(t, id, m)
+		t.slowDown(id)
+		t.observer.seen["a restart beyond the snapshot"]++
+	} else {
+		t.start(id)
+	}
 	m = t.members[id]
 	if !hasAppliedChanges(m.raw, m.storage) {
 		t.observer.seen["a restart before changes"]++
 	}
+}
+
+// mayStartBeyond says whether raft accepts what a member has applied as Config.Applied, and the ConfState in its storage is
+// that after it.
+func (t *trial) mayStartBeyond(m *member) bool {
+	snapshot, _ := m.storage.Snapshot()
+	hardState, _, _ := m.storage.InitialState()
+	first := snapshot.Metadata.Index
+	return first < m.applied && m.applied <= hardState.Commit && (t.leavesOut(appliedRule) || t.observer.changes(m.storage, first, m.applied) == 0)
 }
 
 // snapshot lets a member take a snapshot, and drop some of the entries that it has and raft takes for applied.

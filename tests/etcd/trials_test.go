@@ -10,7 +10,8 @@ import (
 // kindsOfTrials are what has to occur in trials, each at least five times.
 var kindsOfTrials = []string{
 	"a leader", "an append", "an entry is applied", "a change is applied", "a joint configuration",
-	"a snapshot from the leader", "a restart before changes",
+	"a snapshot from the leader", "a restart before changes", "a restart beyond the snapshot", "a hard state is lost",
+	"a leader is killed after it has sent",
 }
 
 // kindsOfRules are what the rules have to keep off, each at least five times.
@@ -27,11 +28,11 @@ func TestRulesKept(t *testing.T) {
 	t.Run("each kind occurs", func(t *testing.T) { compareSeen(t, seen, append(kindsOfTrials, kindsOfRules...)) })
 }
 
-// TestWait leaves out five rules. Instead a change waits until each member has applied the one before, and a member
+// TestWait leaves out six rules. Instead a change waits until each member has applied the one before, and a member
 // stores a snapshot with each change. So no member is behind by more than one change, and nothing goes wrong.
 func TestWait(t *testing.T) {
 	seen := runTrials(t, 500, func(seed int64) *trial {
-		trial := newTrial(seed, campaignRule, transferRule, snapshotRule, advanceRule, hardStateRule)
+		trial := newTrial(seed, campaignRule, transferRule, snapshotRule, advanceRule, hardStateRule, syncRule)
 		trial.waits = true
 		return trial
 	})
@@ -59,9 +60,16 @@ func runTrials(t *testing.T, count int, begin func(seed int64) *trial) map[strin
 	return seen
 }
 
-// TestRuleLeftOut leaves out one rule after another. Then one of the first 1,000 trials ends with a contradiction.
+// TestRuleLeftOut leaves out one rule after another. Then one of the first 1,000 trials ends with a contradiction, but where
+// raft keeps the rule by itself.
 func TestRuleLeftOut(t *testing.T) {
-	for _, leftOut := range []rule{campaignRule, transferRule, snapshotRule, advanceRule, hardStateRule, diskRule} {
+	for _, leftOut := range []rule{campaignRule, transferRule, snapshotRule, advanceRule, hardStateRule, syncRule, applyRule, sendRule, appliedRule, diskRule} {
+		if isKept(leftOut) {
+			t.Run(string(leftOut), func(t *testing.T) {
+				runTrials(t, 1000, func(seed int64) *trial { return newTrial(seed, leftOut) })
+			})
+			continue
+		}
 		t.Run(string(leftOut), func(t *testing.T) {
 			for seed := int64(0); seed < 1000; seed++ {
 				trial := newTrial(seed, leftOut)

@@ -23,7 +23,7 @@ UNANSWERED = (OSError, ValueError, http.client.HTTPException)  # a server refuse
 
 # The ports that a test takes, below those that the system gives to connections. Tests that run beside each other have
 # others each.
-PORT_RANGES = [range(first, first + 500) for first in range(20000, 32500, 500)]
+PORT_RANGES = [range(first, first + 300) for first in range(20000, 32300, 300)]
 ports = PORT_RANGES[0]
 
 
@@ -46,7 +46,9 @@ PORTS = free_ports()
 
 
 class Server:
-    """A server on ports of its own, with its data and its log in a folder."""
+    """A server on ports of its own, with its data and its log in a folder. `program` starts it."""
+
+    program = "etcd"
 
     def __init__(self, cluster, name):
         self.cluster, self.name = cluster, name
@@ -57,7 +59,7 @@ class Server:
 
     def words(self):
         """The command that starts it. How it joins its cluster is in the environment."""
-        return ["etcd", "--data-dir", self.data, "--listen-client-urls", self.client, "--advertise-client-urls", self.advertised,
+        return [self.program, "--data-dir", self.data, "--listen-client-urls", self.client, "--advertise-client-urls", self.advertised,
                 "--listen-peer-urls", self.listening, "--logger=zap", "--log-outputs", self.log, *self.cluster.server_options]
 
     def start(self, environment):
@@ -73,7 +75,7 @@ class Server:
     def status(self):
         """What it says of itself. None if it does not answer."""
         try:
-            return self.cluster.ask(self, "maintenance/status", {})
+            return self.cluster.ask(self, "maintenance/status", {}, self.cluster.token(self))
         except UNANSWERED:
             return None
 
@@ -81,10 +83,23 @@ class Server:
         return self.status() is not None
 
     def kill(self):
-        end_group(self.process)
+        """Ends it, whether the test started it or a start command."""
+        if self.process:
+            end_group(self.process)
+        else:
+            end_all(f"{self.data}\0")
+            wait_for(f"{self.name} has ended", lambda: not self.is_up())
 
     def delete_data(self):
         shutil.rmtree(self.data, ignore_errors=True)
+
+
+def end_all(argument):
+    """Ends the servers in whose command lines this text is."""
+    for folder in os.listdir("/proc"):
+        with contextlib.suppress(OSError):
+            if folder.isdecimal() and argument.encode() in open(f"/proc/{folder}/cmdline", "rb").read():
+                os.kill(int(folder), signal.SIGKILL)
 
 
 def end_group(process):
@@ -129,7 +144,7 @@ class Cluster:
                 self.writer.end()
             for process in self.groups:
                 end_group(process)
-            self.end_others()
+            end_all(f"{self.folder}/")  # what a start command started has a session of its own
             shutil.rmtree(self.folder, ignore_errors=True)
 
     def start(self):
@@ -151,13 +166,6 @@ class Cluster:
     def lists(self, server, count):
         return len([it for it in self.members(server) if it.get("name")]) == count
 
-    def end_others(self):
-        """Ends the servers that were started by a start command, which have sessions of their own."""
-        for folder in os.listdir("/proc"):
-            with contextlib.suppress(OSError):
-                if folder.isdecimal() and f"{self.folder}/".encode() in open(f"/proc/{folder}/cmdline", "rb").read():
-                    os.kill(int(folder), signal.SIGKILL)
-
     def show_logs(self):
         for server in self.servers.values():
             if os.path.exists(server.log):
@@ -169,7 +177,7 @@ class Cluster:
     def members(self, server):
         """The members as a server lists them, none if it does not answer."""
         try:
-            return self.ask(server, "cluster/member/list", {})["members"]
+            return self.ask(server, "cluster/member/list", {}, self.token(server))["members"]
         except UNANSWERED:
             return []
 
@@ -208,6 +216,11 @@ class Cluster:
         """The answer of a server to a call of its HTTP gateway."""
         headers = {"Content-Type": "application/json", **({"Authorization": token} if token else {})}
         with self.opener().open(urllib.request.Request(f"{server.client}/v3/{call}", json.dumps(message).encode(), headers), timeout=10) as answer:
+            return json.load(answer)
+
+    def read(self, server, path):
+        """What a server says at a path of its client URL."""
+        with self.opener().open(f"{server.client}/{path}", timeout=10) as answer:
             return json.load(answer)
 
     def token(self, server):

@@ -1,6 +1,8 @@
 """The command line of confscript-etcd, without a cluster."""
+import os
 import re
 import subprocess
+import tempfile
 
 from checks import holds
 from clusters import ENVIRONMENT
@@ -39,14 +41,43 @@ def command_line():
     ):
         status, _, error = run(*words)
         holds(f"{words}: status {status}: {error}", status == 2 and error.splitlines()[-1].endswith(f": error: {wanted}"))
-    for words, wanted in (
-        (["status", "--etcdctl", "/none/etcdctl"], "/none/etcdctl cannot be run: No such file or directory (Debian has it in etcd-client; --etcdctl names another one)"),
-        (["status", "--etcdctl", "echo no"],
+    for words, status, wanted in (
+        (["status", "--etcdctl", "/none/etcdctl"], 1,
+         "/none/etcdctl cannot be run: No such file or directory (Debian has it in etcd-client; --etcdctl names another one)"),
+        (["status", "--etcdctl", "echo no"], 1,
          "member list: expected JSON from etcdctl, and not 'no --endpoints=http://127.0.0.1:2379 member list --write-out=json'"),
-        (["status", "--client-url", "n1=10.0.0.1:2379"], "'10.0.0.1:2379': expected a URL with a scheme, a host and a port, such as http://10.0.0.4:2380"),
+        (["status", "--etcdctl", r"""sh -c 'printf "\303"'"""], 1, "member list: expected JSON from etcdctl, and not '\ufffd'"),
+        (["status", "--etcdctl", "etcdctl --user 'root"], 2, "--etcdctl: no closing quotation"),
+        (["status", "--endpoints", "http://10.0.0.1:2379,n2"], 2, "'http://n2': expected a URL with a scheme, a host and a port, such as http://10.0.0.4:2380"),
+        (["status", "--client-url", "n1=10.0.0.1:2379"], 2, "'10.0.0.1:2379': expected a URL with a scheme, a host and a port, such as http://10.0.0.4:2380"),
+        # What is wrong is found before the cluster is asked.
+        (["replace", "n1,n2", "--with", "n4=http://10.0.0.4:2380"], 2, "2 to replace, and 1 with a name of their own in --with: expected as many"),
+        (["add", "n4"], 2, "'n4': expected NAME=URL, such as n4=http://10.0.0.4:2380"),
+        (["remove", "n1,n1"], 2, "n1 is named twice"),
+        (["carry-out", "/none/plan"], 1, "/none/plan: No such file or directory"),
+        (["carry-out", os.devnull], 1, "there is no plan in the input"),
     ):
-        status, _, error = run(*words)
-        holds(f"{words}: status {status}: {error}", (status, error) == (1, f"confscript-etcd: {wanted}\n"))
+        actual, _, error = run(*words)
+        holds(f"{words}: status {actual}: {error}", (actual, error) == (status, f"confscript-etcd: {wanted}\n"))
+    it = subprocess.run([COMMAND, "status", "--etcdctl", "echo \u00e9"], capture_output=True, text=True, check=False,
+                        env={**ENVIRONMENT, "CONFSCRIPT": built_program(), "PYTHONIOENCODING": "ascii"})
+    holds(f"what cannot be encoded: {it.stderr}", it.returncode == 1 and r"and not '\xe9 --endpoints" in it.stderr)
+    with tempfile.TemporaryDirectory() as folder:
+        program = f"{folder}/confscript"
+        with open(program, "w", encoding="utf-8") as script:
+            script.write("#!/bin/sh\necho 'cc: one' >&2\necho 'cc: two' >&2\nexit 3\n")
+        os.chmod(program, 0o755)
+        it = subprocess.run([COMMAND, "--version"], capture_output=True, text=True, env={**ENVIRONMENT, "CONFSCRIPT": program}, check=False)
+        holds(f"a program that cannot be linked: {it.stderr}", (it.returncode, it.stderr) == (1, f"confscript-etcd: {program} cannot be run: cc: two\n"))
+    closed = subprocess.run(["sh", "-c", '"$0" --version >&- 2>&- <&-', COMMAND], env={**ENVIRONMENT, "CONFSCRIPT": built_program()}, check=False)
+    holds(f"without standard streams: status {closed.returncode}", closed.returncode == 0)
 
 
-TESTS = (command_line,)
+def etcdctl_hangs():
+    """A call of etcdctl that does not end is given up."""
+    status, _, error = run("status", "--limit", "1", "--etcdctl", "sh -c 'exec sleep 1000'")
+    holds(f"status {status}: {error}", (status, error) == (1, "confscript-etcd: cannot reach http://127.0.0.1:2379 (etcdctl: it did not end after 8 s); "
+                                                      "is --endpoints right?\n"))
+
+
+TESTS = (command_line, etcdctl_hangs)

@@ -5,7 +5,7 @@ import socket
 
 from checks import holds, wait_for
 from clusters import Cluster, encoded
-from runs import TOP, begin, refuses, run, settings_in, start_command, succeeds, watched
+from runs import TOP, begin, lines, lists_are_current, refuses, run, settings_in, start_command, succeeds, suggested, watched
 
 
 def failed_server():
@@ -21,8 +21,8 @@ def failed_server():
         wait_for("another server leads", cluster.leader)
 
         status, output, _ = run(cluster, "status")
-        holds(f"status shows the server that failed:\n{output}", status == 1 and f"confscript-etcd replace {dead.name} --with NAME=URL" in output
-              and "2 of 3 voters answer, 2 are a majority: 0 more may fail" in output)
+        holds(f"status shows the server that failed:\n{output}", status == 4 and suggested(cluster, "replace", dead.name, "--with", "NAME=URL") in output
+              and "2 of 3 voters answer (majority: 2). No further failure is tolerated." in output)
         refuses(cluster, "a healthy server named as failed",
                 f"{one} answers, so nothing is changed. Stop it if it failed; a healthy one needs --healthy", "replace", one, "--with", new, "--yes")
         refuses(cluster, "a healthy server and the one that failed",
@@ -32,12 +32,12 @@ def failed_server():
         refuses(cluster, "a healthy server, and not the one that failed", silent, "remove", one, "--healthy", "--yes")
         refuses(cluster, "a server more, and not the one that failed", silent, "add", new, "--yes")
         members = f"the members are {', '.join(sorted([one, other, dead.name])[:2])} and {sorted([one, other, dead.name])[2]}"
-        refuses(cluster, "a mistyped server", f"n33 is not a member: {members}. If an interrupted run on another machine removed it, "
-                f"carry on with confscript-etcd add {new}", "replace", "n33", "--with", new, "--yes")
+        refuses(cluster, "a mistyped server", f"n33 is not a member, and n4 is none either, so there is nothing to carry on: {members}. "
+                f"To add n4: {suggested(cluster, 'add', new)}", "replace", "n33", "--with", new, "--yes")
         refuses(cluster, "a rounded id", f"{int(id, 16) // 1000 * 1000} is not a member: {members}", "remove", str(int(id, 16) // 1000 * 1000), "--yes")
         refuses(cluster, "one server by its name and by its id", f"{dead.name} is named twice", "remove", dead.name, id, "--yes")
         refuses(cluster, "a URL without a scheme", "'127.0.0.1:2380': expected a URL with a scheme, a host and a port, such as http://10.0.0.4:2380",
-                "replace", dead.name, "--with", "n4=127.0.0.1:2380", "--yes")
+                "replace", dead.name, "--with", "n4=127.0.0.1:2380", "--yes", status=2)
         refuses(cluster, "a URL of another member", f"{cluster[one].peer}: a URL of the member {one}",
                 "replace", dead.name, "--with", f"n4={cluster[one].peer}", "--yes")
         refuses(cluster, "no answer", "nothing was changed", "replace", dead.name, "--with", new)
@@ -45,7 +45,7 @@ def failed_server():
         output = succeeds(cluster, "replace", id, "--with", new, "--dry-run")
         calls = [line.split(" ", 2)[2] for line in output.splitlines() if line.startswith("etcdctl ")]
         holds(f"a dry run:\n{output}", calls == [f"member remove {id}", f"member add n4 --peer-urls={cluster['n4'].peer} --learner", "member promote ID_OF_n4"])
-        holds(f"it is said that the server must stay stopped:\n{output}", f"\n{dead.name} must stay stopped. " in output)
+        holds(f"it is said that the server must stay stopped:\n{output}", f"\nKeep {dead.name} stopped. " in output)
         holds("a dry run changes nothing", cluster.configuration(rest[0]) == "n1 n2 n3")
 
         words = ["replace", dead.name, "--with", new, "--yes", "--start", start_command(cluster)]
@@ -69,11 +69,11 @@ def failed_server_comes_back():
         holds(f"README shows what is printed:\n{output}", output.startswith(shown_by_readme()))
         words = ["replace", "n3", "--with", f"n3={dead.peer}", "--yes"]
         with contextlib.closing(socket.create_server(("127.0.0.1", int(dead.peer.rpartition(":")[2])))):
-            refuses(cluster, "something listens at its peer URL", f"n3 does not answer, but something listens at its peer URL {dead.peer}, so nothing is "
-                    "changed. Stop it first", *words)
+            refuses(cluster, "something listens at its peer URL", f"n3 does not answer at {dead.client}, but something listens at its peer URL {dead.peer}, "
+                    f"so it may be up. Stop it; or give the URL at which it answers (--client-url n3=URL), or --peer-proxy if that is a proxy", *words)
         it = begin(cluster, *words)
         shown = []
-        for line in it.stdout:
+        for line in lines(it):
             shown.append(line)
             if line == "  start n3 now\n":
                 dead.start(settings_in("".join(shown), "n3"))
@@ -85,7 +85,8 @@ def failed_server_comes_back():
         holds(f"status {it.wait()}:\n{output}", it.returncode == 0)
         holds(f"it is said what the new server waits for:\n{output}", "waiting: n3 has not started: see its log; its data directory must be empty" in output)
         holds("it has a new id", cluster.id(dead) != id)
-        holds("once more, with nothing to do", "there is nothing to do" in succeeds(cluster, *words))
+        refuses(cluster, "once more", "n3 answers at the URL of its successor, so nothing is changed. If it was replaced before, that is done; if not, stop it "
+                "first", *words)
         refuses(cluster, "its name again, by another command", "n3 answers, so nothing is changed. Stop it if it failed; a healthy one needs --healthy",
                 "remove", "n3", "--yes")
         cluster.check_end("n1 n2 n3")
@@ -95,8 +96,8 @@ def shown_by_readme():
     """What README shows of a run that replaces n3, without the command and without the question."""
     with open(f"{TOP}/README.md", encoding="utf-8") as file:
         text = file.read()
-    begin = text.index("\n", text.index("\nconfscript-etcd replace n3 ") + 1) + 1
-    return text[begin:text.index("Continue? ", begin)]
+    begin = text.index("\n", text.index("\n./confscript-etcd replace n3 ") + 1) + 1
+    return text[begin:text.index("This is the cluster ", begin)]
 
 
 def two_failed_servers():
@@ -121,10 +122,16 @@ def quorum_is_lost():
     with Cluster(3, ["n4"]).running() as cluster:
         for name in ("n2", "n3"):
             cluster[name].kill()
-        refuses(cluster, "no quorum", "1 of 3 voters answer, and 2 are a majority, so no change of members can be made. Bring servers back, or restore "
-                "a snapshot (ETCD.md, 'If quorum is lost')", "replace", "n2", "--with", f"n4={cluster['n4'].peer}", "--yes")
-        status, output, _ = run(cluster, "status")
-        holds(f"the status:\n{output}", status == 1 and "1 of 3 voters answers" not in output and "nothing can be written" in output)
+        if lists_are_current():
+            wanted = f"no list of members: {cluster['n1'].client} answers and has no leader, and {cluster['n2'].client} and {cluster['n3'].client} do not " \
+                "answer. Name other voters (--endpoints). If a majority of them is down, nothing can be written (ETCD.md, 'If quorum is lost')"
+        else:
+            wanted = "1 of 3 voters answer, and 2 are a majority, so no change of members can be made. Bring servers back, or restore a snapshot " \
+                "(ETCD.md, 'If quorum is lost'; --client-url NAME=URL if one is reached elsewhere)"
+        refuses(cluster, "no quorum", wanted, "replace", "n2", "--with", f"n4={cluster['n4'].peer}", "--yes")
+        status, output, error = run(cluster, "status")
+        holds(f"the status:\n{output}{error}", status == 5 and "1 of 3 voters answers" not in output and "othing can be written" in (
+            error if lists_are_current() else output))
         cluster["n2"].start_again()
         cluster.wait_for_puts()
         cluster["n3"].start_again()

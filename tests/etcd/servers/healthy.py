@@ -6,32 +6,43 @@ import subprocess
 
 from checks import holds, wait_for
 from clusters import Cluster
-from runs import Gate, begin, built_program, refuses, run, settings_in, start_command, succeeds, watched
+from runs import Gate, Watch, begin, built_program, lines, refuses, run, run_into, settings_in, start_command, succeeds, watched
 
 
 def all_healthy_servers():
-    """All of three servers are replaced, the leader too. The operator is asked, and starts the new ones."""
+    """All of three servers are replaced, the leader too. The operator is asked, and starts the new ones. Each takes the place
+    of its own member before the next one joins."""
     with Cluster(3, ["n4", "n5", "n6"]).running() as cluster:
         pairs = ",".join(f"{name}={cluster[name].peer}" for name in ("n4", "n5", "n6"))
         refuses(cluster, "without --healthy", "n1 answers, so nothing is changed. Stop it if it failed; a healthy one needs --healthy",
                 "replace", "n1,n2,n3", "--with", pairs, "--yes")
-        refuses(cluster, "at its own URL", "n1 answers at the URL of its successor, so nothing is changed. Stop it first",
+        refuses(cluster, "at its own URL", "n1 answers at the URL of its successor, so nothing is changed. If it was replaced before, that is done; "
+                "if not, stop it first",
                 "replace", "n1", "--with", f"n1={cluster['n1'].peer}", "--healthy", "--yes")
         refuses(cluster, "a name that is taken", "n2 is the name, or has a URL, of a member that is still there when it is added",
                 "replace", "n1", "--with", f"n2={cluster['n4'].peer}", "--healthy", "--yes")
-        it = begin(cluster, "replace", "n1,n2", "n3", "--with", pairs, "--healthy")
-        it.stdin.write("y\n")
-        it.stdin.flush()
-        shown = []
-        for line in it.stdout:
-            shown.append(line)
-            words = line.split()
-            if len(words) == 3 and (words[0], words[2]) == ("start", "now"):
-                cluster[words[1]].start(settings_in("".join(shown), words[1]))
-        output = "".join(shown)
-        holds(f"status {it.wait()}:\n{output}", it.returncode == 0)
-        holds(f"the leader moves before it leaves:\n{output}", " move-leader " in output)
-        holds(f"no server has to stay stopped:\n{output}", "must stay stopped" not in output)
+        output = succeeds(cluster, "replace", "n1,n2,n3", "--with", pairs, "--healthy", "--dry-run")
+        calls = [line for line in output.splitlines() if line.startswith("etcdctl ")]
+        holds(f"each call names endpoints:\n{output}", "--endpoints= " not in output and len(calls) == 10 and "CLIENT_URL_OF_n4" in calls[-1])
+        holds(f"a later addition names the servers that joined before:\n{output}", f"n4={cluster['n4'].peer}" in output[output.index("# start n6:"):])
+        watch = Watch(cluster, "n1 n2 n3", "n1 n2 n3 +n4", "n1 n2 n3 n4", "n2 n3 n4", "n2 n3 n4 +n5", "n2 n3 n4 n5", "n3 n4 n5", "n3 n4 n5 +n6",
+                      "n3 n4 n5 n6", "n4 n5 n6")
+        with Gate(cluster, before=watch) as gate:
+            it = begin(cluster, "replace", "n1,n2", "n3", "--with", pairs, "--healthy", etcdctl=gate.etcdctl)
+            it.stdin.write("y\n")
+            it.stdin.flush()
+            shown = []
+            for line in lines(it):
+                shown.append(line)
+                words = line.split()
+                if len(words) == 3 and (words[0], words[2]) == ("start", "now"):
+                    cluster[words[1]].start(settings_in("".join(shown), words[1]))
+            output = "".join(shown)
+            holds(f"status {it.wait()}:\n{output}", it.returncode == 0)
+        watch.check()
+        holds(f"each configuration on the way:\n{output}", watch.at == 10)
+        holds(f"leadership moves once at most:\n{output}", len({line.split()[-1] for line in output.splitlines() if " move-leader " in line}) <= 1)
+        holds(f"no server has to stay stopped:\n{output}", "Keep " not in output)
         for server in cluster.first:
             wait_for(f"{server.name} ends by itself", lambda: server.process.poll() is not None)
         cluster.check_end("n4 n5 n6")
@@ -47,7 +58,16 @@ def growing_and_shrinking():
                 "n1 n2 n3", "n1 n2 n3 +n4", "n1 n2 n3 n4", "n1 n2 n3 n4 +n5", "n1 n2 n3 n4 n5")
         output = succeeds(cluster, "remove", "n1", "n2", "--healthy", "--yes", endpoints=cluster.up())
         holds(f"it is said what clients need:\n{output}", output.count("http") and "Give your clients the new endpoints: " in output)
-        cluster.check_end("n3 n4 n5")
+        # That nobody reads the output, or that it cannot be written, ends no run.
+        with open("/dev/full", "w", encoding="utf-8") as full:
+            status = run_into(cluster, full, "remove", "n5", "--healthy", "--yes", endpoints=cluster.up())
+        holds(f"the output cannot be written: {status}", status == 0)
+        reading, writing = os.pipe()
+        os.close(reading)
+        with open(writing, "w", encoding="utf-8") as closed:
+            status = run_into(cluster, closed, "remove", "n4", "--healthy", "--yes", endpoints=cluster.up())
+        holds(f"nobody reads the output: {status}", status == 0)
+        cluster.check_end("n3")
 
 
 def a_line(step, steps, type, id, voters, learners=(), **others):
@@ -111,7 +131,8 @@ def plan_from_a_file():
         ]
         for name, lines, options, wanted in rows:
             status, _, error = run(cluster, "carry-out", "-", *options, "--yes", answer=text_of(lines))
-            holds(f"{name}: status {status}: {error}", (status, error) == (1, f"confscript-etcd: {wanted}\n"))
+            usage = name in ("a name without a new member", "a URL without a port")
+            holds(f"{name}: status {status}: {error}", (status, error) == (2 if usage else 1, f"confscript-etcd: {wanted}\n"))
         holds("nothing is changed", [cluster.configuration(server) for server in cluster.first] == ["n1 n2 n3"] * 3)
         output = succeeds(cluster, "carry-out", "-", "--yes", answer='{"plan":1,"steps":0}\n')
         holds(f"an empty plan: {output}", output == "there is nothing to do: the members are as they are wanted\n")

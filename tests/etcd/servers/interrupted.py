@@ -1,10 +1,9 @@
 """Runs that are killed, and two operators at once."""
-import os
 import signal
 
 from checks import Broken, holds
 from clusters import Cluster
-from runs import Gate, begin, run, start_command, succeeds
+from runs import Gate, begin, refuses, run, start_command, succeeds
 
 # etcdctl, which kills the run that called it after a number of calls.
 KILLING = """#!/bin/sh
@@ -19,15 +18,23 @@ exit "$status"
 
 
 def killed_after_each_call(cluster, *words):
-    """Runs the command, and kills it with -9 after its first call of etcdctl, then after its second, and so on, until it
-    ends before. Each call changes the cluster in some run, so the command is interrupted after each change."""
+    """Runs the command, and kills it with -9 after its first call of etcdctl, then after one more, and so on, until it ends
+    before. Each call changes the cluster in some run, so the command is interrupted after each change. The calls before the
+    question, which --dry-run makes too, are left out but for the first one."""
     script, calls = f"{cluster.folder}/killing", f"{cluster.folder}/calls"
     with open(script, "w", encoding="utf-8") as file:
         file.write(KILLING)
-    for last in range(1, 200):
+
+    def run_until(last, *more):
         with open(calls, "w", encoding="utf-8"):
             pass
-        status, output, error = run(cluster, *words, etcdctl=["sh", script, calls, str(last), *cluster.etcdctl])
+        return run(cluster, *words, *more, etcdctl=["sh", script, calls, str(last), *cluster.etcdctl])
+
+    run_until(200, "--dry-run")
+    with open(calls, encoding="utf-8") as file:
+        before = len(file.readlines())
+    for last in (1, *range(before, 200)):
+        status, output, error = run_until(last)
         if status != -signal.SIGKILL:
             holds(f"status {status} after {last} calls: {error}\n{output}", status == 0)
             return last
@@ -51,7 +58,8 @@ def killed_while_a_failed_server_comes_back():
         cluster["n3"].delete_data()
         words = ["replace", "n3", "--with", f"n3={cluster['n3'].peer}", "--yes", "--start", start_command(cluster)]
         killed_after_each_call(cluster, *words)
-        holds("nothing is left", "there is nothing to do" in succeeds(cluster, *words))
+        refuses(cluster, "once more", "n3 answers at the URL of its successor, so nothing is changed. If it was replaced before, that is done; if not, stop it "
+                "first", *words)
         holds("the server has a new id", cluster.id(cluster["n3"]) != id)
         cluster.check_end("n1 n2 n3")
 
@@ -66,11 +74,37 @@ def killed_while_the_leader_is_replaced():
         cluster.check_end("n4 n5")
 
 
-def one_run_overtakes_another():
-    """The first change of a run is held until another run of the same command has made all of them."""
-    with Cluster(3, ["n4"]).running() as cluster:
+# etcdctl, as if a user may not write keys.
+WITHOUT_KEYS = """#!/bin/sh
+case " $* " in *" txn "*) echo 'Error: etcdserver: permission denied' >&2; exit 1 ;; esac
+exec etcdctl "$@"
+"""
+
+
+def one_run_at_a_time():
+    """While a run changes members, another one is refused, and says who is at it. Where the key cannot be written, the run
+    says so; then its first change is held until another run of the same command has made all of them."""
+    with Cluster(3, ["n4", "n5"]).running() as cluster:
+        start = ["--yes", "--start", start_command(cluster)]
+        words = ["replace", "n3", "--with", f"n4={cluster['n4'].peer}", *start]
         cluster["n3"].kill()
-        words = ["replace", "n3", "--with", f"n4={cluster['n4'].peer}", "--yes", "--start", start_command(cluster)]
+        refused = []
+
+        def run_another(call, pid, status):
+            if not refused:
+                refused.append(run(cluster, *words))
+
+        with Gate(cluster, before=run_another) as gate:
+            succeeds(cluster, *words, etcdctl=gate.etcdctl)
+        status, output, error = refused[0]
+        holds(f"the other run, status {status}: {error}", status == 1 and "confscript-etcd: another run changes the members: " in error
+              and f": replace n3 --with n4={cluster['n4'].peer}. If it was killed, its key confscript-etcd/run ends within 60 s" in error)
+
+        cluster["n2"].kill()
+        words = ["replace", "n2", "--with", f"n5={cluster['n5'].peer}", *start]
+        with open(f"{cluster.folder}/without_keys", "w", encoding="utf-8") as script:
+            script.write(WITHOUT_KEYS)
+        cluster.etcdctl = ["sh", script.name]
         faster = []
 
         def overtake(call, pid, status):
@@ -79,30 +113,24 @@ def one_run_overtakes_another():
                 faster[0] = succeeds(cluster, *words)
 
         with Gate(cluster, before=overtake) as gate:
-            succeeds(cluster, *words, etcdctl=gate.etcdctl)
+            output = succeeds(cluster, *words, etcdctl=gate.etcdctl)
+        holds(f"it is said that there is no key:\n{output}", "the key confscript-etcd/run cannot be written, so another run would not be noticed: " in output)
         holds("the other run makes the changes", faster and "member promote" in (faster[0] or ""))
-        cluster.check_end("n1 n2 n4")
+        cluster.check_end("n1 n4 n5")
 
 
 def two_operators():
-    """Two runs of one command on one machine at once both end well. Of two on different machines that replace a server by
-    different ones, one ends well, and the other stops."""
-    with Cluster(3, ["n4", "n5", "n6"]).running() as cluster:
-        start = ["--yes", "--start", start_command(cluster)]
+    """Of two runs at once that replace a server by different ones, one ends well, and the other one changes nothing."""
+    with Cluster(3, ["n4", "n5"]).running() as cluster:
         cluster["n3"].kill()
-        both = [begin(cluster, "replace", "n3", "--with", f"n4={cluster['n4'].peer}", *start) for _ in range(2)]
-        for it in both:
-            output = it.communicate()[0]
-            holds(f"the same command, status {it.returncode}:\n{output}", it.returncode == 0)
-        cluster.wait_for_puts()
-        cluster["n2"].kill()
-        both = [begin(cluster, "replace", "n2", "--with", f"{name}={cluster[name].peer}", *start, state=name) for name in ("n5", "n6")]
+        start = ["--yes", "--start", start_command(cluster)]
+        both = [begin(cluster, "replace", "n3", "--with", f"{name}={cluster[name].peer}", *start, state=name) for name in ("n4", "n5")]
         outputs = [it.communicate()[0] for it in both]
+        statuses = [it.returncode for it in both]
         text = "\n".join(outputs)
-        holds(f"different commands, statuses {[it.returncode for it in both]}:\n{text}", sorted(it.returncode for it in both) == [0, 1])
-        winner = ("n5", "n6")[[it.returncode for it in both].index(0)] if 0 in [it.returncode for it in both] else "n5"
-        cluster.check_end(f"n1 n4 {winner}")
+        holds(f"statuses {statuses}:\n{text}", sorted(statuses) == [0, 1])
+        cluster.check_end(f"n1 n2 {('n4', 'n5')[statuses.index(0)] if 0 in statuses else 'n4'}")
 
 
 TESTS = (killed_while_the_leader_is_replaced, killed_while_a_failed_server_comes_back, killed_while_a_failed_server_is_replaced,
-         one_run_overtakes_another, two_operators)
+         one_run_at_a_time, two_operators)

@@ -2,6 +2,7 @@
 import functools
 import json
 import os
+import re
 import shlex
 import socketserver
 import subprocess
@@ -22,6 +23,13 @@ def built_program():
     return os.environ.get("CONFSCRIPT") or subprocess.check_output([f"{TOP}/tools/program"], text=True).rstrip("\n")
 
 
+@functools.lru_cache
+def lists_are_current():
+    """Whether etcdctl asks for a list of members that is current, as it does from 3.5 on. Without a quorum there is none."""
+    answer = subprocess.check_output(["etcdctl", "version"], env={**ENVIRONMENT, "ETCDCTL_API": "3"}, text=True)
+    return tuple(int(part) for part in answer.split()[2].split(".")[:2]) >= (3, 5)
+
+
 def command(cluster, *words, endpoints=None, state="state", etcdctl=None):
     """The command line of a run, and its environment. It asks the first servers, and keeps its record in the folder of
     the cluster."""
@@ -37,6 +45,12 @@ def run(cluster, *words, answer="", **others):
     return it.returncode, it.stdout, it.stderr
 
 
+def run_into(cluster, output, *words, **others):
+    """Runs the command with a file as its standard output. Its status."""
+    line, environment = command(cluster, *words, **others)
+    return subprocess.run(line, stdin=subprocess.DEVNULL, stdout=output, stderr=subprocess.PIPE, env=environment, check=False).returncode
+
+
 def succeeds(cluster, *words, **others):
     """Runs the command, which has to succeed. Its output."""
     status, output, error = run(cluster, *words, **others)
@@ -45,11 +59,11 @@ def succeeds(cluster, *words, **others):
     return output
 
 
-def refuses(cluster, name, wanted, *words, **others):
+def refuses(cluster, name, wanted, *words, status=1, **others):
     """Runs a command that has to fail with one line, and to change nothing."""
     before = [cluster.configuration(server) for server in cluster.up()]
-    status, _, error = run(cluster, *words, **others)
-    holds(f"{name}: status {status}: {error}", (status, error) == (1, f"confscript-etcd: {wanted}\n"))
+    actual, _, error = run(cluster, *words, **others)
+    holds(f"{name}: status {actual}: {error}", (actual, error) == (status, f"confscript-etcd: {wanted}\n"))
     holds(f"{name}: nothing is changed", [cluster.configuration(server) for server in cluster.up()] == before)
 
 
@@ -59,6 +73,18 @@ def begin(cluster, *words, **others):
     it = subprocess.Popen(line, stdin=subprocess.PIPE, stdout=subprocess.PIPE, stderr=subprocess.STDOUT, text=True, env=environment, start_new_session=True)
     cluster.groups.append(it)
     return it
+
+
+def lines(it):
+    """Yields the lines of a run that was begun, without the time at which each was printed."""
+    for line in it.stdout:
+        yield re.sub(r"^[0-9-]{10}T[0-9:]{8}Z ", "", line)
+
+
+def suggested(cluster, *words, endpoints=None, etcdctl=None):
+    """The command that a run suggests for the same cluster."""
+    line, _ = command(cluster, *words, endpoints=endpoints, etcdctl=etcdctl)
+    return shlex.join(["confscript-etcd", *words, *line[line.index("--endpoints"):line.index("--etcdctl")]])
 
 
 def start_command(cluster, *before):
@@ -82,14 +108,15 @@ def tell(when, status=0):
         gate.connect(os.environ["GATE"])
         gate.sendall(json.dumps({"when": when, "words": sys.argv[2:], "status": status, "pid": os.getppid()}).encode() + b"\\n")
         gate.recv(1)
-words = sys.argv[1:]
-if not any(word in %r for word in words):
-    os.execvp(words[0], words)
 tell("before")
-status = subprocess.call(words)
+status = subprocess.call(sys.argv[1:])
 tell("after", status)
 sys.exit(status)
-""" % (CHANGES,)
+"""
+# All other calls go on at once.
+PASSING = f"""case " $* " in {'|'.join(f'*" {word} "*' for word in CHANGES)}) exec python3 "$0.py" "$@" ;; esac
+exec "$@"
+"""
 
 
 class Gate(socketserver.ThreadingUnixStreamServer):
@@ -103,9 +130,10 @@ class Gate(socketserver.ThreadingUnixStreamServer):
         path = f"{cluster.folder}/gate"
         super().__init__(path, Asked)
         self.calls = {"before": before, "after": after}
-        with open(f"{path}.py", "w", encoding="utf-8") as script:
-            script.write(GATE)
-        self.etcdctl = ["env", f"GATE={path}", "python3", f"{path}.py", *cluster.etcdctl]
+        for name, text in ((f"{path}.sh.py", GATE), (f"{path}.sh", PASSING)):
+            with open(name, "w", encoding="utf-8") as script:
+                script.write(text)
+        self.etcdctl = ["env", f"GATE={path}", "sh", f"{path}.sh", *cluster.etcdctl]
         threading.Thread(target=self.serve_forever, daemon=True).start()
 
     def __exit__(self, *reason):

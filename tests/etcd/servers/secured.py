@@ -1,10 +1,11 @@
 """Clusters with certificates, and with users."""
+import shlex
 import ssl
 import subprocess
 import urllib.request
 
 from checks import holds, wait_for
-from clusters import UNANSWERED, Cluster
+from clusters import PORTS, UNANSWERED, Cluster
 from runs import refuses, run, start_command, succeeds
 
 # The key and the certificate of an authority, and those of all servers and clients, which it signs.
@@ -43,8 +44,14 @@ def certificates():
         cluster["n3"].kill()
         words = ["replace", "n3", "--with", f"n4={cluster['n4'].peer}", "--yes", "--start", start_command(cluster)]
         status, _, error = run(cluster, *words, etcdctl=["etcdctl"])
-        holds(f"without certificates: {error}", status == 1 and error.startswith("confscript-etcd: no list of members from https://") and error.count("\n") == 1)
-        succeeds(cluster, *words)
+        holds(f"without certificates: {error}", status == 1 and error.startswith("confscript-etcd: cannot reach https://") and error.count("\n") == 1)
+        with open(f"{cluster.folder}/hiding", "w", encoding="utf-8") as script:
+            script.write(f'exec {shlex.join(cluster.etcdctl)} "$@"\n')
+        unknown = "Whether the other members hear from n3 is not known: their /metrics cannot be read from here."
+        output = succeeds(cluster, *words, "--dry-run", etcdctl=["sh", script.name])
+        holds(f"without etcdctl's certificates nobody is asked who hears from it:\n{output}", unknown in " ".join(output.split()))
+        output = succeeds(cluster, *words)
+        holds(f"by its options they are:\n{output}", unknown not in " ".join(output.split()))
         _, ca, _, pem, _, key = cluster.etcdctl[1:]
         cluster.variables = {**cluster.variables, "ETCDCTL_CACERT": ca, "ETCDCTL_CERT": pem, "ETCDCTL_KEY": key, "ETCDCTL_WRITE_OUT": "table"}
         output = succeeds(cluster, *words, etcdctl=["etcdctl"])
@@ -54,20 +61,23 @@ def certificates():
 
 
 class UserCluster(Cluster):
-    """A cluster that asks who calls."""
+    """A cluster that asks who calls. Later releases of 3.5 also ask who wants to know the members or the status."""
+
+    asks = False
 
     def after_start(self):
         self.wait_for_leader()
         for words in (["user", "add", "root:secret"], ["user", "grant-role", "root", "root"], ["auth", "enable"]):
             wait_for(" ".join(words), lambda: self.etcdctl_at(self["n1"], *words))
         self.variables = {**self.variables, "ETCDCTL_USER": "root:secret"}
+        self.asks = True
 
     def wait_for_leader(self):
         wait_for("a server leads", self.leader)
 
     def token(self, server):
         try:
-            return self.ask(server, "auth/authenticate", {"name": "root", "password": "secret"})["token"]
+            return self.asks and self.ask(server, "auth/authenticate", {"name": "root", "password": "secret"})["token"]
         except UNANSWERED:
             return None
 
@@ -84,13 +94,17 @@ def users():
     """A failed server is replaced where each call needs a user. The password is not printed."""
     with UserCluster(3, ["n4"]).running() as cluster:
         cluster["n3"].kill()
+        cluster.wait_for_leader()
         words = ["replace", "n3", "--with", f"n4={cluster['n4'].peer}", "--yes", "--start", start_command(cluster)]
         cluster.variables["ETCDCTL_USER"] = "root"
-        refuses(cluster, "without a password", "ETCDCTL_USER is root: give the password too, in ETCDCTL_PASSWORD or as ETCDCTL_USER=root:PASSWORD", *words)
+        refuses(cluster, "without a password", "ETCDCTL_USER is root: give the password too, in ETCDCTL_PASSWORD or as ETCDCTL_USER=root:PASSWORD", *words,
+                status=2)
         del cluster.variables["ETCDCTL_USER"]
         status, _, error = run(cluster, *words)
-        holds(f"without a user: {error}", status == 1 and error.endswith("(give the user and the password: ETCDCTL_USER=root:PASSWORD)\n"))
+        holds(f"without a user: {error}", status in (1, 3) and error.endswith("(give the user and the password: ETCDCTL_USER=root:PASSWORD)\n"))
         output = succeeds(cluster, *words, etcdctl=["etcdctl", "--user", "root:secret"])
+        status, _, error = run(cluster, "add", f"transport-db4=http://127.0.0.1:{next(PORTS)}", "--yes")
+        holds(f"a name that is like an error is none: {error}", status in (1, 3) and error.endswith("(give the user and the password: ETCDCTL_USER=root:PASSWORD)\n"))
         holds(f"the password is not printed:\n{output}", "secret" not in output and "member promote" in output)
         cluster.variables["ETCDCTL_USER"] = "root:secret"
         output = succeeds(cluster, *words)

@@ -1,13 +1,15 @@
 """What a run waits for: a server that is behind, that never starts, that no one reaches, a voter that dies meanwhile."""
 import contextlib
+import os
 import queue
+import signal
 import socket
 import threading
 import time
 
 from checks import holds, wait_for
 from clusters import PORTS, Cluster
-from runs import Gate, begin, refuses, run, settings_in, start_command, succeeds
+from runs import Gate, begin, lines, refuses, run, settings_in, start_command, succeeds, suggested
 
 
 class Slow(threading.Thread):
@@ -118,7 +120,7 @@ def server_is_behind():
             it = begin(cluster, "replace", "n2", "--with", f"n4={cluster['n4'].peer}", "--healthy", "--yes", "--start", start_command(cluster),
                        endpoints=[cluster["n3"]], etcdctl=gate.etcdctl)
             shown = []
-            for line in it.stdout:
+            for line in lines(it):
                 shown.append(line)
                 if line == "  waiting: n3 has not applied the last change yet\n":
                     release()
@@ -133,16 +135,25 @@ def server_never_starts():
     """A server that is not started, and then is, with a wrong client URL; and one that its peers cannot reach."""
     with Cluster(1, ["n2", "n3"]).running() as cluster:
         words = ["add", f"n2={cluster['n2'].peer}", "--yes"]
+        it = begin(cluster, *words)
+        shown = []
+        for line in lines(it):
+            shown.append(line)
+            if "n2 has not started" in line:
+                os.killpg(it.pid, signal.SIGINT)
+        holds(f"interrupted on the way, status {it.wait()}:\n{''.join(shown)}", it.returncode == 3
+              and shown[-1] == "confscript-etcd: interrupted; the same command again carries on\n")
         status, output, error = run(cluster, *words, "--limit", "1")
-        holds(f"it is given up: {error}", (status, error) == (1, "confscript-etcd: step 1 of 2: gave up after 1 s: n2 has not started: see its log; its data "
-                                                      "directory must be empty\n"))
+        out = suggested(cluster, "remove", f"{cluster.id(cluster['n2']):x}", "--healthy")
+        holds(f"it is given up: {error}", (status, error) == (3, "confscript-etcd: gave up after 1 s: n2 has not started: see its log; its data "
+                                                      f"directory must be empty. To take n2 out again: {out}\n"))
         holds("it is a learner", cluster.configuration(cluster["n1"]) == "n1 +n2")
         refuses(cluster, "another one meanwhile", "step 1 of 2: etcd's server takes one learner at a time", "add", f"n3={cluster['n3'].peer}", "--yes")
         # It advertises a client URL at which it is not reached from here.
         cluster["n2"].advertised = "http://127.0.0.1:1"
         cluster["n2"].start(settings_in(output, "n2"))
-        wait_for("the run says where the server does not answer", lambda: run(cluster, *words, "--limit", "1")[2].endswith(
-            "n2 does not answer at http://127.0.0.1:1 (--client-url n2=URL if it is reached elsewhere)\n"))
+        wait_for("the run says where the server does not answer", lambda: "n2 does not answer at http://127.0.0.1:1 (--client-url n2=URL if it is reached "
+                 "elsewhere). To take n2 out again: " in run(cluster, *words, "--limit", "1")[2])
         elsewhere = ["--client-url", f"n2={cluster['n2'].client}"]
         output = succeeds(cluster, *words, *elsewhere)
         holds(f"the same command carries on:\n{output}", "promote n2" in output and "member add" not in output)
@@ -153,7 +164,7 @@ def server_never_starts():
         words = ["add", f"n3={third.peer}", "--yes", *elsewhere]
         it = begin(cluster, *words, "--limit", "30", "--start", start_command(cluster))
         shown = []
-        for line in it.stdout:
+        for line in lines(it):
             shown.append(line)
             if "nothing listens" in line:
                 break
@@ -163,28 +174,33 @@ def server_never_starts():
         it.wait()
         holds("it is not promoted", cluster.configuration(cluster["n1"]) == "n1 n2 +n3")
         status, _, error = run(cluster, *words, "--limit", "1")
-        holds(f"nor by a second run: {error}", status == 1 and "gave up after 1 s: nothing listens at" in error)
+        holds(f"nor by a second run: {error}", status == 3 and "gave up after 1 s: nothing listens at" in error)
         succeeds(cluster, "remove", f"{cluster.id(third):x}", "--healthy", "--yes", *elsewhere)
         cluster.check_end("n1 n2")
 
 
 def voter_dies_meanwhile():
     """While a healthy server is replaced, another one fails. The new one is promoted, and nothing is removed before the
-    other one is back."""
-    with Cluster(3, ["n4"]).running() as cluster:
+    other one is back. It fails again while a server is added."""
+    with Cluster(3, ["n4", "n5"]).running() as cluster:
         dying = cluster["n2"]
         start = start_command(cluster, f"kill -9 {dying.process.pid}")
         it = begin(cluster, "replace", "n1", "--with", f"n4={cluster['n4'].peer}", "--healthy", "--yes", "--start", start)
         shown = []
-        for line in it.stdout:
+        for line in lines(it):
             shown.append(line)
-            if line == "  waiting: n2 does not answer\n":
+            # It is said again while it lasts.
+            if shown.count("  waiting: n2 does not answer\n") == 2 and dying.process.poll() is not None:
                 wait_for("the new one votes, and none has left", lambda: cluster.configuration(cluster["n3"]) == "n1 n2 n3 n4")
                 dying.start_again()
         output = "".join(shown)
         holds(f"status {it.wait()}:\n{output}", it.returncode == 0)
         holds(f"it waited:\n{output}", "  waiting: n2 does not answer\n" in output)
-        cluster.check_end("n2 n3 n4")
+        output = succeeds(cluster, "add", f"n5={cluster['n5'].peer}", "--yes", "--start", start_command(cluster, f"kill -9 {dying.process.pid}"),
+                          endpoints=[cluster["n3"]])
+        holds(f"the end says who is down:\n{output}", "n2 does not answer: 3 of 4 voters answer (majority: 3). No further failure is tolerated." in output)
+        dying.start_again()
+        cluster.check_end("n2 n3 n4 n5")
 
 
 TESTS = (server_is_behind, server_never_starts, voter_dies_meanwhile)
