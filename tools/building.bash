@@ -216,31 +216,59 @@ compile_text() (
   [ -d "$checked" ] || checked=$top/crates/$crate/out/checked
   words+=(--incremental "$checked")
   if [ "$what" = program ]; then
-    rattle_build "$jobs" "$crate" src/main.rt --links "$crate=" "${words[@]}"
+    rattle_build "$jobs" "$crate" src/main.rt --links "$crate=" "${words[@]}" && make_portable "$room"
   else
-    rattle_build "$jobs" "$crate" src/lib.rt --crate-type staticlib "${words[@]}" && complete_library "$room" "$target"
+    rattle_build "$jobs" "$crate" src/lib.rt --crate-type staticlib "${words[@]}" && make_portable "$room" && complete_library "$room" "$target"
   fi && mv "$room/text.s" "$text"
 )
 
+# make_portable ROOM: makes the text one that assemblers since binutils 2.35 take. They do not know the directives that say
+# for arm64 what the property note says too, and take no name with other characters than letters, digits and `_.$`, which
+# stands in quotes: `std_alloc::vec::Vec::grow::<#afb6885be5c9>` becomes `std_alloc.vec.Vec.grow.afb6885be5c9`. It fails if
+# two names would become one.
+make_portable() {
+  awk -F '"' -v OFS='' '
+    function plain(name,    made) {
+      made = name
+      gsub(/::/, ".", made)
+      gsub(/[<>#]/, "", made)
+      gsub(/[^A-Za-z0-9_.$]/, "_", made)
+      if (made in names && names[made] != name) { print "two names are " made > "/dev/stderr"; failed = 1; exit }
+      names[made] = name
+      return made
+    }
+    /^\t\.aeabi_/ { next }
+    NF > 1 && !/^\t\.(asci[iz]|string|file|ident)\t/ {
+      for (i = 2; i <= NF; i += 2) $i = $i ~ /[^A-Za-z0-9_.$-]/ ? plain($i) : "\"" $i "\""
+    }
+    { print }
+    END { exit failed }' "$1/text.s" >"$1/portable.s" && mv "$1/portable.s" "$1/text.s"
+}
+
 # assembly_of ROOM TARGET FILE: the assembly that the toolchain's clang makes of a file of compiled/, with labels of its own.
+# The property note is that of the proved code, for which clang_to_text has asked too.
 assembly_of() {
+  local protection=-fcf-protection=full
+  [[ $2 == x86_64* ]] || protection=-mbranch-protection=standard
   "$1/real/bin/clang" --target="$2" --no-default-config -std=c11 -ffreestanding -O2 -fPIC -ffunction-sections \
-    -fno-asynchronous-unwind-tables -fno-ident -fno-addrsig -fno-verbose-asm -S "$top/compiled/$3.c" -o "$1/$3.s" &&
-    sed "/^\t\.file\t/d; s/\.L/.L$3_/g" "$1/$3.s"
+    -fasynchronous-unwind-tables "$protection" -fno-ident -fno-addrsig -fno-verbose-asm -S "$top/compiled/$3.c" -o "$1/$3.s" &&
+    sed '/^\t\.section\t\.note\.gnu\.property/,/^\t\.text$/d; /^\t\.\(file\|aeabi_[a-z]*\)\t/d' "$1/$3.s" | sed "s/\.L/.L$3_/g"
 }
 
 # complete_library ROOM TARGET: adds to the text of the library what it takes from compiled/system.c, as functions that are
 # not seen from outside: each library of the toolchain has functions of these names. Then what compiled/calls.c has: the
-# calls that are seen from outside, in front of the proved ones, which are named `proved_..` for that. The first line, a
-# comment for assemblers, tells Go when its package links another library. All labels get names that LLVM gives to none:
-# with Rust's link-time optimization LLVM assembles the text in one module with code of its own.
+# calls that are seen from outside, in front of the proved ones, which are named `proved_..` for that. The calls are not seen
+# from outside either where the text is assembled with the symbol confscript_is_private, as the package for Go does: two
+# packages of Go with the text may be in one program. All labels get names that LLVM gives to none: with Rust's link-time
+# optimization LLVM assembles the text in one module with code of its own.
 complete_library() {
   local system calls names
   system=$(assembly_of "$1" "$2" system | sed '/^\t\.globl\t/d') && calls=$(assembly_of "$1" "$2" calls) || return
   names=$(sed -n 's/^\t\.globl\t\(confscript_.*\)$/\1/p' <<<"$calls" | paste -sd '|')
-  sed -i -E -e '1i //go:build cgo \&\& !confscript_flags \&\& !confscript_pkg_config\n' -e '/^\t\.asci[iz]\t/!s/\.L/.Lcs_/g' \
+  sed -i -E -e '/^\t\.file\t/d' -e '/^\t\.asci[iz]\t/!s/\.L/.Lcs_/g' \
     -e "/^\t\.globl\t($names)\$/d; s/\b($names)\b/proved_\1/g" "$1/text.s" &&
-    printf '%s\n%s\n' "$system" "$calls" >>"$1/text.s"
+    printf '%s\n%s\n' "$system" "$calls" >>"$1/text.s" &&
+    sed -i -E 's/^\t\.globl\tconfscript_.*/.ifndef confscript_is_private\n&\n.endif/' "$1/text.s"
 }
 
 # needs_proof WHAT: fails with a message of one line if the sources cannot be proved.
@@ -249,7 +277,7 @@ needs_proof() {
     echo "confscript: the sources are not those that compiled/ is of, and the toolchain Rattle is missing (no rt on the path), which proves and compiles them; 'How to get it' in README.md says what it is" >&2
     return 1
   fi
-  echo "confscript: the sources are not those that compiled/ is of, so the $1 is proved and compiled first: some 12 minutes with 4 idle processors; './try' runs the program in a minute or two, without proof" >&2
+  echo "confscript: the sources are not those that compiled/ is of, so the $1 is proved and compiled first, for which docs/PERFORMANCE.md has the minutes; './try' runs the program without proof" >&2
 }
 
 # prove_all_below JOBS CRATE: proves and builds all crates below a crate. If `rt check` was used in this clone, what it

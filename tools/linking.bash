@@ -34,7 +34,7 @@ needs_compiler() {
 # is_fresh FILE: whether a file was made after the sources, the compiled code and these scripts were written.
 is_fresh() {
   [ -e "$1" ] || return 1
-  local from=("$top"/{crates.txt,compiled} "$top"/crates/*/{src,specs,proofs} "$top"/bindings/go/*.s "$top"/tools/{building,linking}.bash)
+  local from=("$top"/{crates.txt,compiled} "$top"/crates/*/{src,specs,proofs} "$top"/bindings/go/*.h "$top"/tools/{building,linking}.bash)
   [ -z "$(find "${from[@]}" -newer "$1" -print -quit 2>/dev/null)" ]
 }
 
