@@ -57,6 +57,10 @@ CALL(struct answer, stages,
      (const uint64_t *configuration, size_t configuration_len, const uint64_t *target, size_t target_len, uint32_t strategy,
       const uint64_t *down, size_t down_len, uint64_t *out, size_t out_len),
      (LIST(configuration), LIST(target), strategy, LIST(down), LIST(out)))
+CALL(struct answer, next,
+     (const uint64_t *configuration, size_t configuration_len, const uint64_t *target, size_t target_len, uint32_t strategy,
+      const uint64_t *down, size_t down_len, const uint64_t *view, size_t view_len, uint64_t *out, size_t out_len),
+     (LIST(configuration), LIST(target), strategy, LIST(down), LIST(view), LIST(out)))
 CALL(struct answer, may_be_down,
      (const uint64_t *incoming, size_t incoming_len, const uint64_t *outgoing, size_t outgoing_len, const uint64_t *uncounted,
       size_t uncounted_len),

@@ -1,1 +1,1 @@
-../bindings/go/confscript_linux_arm64.s
+../bindings/go/confscript_linux_arm64.h

@@ -1,1 +1,1 @@
-../bindings/go/confscript_linux_amd64.s
+../bindings/go/confscript_linux_amd64.h

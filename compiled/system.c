@@ -86,6 +86,39 @@ ptrdiff_t rattle_arg(size_t i, char *buffer, size_t room) {
     return (ptrdiff_t)length;
 }
 
+/*
+ * The toolchain's main calls this to ignore the signal SIGPIPE. It does nothing here, in place of the function of the C
+ * library, so the signal stays as the program was started with it. By default it ends the program, without a message,
+ * when it writes and the reader of its output has ended, as in `confscript lines | head -1`.
+ */
+void *__sysv_signal(int number, void *handler);
+void *__sysv_signal(int number, void *handler) {
+    (void)number;
+    return handler;
+}
+
+#ifdef __x86_64__
+#include <cpuid.h>
+
+/*
+ * Contract: none; the program's main asks for leaf 0x1 (number 0) and leaf 0x80000001 (number 2), and ends if the processor
+ * is not of level v2. That is a function of glibc since 2.33, which older ones lack: what the processor has of a leaf, and
+ * what a program may use of it. The two are the same for all that level v2 needs.
+ */
+struct features {
+    unsigned has[4], usable[4];
+};
+const struct features *__x86_get_cpuid_feature_leaf(unsigned number);
+const struct features *__x86_get_cpuid_feature_leaf(unsigned number) {
+    static struct features leaves[3];
+    struct features *of = &leaves[number == 0 ? 0 : number == 2 ? 1 : 2];
+    unsigned *has = of->has, leaf = number == 0 ? 1 : 0x80000001;
+    if (of != &leaves[2] && __get_cpuid(leaf, &has[0], &has[1], &has[2], &has[3]) != 0)
+        for (int i = 0; i < 4; i++) of->usable[i] = has[i];
+    return of;
+}
+#endif
+
 /* Contract: none. The errno of the thread. */
 int rattle_errno(void) {
     return errno;
