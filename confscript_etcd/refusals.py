@@ -43,8 +43,8 @@ def refuse_without_quorum(view, cluster):
     heard = [member for member in view.silent_voters() if view.heard_by(member)]
     if len(up) + len(heard) >= view.majority():
         names, urls = [member.label for member in heard], dict.fromkeys(url for member in heard for url in cluster.clients_of(member))
-        raise Stop(f"{listed(names)} {verb(names, 'does', 'do')} not answer at {' or '.join(urls)}, but others hear from {verb(names, 'it', 'them')}, "
-                   f"so a majority is up. Give the URLs at which {verb(names, 'it answers', 'they answer')} (--client-url NAME=URL, or --endpoints)")
+        raise Settling(f"{listed(names)} {verb(names, 'does', 'do')} not answer at {' or '.join(urls)}, but others hear from {verb(names, 'it', 'them')}, "
+                       f"so a majority is up. Give the URLs at which {verb(names, 'it answers', 'they answer')} (--client-url NAME=URL, or --endpoints)")
     raise Stop(f"{len(up)} of {len(voters)} voters answer, and {view.majority()} are a majority, so no change of members "
                "can be made. Bring servers back, or restore a snapshot (ETCD.md, 'If quorum is lost'; --client-url NAME=URL if one is reached elsewhere)")
 
