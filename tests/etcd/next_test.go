@@ -14,7 +14,7 @@ import (
 // each of its rows, of which some break a promise. Row 12 alone only decides whom a wait names: without it a later row waits.
 func TestNext(t *testing.T) {
 	planner := &planner{map[string]*plan{}}
-	situations := randomSituations(t, planner, 10000)
+	situations := randomSituations(t, planner, 10000, 5, false)
 	t.Run("the table", func(t *testing.T) {
 		seen := map[string]int{}
 		for _, s := range situations {
@@ -48,11 +48,11 @@ func TestNext(t *testing.T) {
 	}
 }
 
-// randomSituations returns random views, some for each of many pairs of configurations.
-func randomSituations(t *testing.T, planner *planner, count int) (made []*situation) {
+// randomSituations returns random views, some for each of many pairs of configurations of two ids to as many as are said.
+func randomSituations(t *testing.T, planner *planner, count, most int, wide bool) (made []*situation) {
 	chance := rand.New(rand.NewSource(1))
 	for len(made) < count {
-		ids := pool(chance, 2+chance.Intn(4), false)
+		ids := pool(chance, 2+chance.Intn(most-1), wide)
 		strategy := strategies[1+chance.Intn(2)]
 		now, target := configuration(chance, ids), configuration(chance, ids)
 		if chance.Intn(5) == 0 {
