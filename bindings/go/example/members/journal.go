@@ -85,9 +85,33 @@ func openJournal(name string) (*journal, *raft.MemoryStorage, error) {
 	return &journal{file}, storage, nil
 }
 
+// isRetired reports whether the server of this journal was stopped for good.
+func isRetired(name string) (bool, error) {
+	journal, storage, err := openJournal(name)
+	if err != nil || storage == nil {
+		return err == nil, err
+	}
+	return false, journal.file.Close()
+}
+
+// retireJournal notes that the server of this journal was stopped for good, also if its journal is lost.
+func retireJournal(name string) error {
+	if err := createJournal(name); err != nil && !os.IsExist(err) {
+		return err
+	}
+	journal, storage, err := openJournal(name)
+	if err != nil || storage == nil {
+		return err
+	}
+	if err := journal.write(record{Retired: true}); err != nil {
+		return err
+	}
+	return journal.file.Close()
+}
+
 // load puts a record into raft's storage. What the server's own snapshot has is dropped from the log, but not while the
 // configuration is joint: in raft 3.4 an outgoing voter accepts no snapshot, and one that lacks an entry would never catch
-// up. Before the joint change was proposed, all had the log up to there.
+// up. All that are not down have the log up to the last snapshot before: Next waits for that.
 func (r record) load(storage *raft.MemoryStorage) error {
 	var snapshot pb.Snapshot
 	var state pb.HardState

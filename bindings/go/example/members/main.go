@@ -1,23 +1,24 @@
-// Members is a raft cluster, on etcd's RawNode, that changes its members by plans of confscript while it serves: servers
-// 4, 5 and 6 take the place of 1, 2 and 3.
+// Members is a raft cluster, on etcd's RawNode, that changes its members as confscript says while it serves: servers 4, 5
+// and 6 take the place of 1, 2 and 3.
 //
-//	members -folder DIR [-target 4,5,6] [-exit-after N]
+//	members -folder DIR [-target 4,5,6] [-down 3] [-exit-after N]
 //
 // All servers are in this program, each in a goroutine, with a journal in the folder; a real one has each server in a
-// program of its own, and sends the messages over a network. A run that is stopped at any point, by kill -9 too, is
-// carried on by the same command. With -exit-after the program stops by itself after N stages, without any care.
+// program of its own, and sends the messages over a network. Those that are down do not run. A run that is stopped at any
+// point, by kill -9 too, is carried on by the same command. With -exit-after the program stops by itself after N stages,
+// without any care.
 //
-// membership.go is how a plan is carried out, server.go is raft's loop, and journal.go the disk. The rules that raft leaves
-// to a program (docs/ETCD.md) are kept in these, each where a comment says so. README.md says how to build it.
+// membership.go asks what to do next and does it, server.go is raft's loop, and journal.go the disk. The rules that raft
+// leaves to a program (docs/ETCD.md) are kept in these, each where a comment says so. README.md says how to build it.
 package main
 
 import (
+	"errors"
 	"flag"
 	"fmt"
 	"log"
 	"os"
 	"path/filepath"
-	"reflect"
 	"strconv"
 	"strings"
 	"sync"
@@ -31,38 +32,42 @@ import (
 
 const (
 	poll = 5 * time.Millisecond
-	// How long a proposal or a new leader is waited for, until it is tried again.
-	trial = time.Second
-	// How long members are waited for.
+	// How long there may be nothing to do but wait.
 	patience = time.Minute
+	// How many entries a member that has caught up may lack. Lines are proposed all the while.
+	maxLag = 10
 )
 
 // A cluster is the servers that run here, and the network between them.
 type cluster struct {
 	folder    string
 	exitAfter int
+	down      []uint64 // these do not come back
 	mutex     sync.Mutex
-	servers   map[uint64]*server
+	servers   map[uint64]*server // that were started, and not stopped for good; nil for one that is down
+	retired   []uint64           // that were stopped for good
 }
 
 func main() {
 	folder := flag.String("folder", "", "where the journals are")
 	target := flag.String("target", "4,5,6", "the last members")
+	down := flag.String("down", "", "the servers that do not come back")
 	exitAfter := flag.Int("exit-after", 0, "stop after this many stages")
 	flag.Parse()
 	last, err := readIDs(*target)
-	if *folder == "" || err != nil {
-		log.Fatal("usage: members -folder DIR [-target 4,5,6] [-exit-after N]")
+	lost, errDown := readIDs(*down)
+	if *folder == "" || err != nil || errDown != nil {
+		log.Fatal("usage: members -folder DIR [-target 4,5,6] [-down 3] [-exit-after N]")
 	}
-	c := &cluster{folder: *folder, exitAfter: *exitAfter, servers: map[uint64]*server{}}
-	if err := c.serve([]uint64{1, 2, 3}, last); err != nil {
+	c := &cluster{folder: *folder, exitAfter: *exitAfter, down: lost, servers: map[uint64]*server{}}
+	if err := c.serve([]uint64{1, 2, 3}, confscript.ConfState{Voters: last}); err != nil {
 		log.Fatal(err)
 	}
 }
 
 func readIDs(text string) ([]uint64, error) {
 	var ids []uint64
-	for _, word := range strings.Split(text, ",") {
+	for _, word := range strings.FieldsFunc(text, func(r rune) bool { return r == ',' }) {
 		id, err := strconv.ParseUint(word, 10, 64)
 		if err != nil {
 			return nil, err
@@ -72,8 +77,8 @@ func readIDs(text string) ([]uint64, error) {
 	return ids, nil
 }
 
-// serve leads the cluster from its first members to the last ones, while lines are proposed.
-func (c *cluster) serve(first, last []uint64) error {
+// serve leads the cluster from its first members to the target, while lines are proposed.
+func (c *cluster) serve(first []uint64, target confscript.ConfState) error {
 	if err := c.found(first); err != nil {
 		return err
 	}
@@ -82,21 +87,13 @@ func (c *cluster) serve(first, last []uint64) error {
 	}
 	stop, stopped := make(chan struct{}), make(chan struct{})
 	go c.propose(stop, stopped)
-	target, err := stateOf(pb.ConfState{Voters: last})
-	if err != nil {
-		return err
-	}
 	if err := c.lead(target); err != nil {
 		return err
 	}
 	close(stop)
 	<-stopped
-	_, now, err := c.settled()
-	if err != nil {
-		return err
-	}
-	lines, err := c.compare(members(now))
-	fmt.Printf("done: %s, the same %d lines on each\n", describe(now), lines)
+	lines, err := c.compare()
+	fmt.Printf("done: %s, the same %d lines on each\n", describe(target), lines)
 	return err
 }
 
@@ -139,6 +136,11 @@ func (c *cluster) startAll() error {
 			return err
 		}
 	}
+	for _, id := range c.down {
+		if !contains(c.retired, id) {
+			c.servers[id] = nil // also one whose journal is lost
+		}
+	}
 	return nil
 }
 
@@ -159,10 +161,17 @@ func contains(ids []uint64, id uint64) bool {
 	return false
 }
 
-// start starts a server from its journal, unless it was stopped for good.
+// start starts a server from its journal, unless it was stopped for good, or is down.
 func (c *cluster) start(id uint64) error {
+	retired, err := isRetired(c.journal(id))
+	if retired {
+		c.retired = append(c.retired, id)
+	}
+	if err != nil || retired || contains(c.down, id) {
+		return err
+	}
 	s, err := startServer(id, c.journal(id), c.send)
-	if err != nil || s == nil {
+	if err != nil {
 		return err
 	}
 	c.mutex.Lock()
@@ -171,13 +180,9 @@ func (c *cluster) start(id uint64) error {
 	return nil
 }
 
-// startNew starts the members of a configuration that do not run yet, with empty journals. It fails if one was ever
-// started: an id is used once.
-func (c *cluster) startNew(state confscript.ConfState) error {
-	for _, id := range members(state) {
-		if c.server(id) != nil {
-			continue
-		}
+// startNew starts servers with empty journals. It fails if one was ever started: an id is used once.
+func (c *cluster) startNew(ids []uint64) error {
+	for _, id := range ids {
 		if err := createJournal(c.journal(id)); err != nil {
 			return err
 		}
@@ -188,25 +193,34 @@ func (c *cluster) startNew(state confscript.ConfState) error {
 	return nil
 }
 
-// retire stops the servers that are not members any more, for good. Their journals stay, so that no id is used again.
-func (c *cluster) retire(state confscript.ConfState) error {
-	for _, s := range c.running() {
-		if contains(members(state), s.id) {
-			continue
+// retire stops servers for good. Their journals stay, so that no id is used again.
+func (c *cluster) retire(ids []uint64) error {
+	for _, id := range ids {
+		if s := c.server(id); s != nil {
+			if err := s.stop(); err != nil {
+				return err
+			}
 		}
 		c.mutex.Lock()
-		delete(c.servers, s.id)
+		delete(c.servers, id)
 		c.mutex.Unlock()
-		close(s.quit)
-		<-s.done
-		if err := s.journal.write(record{Retired: true}); err != nil {
+		if err := retireJournal(c.journal(id)); err != nil {
 			return err
 		}
-		if err := s.journal.file.Close(); err != nil {
-			return err
-		}
+		c.retired = append(c.retired, id)
 	}
 	return nil
+}
+
+// ids returns the servers that were started, and not stopped for good.
+func (c *cluster) ids() []uint64 {
+	c.mutex.Lock()
+	defer c.mutex.Unlock()
+	all := make([]uint64, 0, len(c.servers))
+	for id := range c.servers {
+		all = append(all, id)
+	}
+	return all
 }
 
 // running returns the servers that run.
@@ -215,7 +229,9 @@ func (c *cluster) running() []*server {
 	defer c.mutex.Unlock()
 	all := make([]*server, 0, len(c.servers))
 	for _, s := range c.servers {
-		all = append(all, s)
+		if s != nil {
+			all = append(all, s)
+		}
 	}
 	return all
 }
@@ -253,16 +269,6 @@ func (c *cluster) leader() *server {
 	return leader
 }
 
-// waits waits until something is so, and reports whether it came to be within this time.
-func waits(most time.Duration, isSo func() bool) bool {
-	for end := time.Now().Add(most); !isSo(); time.Sleep(poll) {
-		if time.Now().After(end) {
-			return false
-		}
-	}
-	return true
-}
-
 // propose proposes lines to whoever leads, until it is stopped.
 func (c *cluster) propose(stop, stopped chan struct{}) {
 	defer close(stopped)
@@ -291,19 +297,21 @@ func (c *cluster) after(stage int) {
 	os.Exit(0)
 }
 
-// compare demands that these servers have the same lines, and returns how many.
-func (c *cluster) compare(ids []uint64) (int, error) {
-	var first []string
-	for i, id := range ids {
-		var lines []string
-		s := c.server(id)
-		s.do(func() { lines = append(lines, s.lines...) })
-		if i == 0 {
-			first = lines
+// compare waits until the servers that run have applied the same entries, demands that they have the same lines, and returns
+// how many.
+func (c *cluster) compare() (int, error) {
+	for end := time.Now().Add(patience); ; time.Sleep(poll) {
+		lines, texts, indexes := 0, map[string]bool{}, map[uint64]bool{}
+		for _, s := range c.running() {
+			s.do(func() { lines, texts[strings.Join(s.lines, "\n")], indexes[s.applied] = len(s.lines), true, true })
 		}
-		if !reflect.DeepEqual(lines, first) {
-			return 0, fmt.Errorf("%d and %d have different lines", ids[0], id)
+		switch {
+		case len(indexes) == 1 && len(texts) == 1:
+			return lines, nil
+		case len(indexes) == 1:
+			return 0, errors.New("servers have different lines")
+		case time.Now().After(end):
+			return 0, fmt.Errorf("servers have not applied the same entries after %v", patience)
 		}
 	}
-	return len(first), nil
 }

@@ -1,8 +1,11 @@
 package main
 
 import (
+	"errors"
 	"fmt"
-	"reflect"
+	"log"
+	"math"
+	"time"
 
 	"confscript"
 
@@ -10,129 +13,129 @@ import (
 	pb "go.etcd.io/etcd/raft/raftpb"
 )
 
-// lead leads the cluster to the target, stage by stage. It keeps nothing: each time it makes the plan anew, from the
-// configuration that the leader has applied, and carries out the first stage of it. So a program that was stopped anywhere
-// carries on by the same call. A stage that fails, since leadership moved or a proposal was lost, is planned again.
+// lead leads the cluster to the target: what confscript.Next says is done, and it is asked again. It decides all of it: who
+// starts before which stage, whom to wait for, when leadership moves and who stops. Nothing is kept of a plan, so a program
+// that was stopped anywhere carries on by the same call.
 func (c *cluster) lead(target confscript.ConfState) error {
-	for stage := 1; ; {
-		leader, now, err := c.settled()
+	var proposed confscript.Stage
+	var successor uint64
+	for stage, acted := 1, time.Now(); ; time.Sleep(poll) {
+		id, now, action, err := c.next(target)
 		if err != nil {
 			return err
 		}
-		if reflect.DeepEqual(now, target) {
-			return c.retire(target)
-		}
-		next, err := firstStage(now, target)
-		if err != nil {
-			return err
-		}
-		if err := c.startNew(next.ConfState); err != nil {
-			return err
-		}
-		switch to := successor(leader.id, now, next.ConfState); {
-		case to != 0:
-			fmt.Printf("leadership moves from %d to %d\n", leader.id, to)
-			leader.do(func() { leader.node.TransferLeader(to) })
-			waits(trial, func() bool { other := c.leader(); return other != nil && other.id != leader.id })
-		case now.AutoLeave:
-			// Raft leaves by itself.
-			waits(trial, func() bool { return !c.haveApplied(now) })
-		case c.carryOut(leader, next):
-			fmt.Printf("stage %d: %v, now %v\n", stage, next.ConfChange, describe(next.ConfState))
+		if proposed.ConfState.Voters != nil && now.Equal(proposed.ConfState) {
+			fmt.Printf("stage %d: %v, now %v\n", stage, proposed.ConfChange, describe(now))
 			c.after(stage)
-			stage++
+			stage, proposed = stage+1, confscript.Stage{}
 		}
-	}
-}
-
-// settled waits for a leader that has applied its whole log, so that no change is under way, and whose members have all
-// that it has. That is what a stage before this one was waited for; after a restart no one else remembers it.
-func (c *cluster) settled() (leader *server, now confscript.ConfState, err error) {
-	isSettled := waits(patience, func() bool {
-		if leader = c.leader(); leader == nil {
-			return false
-		}
-		var last, applied uint64
-		leader.do(func() {
-			last, _ = leader.storage.LastIndex()
-			applied = leader.applied
-			now, err = stateOf(leader.state)
-		})
-		return err == nil && applied == last && c.haveCaughtUp(leader, last) && c.haveApplied(now)
-	})
-	if !isSettled && err == nil {
-		err = fmt.Errorf("a member of %s has not caught up after %v", describe(now), patience)
-	}
-	return leader, now, err
-}
-
-// haveCaughtUp reports whether all members have the leader's log up to an index: raft's Progress says so.
-func (c *cluster) haveCaughtUp(leader *server, last uint64) bool {
-	caughtUp := false
-	leader.do(func() {
-		status := leader.node.Status()
-		caughtUp = status.RaftState == raft.StateLeader
-		for id, progress := range status.Progress {
-			if id != leader.id && progress.Match < last {
-				caughtUp = false
+		switch action := action.(type) {
+		case confscript.Start:
+			err = c.startNew(action.IDs)
+		case confscript.Stop:
+			err = c.retire(action.IDs)
+		case confscript.Transfer:
+			if action.To != successor {
+				fmt.Printf("leadership moves from %d to %d\n", id, action.To)
 			}
+			successor = action.To
+		case confscript.Propose:
+			proposed = action.Stage
+		case confscript.Wait:
+			if time.Since(acted) > patience {
+				return fmt.Errorf("after %v: %v", patience, action)
+			}
+			continue
+		case confscript.Stuck:
+			return errors.New(action.String())
+		case confscript.Done:
+			return nil
+		}
+		if err != nil {
+			return err
+		}
+		acted = time.Now()
+	}
+}
+
+// next returns a server, its configuration, and what to do next by what it knows. That is asked on the goroutine that owns its
+// RawNode, which proposes at once, so that no change comes between the view and the proposal. A proposal may be dropped, lost,
+// or replaced by an empty entry: then the next view is as if it had not been made.
+func (c *cluster) next(target confscript.ConfState) (id uint64, now confscript.ConfState, action confscript.Action, err error) {
+	s, running := c.foremost(), c.ids()
+	if s == nil {
+		return 0, now, nil, errors.New("no server runs")
+	}
+	s.do(func() {
+		view := s.view()
+		view.Running, view.Retired, now = running, c.retired, view.ConfState
+		options := confscript.DriveOptions{Strategy: confscript.LearnersFirst, Down: c.down, MaxLag: maxLag}
+		if action, err = confscript.Next(options, target, view); err != nil {
+			return
+		}
+		switch action := action.(type) {
+		case confscript.Transfer:
+			s.node.TransferLeader(action.To)
+		case confscript.Propose:
+			s.node.ProposeConfChange(changeOf(action.Stage.ConfChange))
 		}
 	})
-	return caughtUp
+	return s.id, now, action, err
 }
 
-// haveApplied reports whether each member of a configuration has applied it. Then none is more than one change behind.
-func (c *cluster) haveApplied(state confscript.ConfState) bool {
-	for _, id := range members(state) {
-		has := false
-		if s := c.server(id); s != nil {
-			s.do(func() {
-				own, err := stateOf(s.state)
-				has = err == nil && reflect.DeepEqual(own, state)
-			})
-		}
-		if !has {
-			return false
-		}
+// foremost returns the server that leads, or that has applied most if none does. It is nil if none runs.
+func (c *cluster) foremost() *server {
+	foremost := c.leader()
+	if foremost != nil {
+		return foremost
 	}
-	return true
-}
-
-// firstStage returns the first stage of the plan, in which new voters are learners first, so that they catch up before
-// they vote.
-func firstStage(now, target confscript.ConfState) (confscript.Stage, error) {
-	stages, _, err := confscript.Stages(confscript.Options{Strategy: confscript.LearnersFirst}, now, target)
-	if err != nil {
-		return confscript.Stage{}, err
+	var most uint64
+	for _, s := range c.running() {
+		s.do(func() {
+			if s.applied > most {
+				foremost, most = s, s.applied
+			}
+		})
 	}
-	return stages[0], nil
+	return foremost
 }
 
-// successor returns the voter to which leadership moves before a stage, or 0 if the leader still votes after it.
-func successor(leader uint64, now, next confscript.ConfState) uint64 {
-	before, after := voters(now), voters(next)
-	if after[leader] {
+// view returns what the server knows of its cluster. If it does not lead, nobody is known to.
+func (s *server) view() confscript.View {
+	status := s.node.Status()
+	view := confscript.View{
+		ConfState: stateOf(s.state), ConfIndex: s.known, Commit: status.Commit, PendingConfIndex: s.pending(),
+		Progress: map[uint64]confscript.Progress{},
+	}
+	if status.RaftState != raft.StateLeader {
+		return view
+	}
+	view.Lead = s.id
+	for id, progress := range status.Progress {
+		view.Progress[id] = confscript.Progress{Match: progress.Match, RecentActive: progress.RecentActive || id == s.id}
+	}
+	if last, _ := s.storage.LastIndex(); last < s.known {
+		s.node.Propose(nil) // an entry, by which the others get to know that the change is committed
+	}
+	return view
+}
+
+// pending returns the index of a change in the log that is not applied, or 0. Raft lets only one into a leader's log.
+func (s *server) pending() uint64 {
+	last, err := s.storage.LastIndex()
+	if err != nil || last == s.applied {
 		return 0
 	}
-	for _, id := range members(now) {
-		if before[id] && after[id] {
-			return id
+	entries, err := s.storage.Entries(s.applied+1, last+1, math.MaxUint64)
+	if err != nil {
+		log.Fatal(err)
+	}
+	for _, entry := range entries {
+		if entry.Type != pb.EntryNormal {
+			return entry.Index
 		}
 	}
 	return 0
-}
-
-// carryOut proposes a stage, and reports whether the leader has applied it within a while. A proposal may be lost, or be
-// replaced by an empty entry, without an error: only the configuration shows it.
-func (c *cluster) carryOut(leader *server, stage confscript.Stage) bool {
-	leader.do(func() { leader.node.ProposeConfChange(changeOf(stage.ConfChange)) })
-	return waits(trial, func() (isApplied bool) {
-		leader.do(func() {
-			state, err := stateOf(leader.state)
-			isApplied = err == nil && reflect.DeepEqual(state, stage.ConfState)
-		})
-		return isApplied
-	})
 }
 
 // changeOf returns a proposal as raft's own type.
@@ -144,36 +147,11 @@ func changeOf(change confscript.ConfChangeV2) pb.ConfChangeV2 {
 	return made
 }
 
-// stateOf returns a configuration of raft as that of the package, with its ids in ascending order.
-func stateOf(state pb.ConfState) (confscript.ConfState, error) {
-	sorted, _, err := confscript.Restore(confscript.ConfState{
+// stateOf returns a configuration of raft as that of the package.
+func stateOf(state pb.ConfState) confscript.ConfState {
+	return confscript.ConfState{
 		Voters: state.Voters, VotersOutgoing: state.VotersOutgoing, Learners: state.Learners, LearnersNext: state.LearnersNext, AutoLeave: state.AutoLeave,
-	})
-	return sorted, err
-}
-
-// voters returns who votes in a configuration.
-func voters(state confscript.ConfState) map[uint64]bool {
-	set := map[uint64]bool{}
-	for _, id := range append(append([]uint64(nil), state.Voters...), state.VotersOutgoing...) {
-		set[id] = true
 	}
-	return set
-}
-
-// members returns the members of a configuration, each once.
-func members(state confscript.ConfState) []uint64 {
-	var all []uint64
-	seen := map[uint64]bool{}
-	for _, list := range [][]uint64{state.Voters, state.VotersOutgoing, state.Learners} {
-		for _, id := range list {
-			if !seen[id] {
-				seen[id] = true
-				all = append(all, id)
-			}
-		}
-	}
-	return all
 }
 
 func describe(state confscript.ConfState) string {

@@ -26,6 +26,7 @@ type server struct {
 
 	applied uint64       // the index of the last entry that it has applied
 	state   pb.ConfState // the configuration after that entry
+	known   uint64       // who has this index knows that configuration, while this server leads
 	lines   []string
 }
 
@@ -107,10 +108,20 @@ func (s *server) do(call func()) bool {
 	}
 }
 
+// stop ends the server's goroutine and closes its journal.
+func (s *server) stop() error {
+	close(s.quit)
+	<-s.done
+	return s.journal.file.Close()
+}
+
 // handle saves what the node has ready before it sends and applies it, so a crash takes nothing of that back. Advance comes
 // after ApplyConfChange: until then raft lets no further change through.
 func (s *server) handle(ready raft.Ready) {
 	s.save(ready)
+	if ready.SoftState != nil && ready.SoftState.RaftState == raft.StateLeader {
+		s.known, _ = s.storage.LastIndex() // that of its first entry
+	}
 	for _, message := range ready.Messages {
 		sent := s.send(message)
 		if !sent {
@@ -186,6 +197,8 @@ func (s *server) apply(entry pb.Entry) {
 		log.Fatal(err)
 	}
 	s.state = *s.node.ApplyConfChange(change)
+	last, _ := s.storage.LastIndex()
+	s.known = last + 1 // an append says what is committed, so who has an entry that comes after this knows of the change
 	data, err := json.Marshal(s.lines)
 	if err != nil {
 		log.Fatal(err)

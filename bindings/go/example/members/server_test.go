@@ -1,6 +1,7 @@
 package main
 
 import (
+	"fmt"
 	"path/filepath"
 	"testing"
 
@@ -65,5 +66,64 @@ func TestCreatedOnce(t *testing.T) {
 	}
 	if s, err := startServer(1, name, nil); err != nil || s != nil {
 		t.Error("it starts again", err)
+	}
+}
+
+// TestView leads 1 of (1 2), in which the test is 2, through a change that adds the learner 3. What 1 knows is compared after each
+// event.
+func TestView(t *testing.T) {
+	name := filepath.Join(t.TempDir(), "1.journal")
+	if err := found(name, []uint64{1, 2}); err != nil {
+		t.Fatal(err)
+	}
+	s, err := startServer(1, name, func(pb.Message) bool { return true })
+	if err != nil {
+		t.Fatal(err)
+	}
+	close(s.quit) // the test takes the place of its goroutine
+	<-s.done
+	answers := func(kinds ...pb.MessageType) func() error {
+		return func() error {
+			for _, kind := range kinds {
+				last, _ := s.storage.LastIndex()
+				if err := s.node.Step(pb.Message{Type: kind, From: 2, To: 1, Term: 2, Index: last}); err != nil {
+					return err
+				}
+				for s.node.HasReady() {
+					s.handle(s.node.Ready())
+				}
+			}
+			return nil
+		}
+	}
+	adding := pb.ConfChangeV2{Changes: []pb.ConfChangeSingle{{Type: pb.ConfChangeAddLearnerNode, NodeID: 3}}}
+	for _, row := range []struct {
+		event string
+		does  func() error
+		want  string // the configuration, its index, the leader, the commit index, that of a change that is pending, and the members
+	}{
+		{"it campaigns", s.node.Campaign, "voters=(1 2) 0 0 1 0 map[]"},
+		{"it is elected", answers(pb.MsgPreVoteResp, pb.MsgVoteResp), "voters=(1 2) 2 1 1 0 map[1:{2 true} 2:{0 false}]"},
+		{"its first entry is committed", answers(pb.MsgAppResp), "voters=(1 2) 2 1 2 0 map[1:{2 true} 2:{2 true}]"},
+		{"it proposes a change", func() error { return s.node.ProposeConfChange(adding) }, "voters=(1 2) 2 1 2 3 map[1:{3 true} 2:{2 true}]"},
+		{"the change is committed", answers(pb.MsgAppResp), "voters=(1 2) learners=(3) 4 1 3 0 map[1:{3 true} 2:{3 true} 3:{0 true}]"},
+		{"an entry after it is", answers(pb.MsgAppResp), "voters=(1 2) learners=(3) 4 1 4 0 map[1:{4 true} 2:{4 true} 3:{0 true}]"},
+	} {
+		if err := row.does(); err != nil {
+			t.Fatal(row.event, err)
+		}
+		for s.node.HasReady() {
+			s.handle(s.node.Ready())
+		}
+		view := s.view()
+		if found := fmt.Sprint(view.ConfState, " ", view.ConfIndex, view.Lead, view.Commit, view.PendingConfIndex, view.Progress); found != row.want {
+			t.Errorf("%s: %s, and not %s", row.event, found, row.want)
+		}
+		for s.node.HasReady() {
+			s.handle(s.node.Ready()) // of an entry that the view proposes
+		}
+	}
+	if last, _ := s.storage.LastIndex(); last != 4 {
+		t.Errorf("the last index is %d", last)
 	}
 }
