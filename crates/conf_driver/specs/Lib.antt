@@ -3,3 +3,4 @@ pub mod View
 pub mod Situation
 pub mod Rows
 pub mod Next
+pub mod Proposals

@@ -30,6 +30,7 @@
 
 pub mod action;
 pub mod answer;
+pub mod laws;
 mod rows_of_path;
 mod rows_of_step;
 mod rows_of_view;

@@ -1,0 +1,36 @@
+-- What is true of a step that `next` proposes.
+use Rattle.std.specs.Prelude.{◌≡◌, ◌≢◌, true, false, List, ◌∷◌, Ok}
+use Rattle.std.specs.Result.{result_ok}
+use Rattle.quorum_sets.specs.Ids.{Ids}
+use Rattle.conf_change.specs.Configuration.{Configuration}
+use Rattle.conf_change.specs.Outcome.{outcome}
+use Rattle.conf_change.specs.declared.step.Step.{Step}
+use Rattle.conf_plan.specs.OneChangeEach.{one_change_each, LeadsChangeByChange}
+use Rattle.conf_plan.specs.PathBy.{has_path, path_by, KeepsPromises}
+use Rattle.conf_plan.specs.Run.{Gives, IsRun, IsValidWithVoter}
+use Rattle.conf_plan.specs.declared.strategy.Strategy.{Strategy}
+use Rattle.conf_plan.specs.declared.strategy.Strategy.TheVariants.{Shortest}
+use Rattle.raft_json.specs.Proposal.{after_auto_leave, carried_out, proposal_of, proposed_step}
+use Rattle.conf_driver.specs.View.{ViewState}
+
+-- `next` answers: the configurations are valid and have voters, and the strategy is not the shortest one and has a path
+pub record CanAnswer (strategy : Strategy) (target : Configuration) (view : ViewState) : Type 0 where
+  pub not_shortest : strategy ≢ Shortest
+  pub valid_now : IsValidWithVoter view.conf_state
+  pub valid_target : IsValidWithVoter target
+  pub path : has_path strategy view.conf_state target ≡ true
+
+-- The step is the first of the path, which keeps what its strategy promises, also with a step for each change of a
+-- simple one. Raft does not leave the configuration by itself. What is proposed for the step is carried out by etcd's
+-- raft: the step that raft takes leads to the configuration after it, from which the other steps lead to the target.
+pub record IsFirstOfPath (strategy : Strategy) (down : Ids) (now target : Configuration) (step : Step) : Type 0 where
+  pub rest : List Step
+  pub after : Configuration
+  pub path : one_change_each (path_by strategy down now target) ≡ step ∷ rest
+  pub promises : KeepsPromises strategy down now (path_by strategy down now target) target
+  pub each : LeadsChangeByChange now (path_by strategy down now target) target
+  pub not_left : now.auto_leave ≡ false
+  pub gives : Gives now step after
+  pub leads : IsRun after rest target
+  pub taken : outcome now (proposed_step now step) ≡ Ok after
+  pub carried_out : carried_out now (proposal_of now step) ≡ result_ok (after_auto_leave (Ok after))
