@@ -11,7 +11,7 @@
 --   WithoutUpToDate
 -- - BecomeLeader: `asked` WithoutTheRequestOfTheWinner, `not_yet` WithoutOneElectionOfALeader, `voted` WithoutVotes, `quorum`
 --   WithoutQuorumOfVotes, and of another configuration WithoutTheAppliedConfiguration
--- - Learn: `known_of` WithoutKnownAtLearning
+-- - Learn: `same_term` WithoutTheTermOfLearning, `known_of` WithoutKnownAtLearning
 -- - Propose: `own_term` WithoutOwnTermOfEntries
 -- - Receive: `leads` WithoutALeader, `not_past` WithoutTermCheckOfAppends, `sent_of` WithoutTheLeadersLog, `known_of`
 --   WithoutKnownInWhatIsSent, `committed` WithoutTheLeadersCommit, `taken` WithoutKeptEntries
@@ -21,7 +21,7 @@
 --
 -- Four fields have no run, since the others leave nothing to them. What a quorum acknowledged in a term is in the log of its
 -- leader (`leads` and `in_log` of Commit). A leader whose commit index falls only knows less (`longer_than`). What a server that
--- does not lead takes to be committed goes nowhere (`leads` of Learn). For `same_term` of Learn none is worked out.
+-- does not lead takes to be committed goes nowhere (`leads` of Learn).
 --
 -- By etcd's rules are WithoutOneChangeAtATime (`one_at_a_time` of a proposal, for which Steps.antt has `one_change_beyond` of
 -- campaigns and commitments), WithoutAllApplied (`all_applied`) and WithoutMatchingAppends (`matches`). Where memory and disk are
@@ -55,6 +55,7 @@ pub mod WithoutOneElectionOfALeader
 pub mod WithoutVotes
 pub mod WithoutQuorumOfVotes
 pub mod WithoutTheAppliedConfiguration
+pub mod WithoutTheTermOfLearning
 pub mod WithoutKnownAtLearning
 pub mod WithoutOwnTermOfEntries
 pub mod WithoutALeader

@@ -2,7 +2,7 @@
 -- the one after all that it knows to be committed, forget in a restart that changes are committed, and campaign with changes
 -- that it has not applied. In place of that, a change of the voters is proposed only when each member has applied the one
 -- before, and stored that it did. All else is as in Steps.antt. A snapshot is no step here, and what is said is on disk.
-use Rattle.std.specs.Prelude.{◌≡◌, ℕ, ◌+◌, ◌<◌, ◌≤◌, ◌⊎◌, true, List, [], ◌∷◌, length}
+use Rattle.std.specs.Prelude.{◌≡◌, ℕ, ◌+◌, ◌<◌, ◌≤◌, ◌⊎◌, true, List, [], ◌∷◌, length, nat_eq, if◌then◌else◌}
 use Rattle.quorum_sets.specs.Ids.{Ids, has}
 use Rattle.conf_change.specs.Configuration.{Configuration}
 use Rattle.raft_safety.specs.Logs.{Entry, Log, IsPrefix, last_term, longer}
@@ -12,7 +12,8 @@ use Rattle.raft_safety.specs.Steps.{MayBecomeLeader, MayGrantVote, MayReceive, M
 use Rattle.raft_safety.specs.Steps as core
 
 -- a cluster; what each server knows now to be committed (in the cluster stands what it ever knew); up to where it has
--- applied and stored that, with the configuration, so that no crash takes it back; and who may campaign
+-- applied and stored that, with the configuration, so that no crash takes it back; and its members, who may campaign and
+-- commit. A server that is stopped for good leaves them; one that was removed and goes on does not
 pub record WaitingCluster : Type 0 where
   pub cluster : Cluster
   pub known : ℕ → Log
@@ -24,6 +25,7 @@ new_waiting_cluster = record { cluster = new_cluster; known = λ server. []; sto
 
 pub data WaitingAction : Type 0 where
   Join : (server : ℕ) → WaitingAction
+  Leave : (server : ℕ) → WaitingAction
   Campaign : (server term : ℕ) → (counted : Log) → WaitingAction
   SeeTerm : (server term : ℕ) → WaitingAction
   GrantVote : (voter : ℕ) → (request : VoteRequest) → WaitingAction
@@ -35,7 +37,7 @@ pub data WaitingAction : Type 0 where
   Store : (server : ℕ) → (log : Log) → WaitingAction
   Crash : (server : ℕ) → (known : Log) → WaitingAction
 
--- a server becomes a member, which may campaign: it has stored all changes of leaders' logs but the last
+-- a server may become a member once it has stored all changes of leaders' logs but the last
 pub record MayJoin (first : Configuration) (w : WaitingCluster) (server : ℕ) : Type 0 where
   pub has_changes : (term leader : ℕ) → Leads w.cluster term leader → voter_changes first (w.cluster.leaderships term leader).log ≤ voter_changes first (w.stored server) + 1
 
@@ -59,9 +61,11 @@ pub record MayProposeWaiting (first : Configuration) (w : WaitingCluster) (term 
   pub waits : let log = (w.cluster.leaderships term leader).log in
       (voter_changes first (entry ∷ log) ≡ voter_changes first log) ⊎ ((member : ℕ) → In member w.members → voter_changes first log ≤ voter_changes first (w.stored member))
 
--- a leader may commit, and count by any configuration between what it has stored and what it has committed
+-- a leader may commit while it is a member, and count by any configuration between what it has stored and what it has
+-- committed
 pub record MayCommitWaiting (first : Configuration) (w : WaitingCluster) (leader : ℕ) (m : Commitment) : Type 0 where
   pub leads : Leads w.cluster m.term leader
+  pub member : In leader w.members
   pub longer_than : length (w.cluster.leaderships m.term leader).committed < length m.log
   pub in_log : IsPrefix m.log (w.cluster.leaderships m.term leader).log
   pub own_term : last_term m.log ≡ m.term
@@ -77,6 +81,7 @@ pub record IsBetween (low log high : Log) : Type 0 where
 
 abbrev pub IsAllowedWaiting : Configuration → WaitingCluster → WaitingAction → Type 0
 IsAllowedWaiting first w (Join server) = MayJoin first w server
+IsAllowedWaiting first w (Leave server) = Unit {0}
 IsAllowedWaiting first w (Campaign server term counted) = MayCampaignWaiting w server term counted
 IsAllowedWaiting first w (SeeTerm server term) = MaySeeTerm w.cluster server term
 IsAllowedWaiting first w (GrantVote voter request) = MayGrantVote w.cluster voter request
@@ -88,8 +93,14 @@ IsAllowedWaiting first w (Commit leader m) = MayCommitWaiting first w leader m
 IsAllowedWaiting first w (Store server log) = IsBetween (w.stored server) log (w.known server)
 IsAllowedWaiting first w (Crash server known) = IsBetween (w.stored server) known (w.known server)
 
+-- the numbers without one of them
+abbrev pub without : ℕ → List ℕ → List ℕ
+without number [] = []
+without number (first ∷ rest) = if nat_eq first number then without number rest else first ∷ without number rest
+
 abbrev pub after_waiting : WaitingCluster → WaitingAction → WaitingCluster
 after_waiting w (Join server) = record w { members = server ∷ w.members }
+after_waiting w (Leave server) = record w { members = without server w.members }
 after_waiting w (Campaign server term counted) = record w { cluster = after_action w.cluster (core.Campaign server term counted) }
 after_waiting w (SeeTerm server term) = record w { cluster = after_action w.cluster (core.SeeTerm server term) }
 after_waiting w (GrantVote voter request) = record w { cluster = after_action w.cluster (core.GrantVote voter request) }

@@ -1,5 +1,8 @@
 -- Each action keeps the invariants.
-use Rattle.std.proofs.Common.{◌≡◌, ℕ, ◌+◌, ◌≤◌, [], ◌∷◌, sym, ap, subst, inl, inr, arith}
+use Rattle.std.proofs.Common.{◌≡◌, ℕ, ◌+◌, ◌≤◌, List, [], ◌∷◌, sym, ap, subst, inl, inr, arith}
+use Rattle.std.specs.Prelude.{nat_eq}
+use Rattle.std.proofs.lemmas.Bool.{cases_eq, cond-true, cond-false}
+use Rattle.std.proofs.lemmas.Bool.Decides.{nat_tests}
 use Rattle.quorum_sets.specs.Ids.{Ids}
 use Rattle.conf_change.specs.Configuration.{Configuration}
 use Rattle.raft_safety.specs.Logs.{Entry, Log, IsPrefix, longer}
@@ -7,7 +10,7 @@ use Rattle.raft_safety.specs.Configurations.{voter_changes}
 use Rattle.raft_safety.specs.Cluster.{Server, VoteRequest, Election, Leadership, Commitment, Cluster, In, Leads, with_value}
 use Rattle.raft_safety.specs.Steps.{MayBecomeLeader, MayLearn, MayReceive, after_action}
 use Rattle.raft_safety.specs.Steps as core
-use Rattle.raft_safety.specs.Waiting.{WaitingCluster, WaitingAction, Join, Campaign, SeeTerm, GrantVote, BecomeLeader, Learn, Propose, Receive, Commit, Store, Crash, MayCampaignWaiting, MayLearnWaiting, MayProposeWaiting, MayCommitWaiting, IsBetween, IsAllowedWaiting, after_waiting}
+use Rattle.raft_safety.specs.Waiting.{WaitingCluster, WaitingAction, Join, Leave, Campaign, SeeTerm, GrantVote, BecomeLeader, Learn, Propose, Receive, Commit, Store, Crash, MayCampaignWaiting, MayLearnWaiting, MayProposeWaiting, MayCommitWaiting, IsBetween, IsAllowedWaiting, without, after_waiting}
 use Rattle.raft_safety.proofs.Logs.{IsPrefix-refl, IsPrefix-trans, shorter-prefix, longer-each}
 use Rattle.raft_safety.proofs.Configurations.{voter_changes-prefix, voter_changes-entry}
 use Rattle.raft_safety.proofs.Updates.{with_value-each, with_leadership-each, leadership-same, with_leadership-here}
@@ -32,7 +35,6 @@ pub record AreWaitingInvariants (first : Configuration) (w : WaitingCluster) : T
   pub core : AreInvariants first w.cluster
   pub known : (server : ℕ) → IsPrefix (w.known server) (w.cluster.servers server).committed
   pub stored : (server : ℕ) → IsPrefix (w.stored server) (w.known server)
-  pub requests : (r : VoteRequest) → In r w.cluster.requests → In r.candidate w.members
   pub changes : (member : ℕ) → In member w.members → HasChanges first w.cluster (w.stored member)
 
 -- so it is in any log of entries of leaders
@@ -44,10 +46,6 @@ few_of first c stored has (entry ∷ log) from =
     let s1 : voter_changes first (entry ∷ log) ≤ voter_changes first (log_of c entry.term its.0) = voter_changes-prefix first (entry ∷ log) (log_of c entry.term its.0) its.2 in
     let s2 : voter_changes first (log_of c entry.term its.0) ≤ voter_changes first stored + 1 = has entry.term its.0 its.1 in
     omega arith
-
--- who leads is a member
-member_leads : (first : Configuration) (w : WaitingCluster) → AreWaitingInvariants first w → (term leader : ℕ) → Leads w.cluster term leader → In leader w.members
-member_leads first w i term leader l = subst (λ (s : ℕ). In s w.members) l.3 (i.requests l.0.request (i.core.elections l.0 l.1).asked)
 
 campaign-keeps_waiting : (first : Configuration) (w : WaitingCluster) (server term : ℕ) (counted : Log) → MayCampaignWaiting w server term counted → AreWaitingInvariants first w
     → AreWaitingInvariants first (after_waiting w (Campaign server term counted))
@@ -62,7 +60,6 @@ campaign-keeps_waiting first w server term counted may i =
       known = λ k. with_value-each (λ (x : Server). IsPrefix (w.known k) x.committed) c.servers server new k
           (λ same. subst (λ (q : ℕ). IsPrefix (w.known q) old.committed) (sym same) (i.known server)) (λ other. i.known k);
       stored = i.stored;
-      requests = λ r x. elim x [ inl is ↦ subst (λ (q : VoteRequest). In q.candidate w.members) (sym is) may.member | inr in_c ↦ i.requests r in_c ];
       changes = i.changes;
     }
 
@@ -84,7 +81,6 @@ become_leader-keeps_waiting first w r votes may i =
       core = become_leader-keeps first c r votes may i.core;
       known = i.known;
       stored = i.stored;
-      requests = i.requests;
       changes = λ member x t s l.
           let new_few : voter_changes first r.log ≤ voter_changes first (w.stored member) + 1 = few_of first c (w.stored member) (i.changes member x) r.log (i.core.requests r may.asked).from_leaders in
           elim l.1 [
@@ -109,7 +105,6 @@ propose-keeps_waiting first w term leader entry may i =
       core = propose-keeps first c term leader entry (record { own_term = may.own_term }) i.core;
       known = i.known;
       stored = i.stored;
-      requests = i.requests;
       changes = λ member x t s l. with_leadership-each c term leader new (λ (q : Leadership). voter_changes first q.log ≤ voter_changes first (w.stored member) + 1) t s
           (λ same_t same_s. elim may.waits [
             | inl idle ↦ (
@@ -132,7 +127,6 @@ learn-keeps_waiting first w term leader known may i =
       core = learn-keeps first c term leader known more i.core;
       known = i.known;
       stored = i.stored;
-      requests = i.requests;
       changes = λ member x t s l. with_leadership-each c term leader new (λ (q : Leadership). voter_changes first q.log ≤ voter_changes first (w.stored member) + 1) t s
           (λ same_t same_s. i.changes member x term leader may.leads) (i.changes member x t s l);
     }
@@ -143,7 +137,7 @@ commit-keeps_waiting first w leader m may i =
     let c : Cluster = w.cluster in
     let now : Leadership = c.leaderships m.term leader in
     let new : Leadership = record now { committed = m.log } in
-    let s1 : voter_changes first now.log ≤ voter_changes first (w.stored leader) + 1 = i.changes leader (member_leads first w i m.term leader may.leads) m.term leader may.leads in
+    let s1 : voter_changes first now.log ≤ voter_changes first (w.stored leader) + 1 = i.changes leader may.member m.term leader may.leads in
     let s2 : voter_changes first m.log ≤ voter_changes first now.log = voter_changes-prefix first m.log now.log may.in_log in
     let s3 : voter_changes first (w.stored leader) ≤ voter_changes first m.counted = voter_changes-prefix first (w.stored leader) m.counted may.stored in
     record {
@@ -159,7 +153,6 @@ commit-keeps_waiting first w leader m may i =
       }) i.core;
       known = i.known;
       stored = i.stored;
-      requests = i.requests;
       changes = λ member x t s l. with_leadership-each c m.term leader new (λ (q : Leadership). voter_changes first q.log ≤ voter_changes first (w.stored member) + 1) t s
           (λ same_t same_s. i.changes member x m.term leader may.leads) (i.changes member x t s l);
     }
@@ -188,7 +181,6 @@ receive-keeps_waiting first w server term leader sent known after may i =
       known = λ k. with_value-both (λ (x : Log) (y : Server). IsPrefix x y.committed) w.known c.servers server more new k (λ same. new_known) (λ other. i.known k);
       stored = λ k. with_value-each (IsPrefix (w.stored k)) w.known server more k
           (λ same. subst (λ (q : ℕ). IsPrefix (w.stored q) more) (sym same) (IsPrefix-trans (w.stored server) (w.known server) more (i.stored server) grows)) (λ other. i.stored k);
-      requests = i.requests;
       changes = i.changes;
     }
 
@@ -200,7 +192,6 @@ store-keeps first w server log may i =
       core = i.core;
       known = i.known;
       stored = λ k. with_value-each (λ (x : Log). IsPrefix x (w.known k)) w.stored server log k (λ same. subst (λ (q : ℕ). IsPrefix log (w.known q)) (sym same) may.at_most) (λ other. i.stored k);
-      requests = i.requests;
       changes = λ member x. with_value-each (HasChanges first w.cluster) w.stored server log member
           (λ same t s l. (
           let h : voter_changes first (log_of w.cluster t s) ≤ voter_changes first (w.stored server) + 1 = subst (λ (q : ℕ). voter_changes first (log_of w.cluster t s) ≤ voter_changes first (w.stored q) + 1) same (i.changes member x t s l) in
@@ -216,34 +207,47 @@ crash-keeps_waiting first w server known may i = record {
       (λ same. subst (λ (q : ℕ). IsPrefix known (w.cluster.servers q).committed) (sym same) (IsPrefix-trans known (w.known server) (w.cluster.servers server).committed may.at_most (i.known server)))
       (λ other. i.known k);
   stored = λ k. with_value-each (IsPrefix (w.stored k)) w.known server known k (λ same. subst (λ (q : ℕ). IsPrefix (w.stored q) known) (sym same) may.at_least) (λ other. i.stored k);
-  requests = i.requests;
   changes = i.changes;
 }
+
+-- who is left was a member
+was_member : (member left : ℕ) (members : List ℕ) → In member (without left members) → In member members
+was_member member left [] x = x
+was_member member left (first ∷ rest) x = elim (cases_eq first left) [
+  | inl same ↦ inr (was_member member left rest
+      (subst (In member) (cond-true (nat_eq first left) (without left rest) (first ∷ without left rest) (grind (arith, nat_tests))) x))
+  | inr other ↦ (
+      let stays : In member (first ∷ without left rest) = subst (In member) (cond-false (nat_eq first left) (without left rest) (first ∷ without left rest) (grind (arith, nat_tests))) x in
+      elim stays [ inl is ↦ inl is | inr later ↦ inr (was_member member left rest later) ])
+]
 
 pub waiting_keeps : (first : Configuration) (w : WaitingCluster) (action : WaitingAction) → IsAllowedWaiting first w action → AreWaitingInvariants first w → AreWaitingInvariants first (after_waiting w action)
 waiting_keeps first w (Join server) may i = record {
   core = i.core;
   known = i.known;
   stored = i.stored;
-  requests = λ r x. inr (i.requests r x);
   changes = λ member x. elim x [
     | inl is ↦ subst (λ (q : ℕ). HasChanges first w.cluster (w.stored q)) (sym is) may.has_changes
     | inr in_w ↦ i.changes member in_w
   ];
+}
+waiting_keeps first w (Leave server) may i = record {
+  core = i.core;
+  known = i.known;
+  stored = i.stored;
+  changes = λ member x. i.changes member (was_member member server w.members x);
 }
 waiting_keeps first w (Campaign server term counted) may i = campaign-keeps_waiting first w server term counted may i
 waiting_keeps first w (SeeTerm server term) may i = record {
   core = see_term-keeps first w.cluster server term may i.core;
   known = term_keeps w server term i.known;
   stored = i.stored;
-  requests = i.requests;
   changes = i.changes;
 }
 waiting_keeps first w (GrantVote voter request) may i = record {
   core = grant_vote-keeps first w.cluster voter request may i.core;
   known = term_keeps w voter request.term i.known;
   stored = i.stored;
-  requests = i.requests;
   changes = i.changes;
 }
 waiting_keeps first w (BecomeLeader request votes) may i = become_leader-keeps_waiting first w request votes may i

@@ -3,7 +3,7 @@ use Rattle.std.proofs.Common.{◌≡◌, List, [], ◌∷◌, ◌++◌, refl, sy
 use Rattle.conf_change.specs.Configuration.{Configuration}
 use Rattle.raft_safety.specs.Cluster.{Commitment, In}
 use Rattle.raft_safety.specs.Claims.{ElectionSafety, LeaderCompleteness, StateMachineSafety, CommitOneLog}
-use Rattle.raft_safety.specs.Waiting.{WaitingCluster, WaitingAction, Join, Campaign, SeeTerm, GrantVote, BecomeLeader, Learn, Propose, Receive, Commit, Store, Crash, new_waiting_cluster, after_waiting, after_waitings, AreAllowedWaiting}
+use Rattle.raft_safety.specs.Waiting.{WaitingCluster, WaitingAction, Join, Leave, Campaign, SeeTerm, GrantVote, BecomeLeader, Learn, Propose, Receive, Commit, Store, Crash, new_waiting_cluster, after_waiting, after_waitings, AreAllowedWaiting}
 use Rattle.raft_safety.proofs.Safety.OneLeader.{ElectionSafety-from_invariants}
 use Rattle.raft_safety.proofs.Claims.{AreCommitmentsKept, LeaderCompleteness-from_invariants, CommitOneLog-from_invariants, StateMachineSafety-from_invariants}
 use Rattle.raft_safety.proofs.Theorem.{AreInvariants-new}
@@ -15,10 +15,11 @@ all_keep first w (action ∷ actions) allowed i = all_keep first (after_waiting 
 
 reached : (first : Configuration) (actions : List WaitingAction) → AreAllowedWaiting first new_waiting_cluster actions → AreWaitingInvariants first (after_waitings new_waiting_cluster actions)
 reached first actions allowed = all_keep first new_waiting_cluster actions allowed
-    (record { core = AreInvariants-new first; known = λ s. refl; stored = λ s. refl; requests = λ r x. absurd x; changes = λ m x. absurd x })
+    (record { core = AreInvariants-new first; known = λ s. refl; stored = λ s. refl; changes = λ m x. absurd x })
 
 commitments_after : (w : WaitingCluster) (action : WaitingAction) (m : Commitment) → In m w.cluster.commitments → In m (after_waiting w action).cluster.commitments
 commitments_after w (Join server) m x = x
+commitments_after w (Leave server) m x = x
 commitments_after w (Campaign server term counted) m x = x
 commitments_after w (SeeTerm server term) m x = x
 commitments_after w (GrantVote voter request) m x = x

@@ -1,15 +1,16 @@
 -- Waiting: server 1, the only voter, adds server 2; both are members. That server 1 is removed may be proposed only once server 2
--- has stored the first change too. Each action is allowed.
-use Rattle.std.proofs.Common.{◌≡◌, ℕ, ◌≤◌, List, [], ◌∷◌, refl, sym, subst, inl, inr, arith}
+-- has stored the first change too, or that server 2 is removed once it is stopped for good. Each action is allowed.
+use Rattle.std.proofs.Common.{◌≡◌, ℕ, ◌≤◌, List, [], ◌∷◌, ◌++◌, refl, sym, subst, inl, inr, arith}
 use Rattle.std.specs.Prelude.{take}
 use Rattle.quorum_sets.specs.Ids.{ids_of}
 use Rattle.quorum_sets.proofs.Offered.{written_out}
-use Rattle.raft_safety.specs.Logs.{IsPrefix}
+use Rattle.conf_change.specs.declared.change.Kind.TheVariants.{Remove}
+use Rattle.raft_safety.specs.Logs.{Entry, IsPrefix}
 use Rattle.raft_safety.specs.Configurations.{voter_changes}
 use Rattle.raft_safety.specs.Cluster.{VoteRequest, Election, Commitment}
 use Rattle.raft_safety.specs.Steps.{MayBecomeLeader, MayReceive}
-use Rattle.raft_safety.specs.Waiting.{WaitingCluster, WaitingAction, Join, Campaign, BecomeLeader, Learn, Propose, Receive, Commit, Store, Crash, MayJoin, MayCampaignWaiting, MayLearnWaiting, MayProposeWaiting, MayCommitWaiting, IsBetween, new_waiting_cluster, after_waitings, AreAllowedWaiting}
-use Rattle.raft_safety.proofs.WorkedExamples.SmallRuns.{IsQuorumAfter-of, OfEach-has, not_yet-from_elections}
+use Rattle.raft_safety.specs.Waiting.{WaitingCluster, WaitingAction, Join, Leave, Campaign, BecomeLeader, Learn, Propose, Receive, Commit, Store, Crash, MayJoin, MayCampaignWaiting, MayLearnWaiting, MayProposeWaiting, MayCommitWaiting, IsBetween, new_waiting_cluster, after_waitings, AreAllowedWaiting}
+use Rattle.raft_safety.proofs.WorkedExamples.SmallRuns.{one_change, IsQuorumAfter-of, OfEach-has, not_yet-from_elections}
 use Rattle.raft_safety.proofs.WorkedExamples.TwoServers.{one, add, remove, added, moved, configuration_after-first, voter_changes-first, voter_changes-added, voter_changes-moved}
 
 -- ---- the run
@@ -73,6 +74,7 @@ takes_1 = record {
 commits_1 : MayCommitWaiting one (state 6) 1 change
 commits_1 = record {
   leads = (election, inl refl, refl, refl);
+  member = inr (inl refl);
   longer_than = omega arith;
   in_log = inl refl;
   own_term = refl;
@@ -140,3 +142,23 @@ learns_again = record { leads = (election, inl refl, refl, refl); same_term = re
 
 run_is_allowed : AreAllowedWaiting one new_waiting_cluster run
 run_is_allowed = (joins_1, (joins_2, (campaigns_1, (leads_1, (adds_2, (takes_1, (commits_1, (learns_1, (stores_1, (takes_2, (stores_2, (crashes_2, (removes_1, (learns_again, tt))))))))))))))
+
+-- ---- server 2 is stopped for good before it has stored the change, so nothing waits for it
+abbrev remove_2 : Entry
+remove_2 = one_change 1 Remove 2
+
+abbrev replaced : List WaitingAction
+replaced = take 9 run ++ (Leave 2 ∷ Propose 1 1 remove_2 ∷ [])
+
+removes_2 : MayProposeWaiting one (after_waitings new_waiting_cluster (take 9 run ++ (Leave 2 ∷ []))) 1 1 remove_2
+removes_2 = record {
+  leads = (election, inl refl, refl, refl);
+  own_term = refl;
+  waits = inr (λ member x. elim x [
+    | inl is ↦ subst (λ (q : ℕ). voter_changes one added ≤ voter_changes one ((state 9).stored q)) (sym is) (omega arith)
+    | inr none ↦ absurd none
+  ]);
+}
+
+replaced_is_allowed : AreAllowedWaiting one new_waiting_cluster replaced
+replaced_is_allowed = (joins_1, (joins_2, (campaigns_1, (leads_1, (adds_2, (takes_1, (commits_1, (learns_1, (stores_1, (tt, (removes_2, tt)))))))))))
