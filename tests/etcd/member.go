@@ -23,6 +23,7 @@ type member struct {
 	synced               hardStates
 	preVote, checkQuorum bool
 	pace                 pace
+	cancels              bool        // each change that it applies
 	handed               []pb.Entry  // what it was handed and has not applied
 	ready                *raft.Ready // what it has saved and sent, and Advance was not called for
 }
@@ -187,6 +188,9 @@ func (m *member) apply(entry pb.Entry) bool {
 	if change == nil {
 		m.entries = append(m.entries, strings.Fields(string(entry.Data))...)
 		return false
+	}
+	if m.cancels {
+		change = pb.ConfChange{} // of the id 0, as raft's page says
 	}
 	m.state = *m.raw.ApplyConfChange(change)
 	return true

@@ -6,14 +6,13 @@ import (
 	pb "go.etcd.io/etcd/raft/raftpb"
 )
 
-// A crash is a schedule in which a member crashes. It returns two members that have applied different entries at one index,
-// if a rule is broken.
-type crash func(t *testing.T, isBroken bool) (a, b *member)
+// A schedule returns two members that have applied different entries at one index, if a rule is broken.
+type schedule func(t *testing.T, isBroken bool) (a, b *member)
 
 // breaks runs a schedule twice: with a rule broken two members have applied different entries, and with the rule kept none.
-func (schedule crash) breaks(t *testing.T) {
+func (s schedule) breaks(t *testing.T) {
 	for _, isBroken := range []bool{true, false} {
-		if differ := firstDifference(schedule(t, isBroken)) != 0; differ != isBroken {
+		if differ := firstDifference(s(t, isBroken)) != 0; differ != isBroken {
 			t.Errorf("if the rule is broken: %v; different entries are applied: %v", isBroken, differ)
 		}
 	}
@@ -140,6 +139,45 @@ func restartWithOlderConfState(t *testing.T, isBroken bool) (a, b *member) {
 	if !hasAppliedChanges(c.members[2].raw, two.storage) {
 		t.Error("hasAppliedChanges sees that the ConfState is older")
 	}
+	c.commitWith(4, 5)
+	c.connect([]uint64{2, 3})
+	return c.members[1], c.campaign(2)
+}
+
+// 2 is cut off while 4 and 5 are added to (1 2 3), and is sent a snapshot of what comes after. The ConfState in it is older. So
+// 2 counts by (1 2 3), and is elected by 3, while 1 goes on with 4 and 5.
+func sendOlderConfState(t *testing.T, isBroken bool) (a, b *member) {
+	c := newCluster(t, three, 1)
+	c.startMissing(five)
+	one := c.members[1]
+	c.connect([]uint64{1, 3, 4, 5})
+	c.add(4, true)
+	c.add(5, true)
+	one.raw.Propose([]byte("entry"))
+	c.settle()
+	inForce := one.state
+	if isBroken {
+		one.state = three
+	}
+	one.snapshot()
+	one.state = inForce
+	one.storage.Compact(one.applied)
+	one.raw.ReportUnreachable(2)
+	c.connect([]uint64{1, 2})
+	c.wait()
+	c.commitWith(4, 5)
+	c.connect([]uint64{2, 3})
+	return one, c.campaign(2)
+}
+
+// 4 and 5 are added to (1 2 3). The application of 2 cancels both changes, by what it alone knows. So 2 counts by (1 2 3), and
+// is elected by 3, while 1 goes on with 4 and 5.
+func cancelAlone(t *testing.T, isBroken bool) (a, b *member) {
+	c := newCluster(t, three, 1)
+	c.startMissing(five)
+	c.members[2].cancels = isBroken
+	c.add(4, true)
+	c.add(5, true)
 	c.commitWith(4, 5)
 	c.connect([]uint64{2, 3})
 	return c.members[1], c.campaign(2)

@@ -23,13 +23,15 @@ func TestBrokenRules(t *testing.T) {
 	t.Run("Advance comes before ApplyConfChange", advanceBeforeApply)
 	t.Run("a snapshot comes while changes are applied", snapshotDuringApply)
 	t.Run("entries are saved without their hard state", tornWrite)
-	t.Run("a hard state is lost, and what is saved after it is not", crash(loseHardState).breaks)
-	t.Run("entries are applied before they are saved", crash(applyBeforeSave).breaks)
-	t.Run("a leader that is a quorum by itself sends before it saves", crash(sendBeforeSave).breaks)
-	t.Run("a leader that was a quorum by itself sends before it saves", crash(sendCommittedBeforeSave).breaks)
-	t.Run("a follower acknowledges before it saves", crash(answerBeforeSave).breaks)
-	t.Run("a follower votes before it saves", crash(voteBeforeSave).breaks)
-	t.Run("a restart with an older ConfState than what is applied", crash(restartWithOlderConfState).breaks)
+	t.Run("a hard state is lost, and what is saved after it is not", schedule(loseHardState).breaks)
+	t.Run("entries are applied before they are saved", schedule(applyBeforeSave).breaks)
+	t.Run("a leader that is a quorum by itself sends before it saves", schedule(sendBeforeSave).breaks)
+	t.Run("a leader that was a quorum by itself sends before it saves", schedule(sendCommittedBeforeSave).breaks)
+	t.Run("a follower acknowledges before it saves", schedule(answerBeforeSave).breaks)
+	t.Run("a follower votes before it saves", schedule(voteBeforeSave).breaks)
+	t.Run("a restart with an older ConfState than what is applied", schedule(restartWithOlderConfState).breaks)
+	t.Run("a snapshot with an older ConfState than its index", schedule(sendOlderConfState).breaks)
+	t.Run("one member cancels changes", schedule(cancelAlone).breaks)
 }
 
 // 4 and 5 are added to (1 2 3). 2 restarts from an older snapshot: it has both changes, committed, and has to apply them

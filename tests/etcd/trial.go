@@ -21,6 +21,7 @@ const (
 	applyRule     rule = "a Ready is saved before it is applied"
 	sendRule      rule = "a Ready is saved before it is sent"
 	appliedRule   rule = "the ConfState in the storage is that after Config.Applied"
+	cancelRule    rule = "a change that is cancelled is cancelled by all"
 	diskRule      rule = "no id comes back with an empty disk"
 )
 

@@ -128,6 +128,7 @@ func (t *trial) apply(id uint64) {
 	entry := m.handed[0]
 	m.handed = m.handed[1:]
 	t.observer.applies(id, entry)
+	m.cancels = t.leavesOut(cancelRule) && t.chance.Intn(4) == 0
 	isChange := false
 	switch panicked := panicOf(func() { isChange = m.apply(entry) }); {
 	case panicked == "":

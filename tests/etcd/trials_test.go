@@ -63,7 +63,7 @@ func runTrials(t *testing.T, count int, begin func(seed int64) *trial) map[strin
 // TestRuleLeftOut leaves out one rule after another. Then one of the first 1,000 trials ends with a contradiction, but where
 // raft keeps the rule by itself.
 func TestRuleLeftOut(t *testing.T) {
-	for _, leftOut := range []rule{campaignRule, transferRule, snapshotRule, advanceRule, hardStateRule, syncRule, applyRule, sendRule, appliedRule, diskRule} {
+	for _, leftOut := range []rule{campaignRule, transferRule, snapshotRule, advanceRule, hardStateRule, syncRule, applyRule, sendRule, appliedRule, cancelRule, diskRule} {
 		if isKept(leftOut) {
 			t.Run(string(leftOut), func(t *testing.T) {
 				runTrials(t, 1000, func(seed int64) *trial { return newTrial(seed, leftOut) })
