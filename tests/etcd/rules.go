@@ -8,7 +8,7 @@ import (
 )
 
 // hasAppliedChanges says whether a member has applied all changes of its log that it knows to be committed. Until then it
-// may not campaign, nor take a snapshot: no Campaign, no Tick unless it leads, no MsgTimeoutNow and no MsgSnap.
+// may not campaign, nor take a snapshot.
 func hasAppliedChanges(node *raft.RawNode, storage raft.Storage) bool {
 	status := node.BasicStatus()
 	if status.Applied == status.Commit {

@@ -81,18 +81,20 @@ func (t *trial) handle(id uint64) bool {
 }
 
 // take saves and sends what a member has ready. A leader sends first, if it may. Now and then a member is killed before it has
-// saved; then it may have sent, or applied, if a rule is left out.
+// saved; then it may have sent, or applied, if it may or a rule is left out.
 func (t *trial) take(id uint64) {
 	m := t.members[id]
 	ready := m.raw.Ready()
 	isKilled := t.chance.Intn(200) == 0
-	sendsFirst := maySendFirst(m.raw.BasicStatus(), ready) || t.leavesOut(sendRule)
+	savesFirst := isCommitted(m.raw.BasicStatus(), ready.Entries)
+	sendsFirst := m.leads() && !savesFirst || t.leavesOut(sendRule)
 	if sendsFirst {
 		t.sendAll(ready)
 	}
-	if isKilled && t.leavesOut(applyRule) && raft.IsEmptySnap(ready.Snapshot) {
+	if isKilled && (!savesFirst || t.leavesOut(applyRule)) && raft.IsEmptySnap(ready.Snapshot) {
 		for m.handed = append(m.handed, ready.CommittedEntries...); t.members[id] == m && len(m.handed) > 0; {
 			t.apply(id)
+			t.observer.seen["a member is killed after it has applied"]++
 		}
 	}
 	if isKilled {
@@ -109,10 +111,10 @@ func (t *trial) take(id uint64) {
 	}
 }
 
-// maySendFirst says whether a member leads, and has not committed by itself what it has to save. That it is no quorum by
-// itself is not enough: it may have been one when it committed.
-func maySendFirst(status raft.BasicStatus, ready raft.Ready) bool {
-	return status.RaftState == raft.StateLeader && (len(ready.Entries) == 0 || status.Commit < ready.Entries[0].Index)
+// isCommitted says whether some of the entries that a member has to save are committed. That a leader is no quorum by itself
+// does not say so: it may have been one when it committed.
+func isCommitted(status raft.BasicStatus, entries []pb.Entry) bool {
+	return len(entries) > 0 && entries[0].Index <= status.Commit
 }
 
 func (t *trial) sendAll(ready raft.Ready) {

@@ -11,7 +11,7 @@ import (
 var kindsOfTrials = []string{
 	"a leader", "an append", "an entry is applied", "a change is applied", "a joint configuration",
 	"a snapshot from the leader", "a restart before changes", "a restart beyond the snapshot", "a hard state is lost",
-	"a leader is killed after it has sent",
+	"a leader is killed after it has sent", "a member is killed after it has applied",
 }
 
 // kindsOfRules are what the rules have to keep off, each at least five times.

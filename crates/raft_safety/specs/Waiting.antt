@@ -1,6 +1,6 @@
 -- Waiting is enough: rules that ask nothing of the configuration in force. A server may count by an older configuration than
 -- the one after all that it knows to be committed, forget in a restart that changes are committed, and campaign with changes
--- that it has not applied. In place of that, a change of the voters is proposed only when each member has applied the one
+-- that it has not applied. In place of that, a change of the voters is proposed only when each member has applied the ones
 -- before, and stored that it did. All else is as in Steps.antt. A snapshot is no step here, and what is said is on disk.
 use Rattle.std.specs.Prelude.{◌≡◌, ℕ, ◌+◌, ◌<◌, ◌≤◌, ◌⊎◌, true, List, [], ◌∷◌, length, nat_eq, if◌then◌else◌}
 use Rattle.quorum_sets.specs.Ids.{Ids, has}

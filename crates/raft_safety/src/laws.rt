@@ -121,9 +121,10 @@ pub fn servers_that_save_before_they_say_commit_the_same()
         (after_disk_actions new_disk_cluster (early ++ late)) }
 {}
 
-/// Waiting is enough (`specs/Waiting.antt`): if a change of the voters is proposed only when each member has applied the one
-/// before and stored that, then servers may count by any configuration between what they have stored and what they know, and
-/// forget in a crash what else they knew to be committed. The claims hold of all that servers ever knew.
+/// Waiting is enough (`specs/Waiting.antt`): if a change of the voters is proposed only when each member has applied the ones
+/// before and stored that, and a server becomes a member only when it has stored all but the last, then members may count by
+/// any configuration between what they have stored and what they know, and forget in a crash what else they knew to be
+/// committed. The claims hold of all that servers ever knew.
 pub fn waiting_is_enough()
     ensures election_safety { (first : Configuration) (actions : List WaitingAction)
         → AreAllowedWaiting first new_waiting_cluster actions

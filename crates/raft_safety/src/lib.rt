@@ -6,13 +6,14 @@
 //! 1. A server's term never falls, and it campaigns only in a later one. It ignores requests for votes, appends and
 //!    heartbeats of an earlier term; by any other, its term becomes theirs.
 //! 2. A server votes once a term, for a candidate whose log is at least as up to date as its own.
-//! 3. A candidate that has a quorum of votes leads; it counts by a committed part of its log that has all changes of the
-//!    voters but the last.
+//! 3. A candidate that has a quorum of votes leads; it counts by a part of its log that it knew to be committed when it
+//!    campaigned, and that has all changes of the voters but the last.
 //! 4. A leader appends entries of its own term.
-//! 5. A server takes a leader's log up to some index in place of its own, if it does not have that already, and maybe
-//!    learns how much of it is committed.
-//! 6. A leader commits up to an entry of its own term once a quorum has acknowledged it; it counts by a committed part
-//!    of its log that has all changes of the voters up to that entry but the last.
+//! 5. A server takes a leader's log up to some index in place of its own, if it does not have that already, and
+//!    acknowledges that. Maybe it learns how much of it the leader has committed.
+//! 6. A leader commits up to an entry of its own term once a quorum has acknowledged that in this term; it counts by a part
+//!    of its log that it has committed, and that has all changes of the voters up to that entry but the last. It may take
+//!    over what its server knows to be committed, while that is in its term.
 //! 7. A restart keeps the term, the votes and the log. It may forget what is committed.
 //!
 //! They are the rules of a raft in which a configuration is in force when its entry is applied, as etcd's. In Ongaro's
@@ -74,8 +75,9 @@
 //! The third law takes memory and disk apart (`DiskCluster`, `DiskRules`, `DiskRuns`): a server works in memory, and a
 //! crash loses what is not saved. It says what has to be saved before it is said, sent or applied, and what need not be.
 //!
-//! The fourth has one rule in place of all those on the configuration in force (`Waiting`): a change of the voters is
-//! proposed once every member has stored the one before. Two more tie the library to the rules: what it counts are the
+//! The fourth has two rules in place of all those on the configuration in force (`Waiting`): a change of the voters is
+//! proposed once every member has stored the ones before, and a server becomes a member, which may campaign, once it has
+//! stored all but the last. Two more tie the library to the rules: what it counts are the
 //! quorums that they speak of, and a `Changer` has the configuration after a log (`Library`).
 #![tactic(auto)]
 

@@ -6,6 +6,7 @@ use Rattle.quorum_sets.specs.Ids.{ids_of}
 use Rattle.quorum_sets.proofs.Offered.{written_out}
 use Rattle.raft_safety.specs.Cluster.{Leads}
 use Rattle.raft_safety.specs.Steps.{MaySeeTerm, MayGrantVote}
+use Rattle.raft_safety.specs.Appending.{with_entries}
 use Rattle.raft_safety.specs.EtcdCluster.{Append, Candidacy, EtcdCluster, new_etcd_cluster}
 use Rattle.raft_safety.specs.EtcdRules.{EtcdAction, Campaign, SeeTerm, GrantVote, BecomeLeader, Propose, Send, Receive, Answer, Heartbeat, Commit, Apply, Restart, MayCampaignApplied, MayBecomeLeaderApplied, MayProposeApplied, MaySend, MayTake, MayAnswer, MayTakeHeartbeat, MayCommitApplied, MayApply, MayRestartDurable}
 use Rattle.raft_safety.specs.EtcdRuns.{AreAllowedByEtcd, after_etcd_actions}
@@ -161,3 +162,11 @@ leads_4 = record {
 
 run_is_allowed : AreAllowedByEtcd three new_etcd_cluster run
 run_is_allowed = (campaigns_1, (votes_2, (leads_1, (adds_4, (sends_change, (takes_change_1, (takes_change_2, (commits_change, (applies_change, (proposes_command, (sends_command, (sends_all, (takes_command_1, (takes_command_2, (takes_all_4, (commits_command, (hears_4, (answers_2, (restarts_4, (sees_3, (campaigns_4, (votes_1, (votes_3, (leads_4, tt))))))))))))))))))))))))
+
+-- ---- how entries are taken
+-- an entry of another term is cut off with all that follows it, and entries of the same terms stay
+conflict_is_cut : with_entries (command 1 9 ∷ command 1 8 ∷ command 1 7 ∷ []) 1 (command 2 6 ∷ []) ≡ command 2 6 ∷ command 1 7 ∷ []
+conflict_is_cut = refl
+
+match_is_kept : with_entries (command 1 9 ∷ command 1 8 ∷ command 1 7 ∷ []) 1 (command 1 8 ∷ []) ≡ command 1 9 ∷ command 1 8 ∷ command 1 7 ∷ []
+match_is_kept = refl
