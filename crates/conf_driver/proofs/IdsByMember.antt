@@ -1,7 +1,9 @@
 -- The sets of the table by their members.
-use Rattle.std.proofs.Common.{◌≡◌, ℕ, not, ◌&&◌, arith}
-use Rattle.quorum_sets.specs.Ids.{Ids, ascending, has}
+use Rattle.std.proofs.Common.{◌≡◌, ℕ, true, false, not, ◌&&◌, sym, ◌∙◌, arith}
+use Rattle.std.proofs.lemmas.Bool.{and_parts, not-true}
+use Rattle.quorum_sets.specs.Ids.{Ids, ascending, has, is_empty}
 use Rattle.quorum_sets.proofs.Offered.{has-ascending, has-ids_where, has-same_ids}
+use Rattle.conf_change.proofs.Offered.{has-none_in_empty}
 use Rattle.conf_driver.specs.IdSets.{◌∩◌, ◌∖◌}
 
 pub has-common : (a b : Ids) (q : ℕ) → has (a ∩ b) q ≡ (has a q && has b q)
@@ -13,3 +15,20 @@ has-without a b q = grind (arith, has-ids_where (λ id. not (has b id)) (ascendi
 -- what is left without those that are left without others is common to both
 pub without-without : (a b : Ids) → (a ∖ (a ∖ b)) ≡ (a ∩ b)
 without-without a b = has-same_ids _ _ (λ q. grind (arith, has-without a (a ∖ b) q, has-without a b q, has-common a b q))
+
+pub in-without : (a b : Ids) (q : ℕ) → has (a ∖ b) q ≡ true → (has a q ≡ true) × (has b q ≡ false)
+in-without a b q here = let parts = and_parts _ _ (sym (has-without a b q) ∙ here) in (parts.0, not-true _ parts.1)
+
+-- nobody of the first set is not in the second
+pub in-second : (a b : Ids) (q : ℕ) → is_empty (a ∖ b) ≡ true → has a q ≡ true → has b q ≡ true
+in-second a b q none here = grind (arith, has-none_in_empty (a ∖ b) none q, here, has-without a b q)
+
+-- nobody is in both sets
+pub not-in_second : (a b : Ids) (q : ℕ) → is_empty (a ∩ b) ≡ true → has a q ≡ true → has b q ≡ false
+not-in_second a b q none here = grind (arith, has-none_in_empty (a ∩ b) none q, here, has-common a b q)
+
+pub has-without-is : (a b : Ids) (q : ℕ) → has a q ≡ true → has b q ≡ false → has (a ∖ b) q ≡ true
+has-without-is a b q here other = grind (arith, here, other, has-without a b q)
+
+pub has-common-is : (a b : Ids) (q : ℕ) → has a q ≡ true → has b q ≡ true → has (a ∩ b) q ≡ true
+has-common-is a b q here other = grind (arith, here, other, has-common a b q)

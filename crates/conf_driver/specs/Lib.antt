@@ -4,3 +4,5 @@ pub mod Situation
 pub mod Rows
 pub mod Next
 pub mod Proposals
+pub mod Leadership
+pub mod Servers

@@ -1,12 +1,15 @@
 //! Laws of what [`next`](crate::next) answers, whatever it knows. Each is the contract of a function that does nothing.
-ghost use Rattle.std.specs.Prelude.{◌≡◌};
-ghost use Rattle.quorum_sets.specs.Ids.{Ids};
+ghost use Rattle.std.specs.Prelude.{◌≡◌, ◌≢◌, ℕ, true};
+ghost use Rattle.quorum_sets.specs.Ids.{Ids, has};
 ghost use Rattle.conf_change.specs.Configuration.{Configuration};
 ghost use Rattle.conf_change.specs.declared.step.Step.{Step};
 ghost use Rattle.conf_plan.specs.declared.strategy.Strategy.{Strategy};
-ghost use Rattle.conf_driver.specs.declared.action.Action.TheVariants.{Propose};
+ghost use Rattle.conf_driver.specs.declared.action.Action.TheVariants.{Start, Stop, Transfer, Propose};
+ghost use Rattle.conf_driver.specs.IdSets.{◌∪◌, ◌∖◌};
+ghost use Rattle.conf_driver.specs.Leadership.{LeaderStays, MayTakeOver, after_first_step};
 ghost use Rattle.conf_driver.specs.Next.{next_of};
 ghost use Rattle.conf_driver.specs.Proposals.{CanAnswer, IsFirstOfPath};
+ghost use Rattle.conf_driver.specs.Servers.{MayStart, MayStop};
 ghost use Rattle.conf_driver.specs.View.{ViewState};
 
 use conf_plan::laws::{one_change_each_leads, paths_keep_promises};
@@ -25,4 +28,42 @@ pub fn proposals_are_accepted()
     one_change_each_leads();
     paths_keep_promises();
     proposed_step_leads_alike();
+}
+
+/// Leadership moves to a voter that is up and has caught up, and that may lead after the first step, or while a change is
+/// pending is an incoming voter. A step is proposed only if the leader may lead after it, or no voter that is not down
+/// may.
+pub fn leadership_moves_to_who_may_lead()
+    ensures transfer { (strategy : Strategy) (target : Configuration) (down : Ids) (view : ViewState) (id : ℕ)
+        → next_of strategy target down view ≡ Transfer id
+        → MayTakeOver down view (after_first_step strategy target down view) id }
+    ensures proposal { (strategy : Strategy) (target : Configuration) (down : Ids) (view : ViewState) (step : Step)
+        → next_of strategy target down view ≡ Propose step
+        → LeaderStays down view (after_first_step strategy target down view) }
+{}
+
+/// Nothing is kept between two calls, and nothing is done twice: once what was answered is done, the next answer is not
+/// to start, to stop, or to move leadership again.
+pub fn nothing_is_done_twice()
+    ensures start { (strategy : Strategy) (target : Configuration) (down : Ids) (view : ViewState) (ids others : Ids)
+        → next_of strategy target down view ≡ Start ids
+        → next_of strategy target down (record view { running = view.running ∪ ids }) ≢ Start others }
+    ensures stop { (strategy : Strategy) (target : Configuration) (down : Ids) (view : ViewState) (ids others : Ids)
+        → next_of strategy target down view ≡ Stop ids
+        → next_of strategy target down (record view { running = view.running ∖ ids }) ≢ Stop others }
+    ensures transfer { (strategy : Strategy) (target : Configuration) (down : Ids) (view : ViewState) (id other : ℕ)
+        → next_of strategy target down view ≡ Transfer id
+        → next_of strategy target down (record view { lead = id }) ≢ Transfer other }
+{}
+
+/// A server is stopped only if it is no member on any path to the target and each voter that is not down knows the
+/// configuration in force. One is started only if it does not run, does not vote, is not down, and is not added after it
+/// was stopped for good.
+pub fn nobody_is_stopped_early()
+    ensures stop { (strategy : Strategy) (target : Configuration) (down : Ids) (view : ViewState) (ids : Ids) (id : ℕ)
+        → next_of strategy target down view ≡ Stop ids → has ids id ≡ true → MayStop target down view id }
+    ensures start { (strategy : Strategy) (target : Configuration) (down : Ids) (view : ViewState) (ids : Ids) (id : ℕ)
+        → next_of strategy target down view ≡ Start ids → has ids id ≡ true → MayStart target down view id }
+{
+    one_change_each_leads();
 }

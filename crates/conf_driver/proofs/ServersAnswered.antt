@@ -1,0 +1,83 @@
+-- Which row starts and stops servers, and which ids it names.
+use Rattle.std.proofs.Common.{◌≡◌, ℕ, true, false, List, [], ◌∷◌, sym, ap, ◌∙◌, arith}
+use Rattle.std.specs.Prelude.{None}
+use Rattle.quorum_sets.specs.Ids.{Ids, has, is_empty, no_ids}
+use Rattle.quorum_sets.proofs.Offered.{has-no_ids, has-same_ids, has-union}
+use Rattle.conf_change.specs.Configuration.{member_ids}
+use Rattle.conf_change.specs.declared.step.Step.{Step}
+use Rattle.conf_change.proofs.Offered.{is_empty-no_ids}
+use Rattle.conf_driver.specs.IdSets.{◌∪◌, ◌∖◌}
+use Rattle.conf_driver.specs.Next.{answer_in, propose_first}
+use Rattle.conf_driver.specs.Rows as row
+use Rattle.conf_driver.specs.declared.action.Action.TheVariants.{Start, Stop}
+use Rattle.conf_driver.specs.declared.situation.Situation.{Situation}
+use Rattle.conf_driver.proofs.FirstRow.{by_rows}
+use Rattle.conf_driver.proofs.IdsByMember.{has-without}
+use Rattle.conf_driver.proofs.RowAnswers.{if_any-some, some-if}
+
+-- a set without members
+pub is_empty-nobody : (ids : Ids) → ((q : ℕ) → has ids q ≡ false) → is_empty ids ≡ true
+is_empty-nobody ids nobody = ap is_empty (has-same_ids ids no_ids (λ q. nobody q ∙ sym (has-no_ids q))) ∙ is_empty-no_ids
+
+-- ---- starting
+-- the members, now or after the step, that are neither voters nor down
+abbrev pub to_run : Situation → Ids
+to_run s = (member_ids s.after ∪ s.members) ∖ s.voters ∖ s.down
+
+-- no id is used again, and those of the members that do not run are named
+pub record IsStarted (s : Situation) (ids : Ids) : Type 0 where
+  pub reused : row.id_is_reused s ≡ None
+  pub some : is_empty (to_run s ∖ s.running) ≡ false
+  pub named : (to_run s ∖ s.running) ≡ ids
+
+start_not_last : {P : Type 0} (steps : List Step) (ids : Ids) → propose_first steps ≡ Start ids → P
+start_not_last [] ids is = absurd (cc)
+start_not_last (step ∷ steps) ids is = absurd (cc)
+
+same_start : (a b : Ids) → Start a ≡ Start b → a ≡ b
+same_start a b is = cc
+
+pub IsStarted-from_answer : (s : Situation) (steps : List Step) (ids : Ids) → answer_in s steps ≡ Start ids → IsStarted s ids
+IsStarted-from_answer s steps ids is =
+    by_rows (IsStarted s ids) s steps (Start ids)
+    (λ lost heard leaderless outgoing pending stalls reused. (
+      λ here. let parts = if_any-some (to_run s ∖ s.running) Start (Start ids) here in record { reused = reused; some = parts.0; named = same_start _ ids parts.1 },
+      λ started stopped leaving leads lags target behind quorum silent last. start_not_last steps ids last,
+    )) is
+
+-- once they run, there are no others
+pub none_to_start : (a b : Ids) → is_empty (a ∖ (b ∪ (a ∖ b))) ≡ true
+none_to_start a b = is_empty-nobody _ (λ q. grind (arith, has-without a (b ∪ (a ∖ b)) q, has-union b (a ∖ b) q, has-without a b q))
+
+-- ---- stopping
+-- who runs and is a member neither now nor at the target
+abbrev pub to_stop : Situation → Ids
+to_stop s = s.running ∖ s.members ∖ member_ids s.target
+
+pub record IsStopped (s : Situation) (ids : Ids) : Type 0 where
+  pub known : is_empty s.lack_configuration ≡ true
+  pub some : is_empty (to_stop s) ≡ false
+  pub named : to_stop s ≡ ids
+
+stop_not_last : {P : Type 0} (steps : List Step) (ids : Ids) → propose_first steps ≡ Stop ids → P
+stop_not_last [] ids is = absurd (cc)
+stop_not_last (step ∷ steps) ids is = absurd (cc)
+
+same_stop : (a b : Ids) → Stop a ≡ Stop b → a ≡ b
+same_stop a b is = cc
+
+pub IsStopped-from_answer : (s : Situation) (steps : List Step) (ids : Ids) → answer_in s steps ≡ Stop ids → IsStopped s ids
+IsStopped-from_answer s steps ids is =
+    by_rows (IsStopped s ids) s steps (Stop ids)
+    (λ lost heard leaderless outgoing pending stalls reused started. (
+      λ here.
+          let row = some-if (is_empty s.lack_configuration) _ _ here in
+          let parts = if_any-some (to_stop s) Stop (Stop ids) row.1 in
+          record { known = row.0; some = parts.0; named = same_stop _ ids parts.1 },
+      λ stopped leaving leads lags target behind quorum silent last. stop_not_last steps ids last,
+    )) is
+
+-- once they do not run, there are no others
+pub none_to_stop : (a b d : Ids) → is_empty (a ∖ (a ∖ b ∖ d) ∖ b ∖ d) ≡ true
+none_to_stop a b d = is_empty-nobody _ (λ q.
+    grind (arith, has-without (a ∖ (a ∖ b ∖ d) ∖ b) d q, has-without (a ∖ (a ∖ b ∖ d)) b q, has-without a (a ∖ b ∖ d) q, has-without (a ∖ b) d q, has-without a b q))

@@ -1,0 +1,39 @@
+-- Who is up and has caught up, by member.
+use Rattle.std.proofs.Common.{◌≡◌, ℕ, ◌≤◌, ◌<◌, true, false, not, ◌&&◌, sym, ap, ◌∙◌, arith}
+use Rattle.std.specs.Prelude.{nat_le}
+use Rattle.std.proofs.lemmas.Bool.{leb-true, leb-false}
+use Rattle.quorum_sets.specs.Ids.{Ids, ascending, has, is_empty}
+use Rattle.quorum_sets.proofs.Offered.{has-ascending, has-ids_where}
+use Rattle.conf_change.specs.Configuration.{is_member, member_ids}
+use Rattle.conf_change.proofs.Offered.{has-all_members, has-none_in_empty}
+use Rattle.conf_driver.specs.IdSets.{◌∩◌, ◌∖◌}
+use Rattle.conf_driver.specs.View.{ViewState, caught_up_index, having, heard_from, lacking, match_of, up_and_caught_up}
+use Rattle.conf_driver.proofs.IdsByMember.{has-common, has-without}
+
+pub has-having : (view : ViewState) (index : ℕ) (ids : Ids) (id : ℕ) → has (having view index ids) id ≡ (nat_le index (match_of view id) && has ids id)
+has-having view index ids id = has-ids_where (λ x. nat_le index (match_of view x)) (ascending ids) id ∙ ap (λ b. nat_le index (match_of view id) && b) (sym (has-ascending ids id))
+
+-- nobody of the ids lacks the index, so each has it
+pub having-all : (view : ViewState) (index : ℕ) (ids : Ids) (id : ℕ) → is_empty (lacking view index ids) ≡ true → has ids id ≡ true → index ≤ match_of view id
+having-all view index ids id none here =
+    let lacks_not = has-none_in_empty (lacking view index ids) none id in
+    let test : nat_le index (match_of view id) ≡ true = grind (arith, lacks_not, here, has-without ids (having view index ids) id, has-having view index ids id) in
+    leb-true _ _ test
+
+-- an id that is up: a member that is heard from, is not down, and has what is committed
+pub has-up : (down : Ids) (view : ViewState) (id : ℕ)
+    → has (up_and_caught_up down view) id ≡ (nat_le (caught_up_index view) (match_of view id) && (is_member view.conf_state id && has (heard_from view) id && not (has down id)))
+has-up down view id =
+    let members = member_ids view.conf_state in
+    has-having view (caught_up_index view) (members ∩ heard_from view ∖ down) id
+    ∙ ap (λ b. nat_le (caught_up_index view) (match_of view id) && b) (has-without (members ∩ heard_from view) down id ∙ ap (λ b. b && not (has down id)) (has-common members (heard_from view) id ∙ ap (λ b. b && has (heard_from view) id) (has-all_members view.conf_state id)))
+
+pub up-not_down : (down : Ids) (view : ViewState) (id : ℕ) → has (up_and_caught_up down view) id ≡ true → has down id ≡ false
+up-not_down down view id up = grind (arith, up, has-up down view id)
+
+-- a member that is heard from and not down, and is not up, lacks what is committed
+pub lacks-not_up : (down : Ids) (view : ViewState) (id : ℕ) → is_member view.conf_state id ≡ true → has (heard_from view) id ≡ true → has down id ≡ false
+    → has (up_and_caught_up down view) id ≡ false → match_of view id < caught_up_index view
+lacks-not_up down view id member heard not_down not_up =
+    let test : nat_le (caught_up_index view) (match_of view id) ≡ false = grind (arith, member, heard, not_down, not_up, has-up down view id) in
+    leb-false _ _ test
