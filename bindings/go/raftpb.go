@@ -12,6 +12,51 @@ type Message interface {
 	Marshal() ([]byte, error)
 }
 
+// As returns a ConfState or a ConfChangeV2 as the message of raftpb that has its name, in any version:
+// As[raftpb.ConfChangeV2](stage.ConfChange) is what to propose.
+func As[M any, P interface {
+	*M
+	Unmarshal(data []byte) error
+}](value Message) (message M, err error) {
+	data, err := value.Marshal()
+	if err == nil {
+		err = P(&message).Unmarshal(data)
+	}
+	return message, err
+}
+
+// Marshal returns the bytes of the configuration as a raftpb.ConfState.
+func (state ConfState) Marshal() ([]byte, error) {
+	var data []byte
+	for i, list := range [][]uint64{state.Voters, state.Learners, state.VotersOutgoing, state.LearnersNext} {
+		for _, id := range list {
+			data = appendField(data, uint64(i+1), id)
+		}
+	}
+	if state.AutoLeave {
+		data = appendField(data, 5, 1)
+	}
+	return data, nil
+}
+
+// Marshal returns the bytes of the proposal as a raftpb.ConfChangeV2 without a context, the data of an entry with it.
+func (change ConfChangeV2) Marshal() ([]byte, error) {
+	data := appendField(nil, 1, uint64(change.Transition))
+	for _, single := range change.Changes {
+		inner := appendField(appendField(nil, 1, uint64(single.Type)), 2, single.NodeID)
+		data = append(append(data, 2<<3|2, byte(len(inner))), inner...)
+	}
+	return data, nil
+}
+
+// appendField appends a field that is a number, in the encoding of Protocol Buffers.
+func appendField(data []byte, field, value uint64) []byte {
+	var encoded [2 * binary.MaxVarintLen64]byte
+	size := binary.PutUvarint(encoded[:], field<<3)
+	size += binary.PutUvarint(encoded[size:], value)
+	return append(data, encoded[:size]...)
+}
+
 // ConfStateOf returns the configuration of a *raftpb.ConfState.
 func ConfStateOf(message Message) (state ConfState, err error) {
 	err = eachField(message, func(field, value uint64, _ []byte) error {

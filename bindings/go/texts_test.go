@@ -66,6 +66,14 @@ func (m message) Marshal() ([]byte, error) {
 	return []byte(m), nil
 }
 
+// An unmarshaled ConfState, in place of that of raftpb.
+type unmarshaled struct{ state ConfState }
+
+func (u *unmarshaled) Unmarshal(data []byte) (err error) {
+	u.state, err = ConfStateOf(message(data))
+	return err
+}
+
 func TestMessages(t *testing.T) {
 	state, err := ConfStateOf(message("\x08\x02\x08\x80\x02\x10\x07\x18\x03\x20\x03\x28\x01"))
 	want := ConfState{Voters: ids(2, 256), Learners: ids(7), VotersOutgoing: ids(3), LearnersNext: ids(3), AutoLeave: true}
@@ -75,6 +83,22 @@ func TestMessages(t *testing.T) {
 	change, err := ConfChangeV2Of(message("\x08\x02\x12\x04\x08\x03\x10\x09\x12\x00\x1a\x02hi"))
 	if err != nil || !reflect.DeepEqual(change, ConfChangeV2{ConfChangeTransitionJointExplicit, changes(learner(9), voter(0))}) {
 		t.Errorf("%v, %v", change, err)
+	}
+	for _, state := range []ConfState{want, {}, {Voters: ids(1<<64 - 1)}} {
+		if again, err := ConfStateOf(state); err != nil || !reflect.DeepEqual(again, state) {
+			t.Errorf("%v is written as %v, %v", state, again, err)
+		}
+		if again, err := As[unmarshaled](state); err != nil || !reflect.DeepEqual(again.state, state) {
+			t.Errorf("%v is %v, %v", state, again, err)
+		}
+	}
+	for _, change := range []ConfChangeV2{change, {}, {Transition: -1, Changes: changes(voter(1<<64-1), ConfChangeSingle{-1, 1<<64 - 1})}} {
+		if again, err := ConfChangeV2Of(change); err != nil || !reflect.DeepEqual(again, change) {
+			t.Errorf("%v is written as %v, %v", change, again, err)
+		}
+	}
+	if again, err := As[unmarshaled](message("fails")); err == nil {
+		t.Errorf("it is %v", again)
 	}
 	for _, bad := range []message{"fails", "\x08", "\x80", "\x09\x01", "\x12\x05\x08", "\x12\x01\x08"} {
 		if change, err := ConfChangeV2Of(bad); err == nil {

@@ -1,17 +1,20 @@
 //! Configurations.
+use crate::{Error, Status};
 use alloc::vec::Vec;
 use core::fmt;
 use core::hash::{Hash, Hasher};
+use core::str::FromStr;
 
 /// A configuration: etcd's `ConfState`. The ids of a list may be in any order; a call returns them ascending. Two are equal
 /// if their sets are.
 ///
-/// It is printed as the program prints it, and as [`plan`](crate::plan) reads it:
+/// It is printed as the program prints it, and read from such a text, as [`plan`](crate::plan) reads it too:
 ///
 /// ```
 /// # use confscript::Configuration;
 /// let joint = Configuration { voters: vec![1, 2], voters_outgoing: vec![1, 2, 3], learners_next: vec![3], ..Default::default() };
 /// assert_eq!(joint.to_string(), "voters=(1 2)&&(1 2 3) learners_next=(3)");
+/// assert_eq!("voters=(1 2)&&(1 2 3) learners_next=(3)".parse(), Ok(joint));
 /// ```
 #[derive(Clone, Debug, Default)]
 pub struct Configuration {
@@ -93,6 +96,44 @@ impl fmt::Display for Configuration {
         }
         out.write_str(if self.auto_leave { " autoleave" } else { "" })
     }
+}
+
+/// Reads a printed configuration, as the program does. Another text is refused as [`Status::BadPrinted`]. Whether it is valid
+/// is checked by the calls that take it.
+impl FromStr for Configuration {
+    type Err = Error;
+
+    fn from_str(text: &str) -> Result<Configuration, Error> {
+        let spaced = text.replace('(', " ( ").replace(')', " ) ").replace('=', " = ");
+        let tokens: Vec<&str> = spaced.split_ascii_whitespace().collect();
+        printed(&tokens).ok_or(Error { code: Status::BadPrinted as u32, number: 0 })
+    }
+}
+
+// The configuration of the tokens of a printed one, of which those of `voters=(1 2)` are `voters`, `=`, `(`, `1`, `2` and `)`.
+fn printed(tokens: &[&str]) -> Option<Configuration> {
+    let (voters, rest) = set(tokens.strip_prefix(&["voters", "="])?)?;
+    let (voters_outgoing, rest) = part(&["&&"], rest)?;
+    let (learners, rest) = part(&["learners", "="], rest)?;
+    let (learners_next, rest) = part(&["learners_next", "="], rest)?;
+    let auto_leave = rest == ["autoleave"];
+    (auto_leave || rest.is_empty()).then_some(Configuration { voters, voters_outgoing, learners, learners_next, auto_leave })
+}
+
+// The ids of a part that begins with these tokens, and the tokens after it. An empty part is left out.
+fn part<'a, 'b>(begin: &[&'b str], tokens: &'a [&'b str]) -> Option<(Vec<u64>, &'a [&'b str])> {
+    match tokens.strip_prefix(begin) {
+        None => Some((Vec::new(), tokens)),
+        Some(rest) => set(rest).filter(|(ids, _)| !ids.is_empty()),
+    }
+}
+
+// The ids between parentheses, and the tokens after these.
+fn set<'a, 'b>(tokens: &'a [&'b str]) -> Option<(Vec<u64>, &'a [&'b str])> {
+    let tokens = tokens.strip_prefix(&["("])?;
+    let end = tokens.iter().position(|token| *token == ")")?;
+    let ids = tokens[..end].iter().map(|token| if token.starts_with('+') { None } else { token.parse().ok() });
+    Some((ids.collect::<Option<_>>()?, &tokens[end + 1..]))
 }
 
 fn sorted(ids: &[u64]) -> Vec<u64> {

@@ -5,7 +5,7 @@ use core::fmt;
 
 /// How [`next`] goes to a target. [`Strategy::Shortest`], the default strategy, is refused: its new voters vote with empty
 /// logs.
-#[derive(Clone, Copy, Debug, Default, PartialEq, Eq)]
+#[derive(Clone, Copy, Debug, Default, PartialEq, Eq, Hash)]
 pub struct DriveOptions<'a> {
     /// `LearnersFirst` or `OneAtATime`.
     pub strategy: Strategy,
@@ -17,7 +17,7 @@ pub struct DriveOptions<'a> {
 }
 
 /// What is known of a member: what [`next`] looks at of raft's `Progress`.
-#[derive(Clone, Copy, Debug, Default, PartialEq, Eq)]
+#[derive(Clone, Copy, Debug, Default, PartialEq, Eq, Hash)]
 pub struct MemberView {
     /// Its id.
     pub id: u64,
@@ -28,7 +28,7 @@ pub struct MemberView {
 }
 
 /// What a leader knows of its cluster, or a tool that asks all members.
-#[derive(Clone, Debug, Default, PartialEq, Eq)]
+#[derive(Clone, Debug, Default, PartialEq, Eq, Hash)]
 pub struct View {
     /// The configuration that the leader has applied.
     pub conf_state: Configuration,
@@ -51,7 +51,7 @@ pub struct View {
 }
 
 /// What to do next. As text it is a line for a log.
-#[derive(Clone, Debug, PartialEq, Eq)]
+#[derive(Clone, Debug, PartialEq, Eq, Hash)]
 pub enum Action {
     /// Start these servers, each with an empty log that is created, and never opened anew.
     Start(Vec<u64>),
@@ -70,7 +70,8 @@ pub enum Action {
 }
 
 /// An id that is waited for.
-#[derive(Clone, Copy, Debug, PartialEq, Eq)]
+#[non_exhaustive]
+#[derive(Clone, Copy, Debug, PartialEq, Eq, Hash)]
 pub struct Waited {
     /// The id.
     pub id: u64,
@@ -81,7 +82,8 @@ pub struct Waited {
 }
 
 /// Why to wait.
-#[derive(Clone, Copy, Debug, PartialEq, Eq)]
+#[non_exhaustive]
+#[derive(Clone, Copy, Debug, PartialEq, Eq, Hash)]
 pub enum WaitReason {
     /// There is no leader.
     NoLeader = 1,
@@ -98,7 +100,8 @@ pub enum WaitReason {
 }
 
 /// Why the target is not reached.
-#[derive(Clone, Copy, Debug, PartialEq, Eq)]
+#[non_exhaustive]
+#[derive(Clone, Copy, Debug, PartialEq, Eq, Hash)]
 pub enum StuckReason {
     /// The voters that are not down are not a quorum.
     QuorumLost = 7,
@@ -111,6 +114,20 @@ pub enum StuckReason {
 /// What to do next on the way to a target. Call it on the thread that owns the raft node, with what the node knows now, do
 /// what it says, and call it again. It keeps nothing. The configuration and the target are checked as by
 /// [`stages`](crate::stages), but for ids that are down and that neither has, which are ignored.
+///
+/// ```
+/// # use confscript::{next, Configuration, DriveOptions, MemberView, Strategy, View};
+/// let voters = |ids: &[u64]| Configuration { voters: ids.to_vec(), ..Default::default() };
+/// let member = |id| MemberView { id, matched: 60, recent_active: true };
+/// let mut view = View { conf_state: voters(&[1, 2, 3]), conf_index: 57, lead: 1, commit: 60, ..Default::default() };
+/// view.progress = vec![member(1), member(2), member(3)];
+/// view.running = vec![1, 2, 3];
+/// let options = DriveOptions { strategy: Strategy::LearnersFirst, ..Default::default() };
+/// assert_eq!(next(options, &voters(&[1, 2, 4]), &view)?.to_string(), "start 4");
+/// view.running.push(4);
+/// assert_eq!(next(options, &voters(&[1, 2, 4]), &view)?.to_string(), "propose simple l4");
+/// # Ok::<(), confscript::Error>(())
+/// ```
 pub fn next(options: DriveOptions<'_>, target: &Configuration, view: &View) -> Result<Action, Error> {
     let DriveOptions { strategy, down, max_lag } = options;
     let (from, to, known) = (view.conf_state.numbers(), target.numbers(), view.numbers(max_lag));

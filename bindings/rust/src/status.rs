@@ -96,8 +96,8 @@ impl Status {
 /// id, text, line, step or change that the number denotes.
 #[derive(Clone, Copy, Debug, PartialEq, Eq, Hash)]
 pub struct Error {
-    code: u32,
-    number: u64,
+    pub(crate) code: u32,
+    pub(crate) number: u64,
 }
 
 impl Error {

@@ -92,7 +92,7 @@ fn names_each_status() {
     let mut named = 0;
     for code in 2..100 {
         let status = Status::of(code);
-        let mut out = [0; 64];
+        let mut out = [0; 256];
         let length = unsafe { confscript_status_text(code, out.as_mut_ptr(), out.len()) }.number as usize;
         assert_eq!(&out[..length] != b"unknown status", status != Status::Unknown, "{code}");
         if status != Status::Unknown {
@@ -154,6 +154,26 @@ fn prints_values() {
     assert_eq!(("Shortest".parse::<Strategy>(), "".parse::<Output>()), (Err(UnknownName), Err(UnknownName)));
     assert_eq!([VoteResult::Pending, VoteResult::Lost, VoteResult::Won].map(|it| it.to_string()), ["VotePending", "VoteLost", "VoteWon"]);
     assert_eq!(std::collections::HashSet::from([voters(&[1, 3]), voters(&[3, 1]), voters(&[1]), Configuration { auto_leave: true, ..voters(&[1]) }]).len(), 3);
+}
+
+// A configuration is read from each text that the program reads, and from no other one.
+#[test]
+fn reads_printed_configurations() {
+    let all = Configuration { voters: vec![1, 2], voters_outgoing: vec![3, u64::MAX], learners: vec![5], learners_next: vec![3], auto_leave: true };
+    for configuration in [voters(&[]), voters(&[7]), all.clone(), Configuration { learners: vec![2], ..voters(&[1]) }] {
+        assert_eq!(configuration.to_string().parse(), Ok(configuration));
+    }
+    let text = " voters =( 02 1)&& (18446744073709551615 3)\tlearners=(5)learners_next=(3)  autoleave\n";
+    assert_eq!((text.parse(), plan(text, &all.to_string()).as_deref()), (Ok(all), Ok("nothing to do\n")));
+    for text in [
+        "", "voters", "voters=", "voters=(1", "voters=(1))", "voters=(1,2)", "voters=(1 x)", "voters=(+1)", "voters=(-1)", "voters=(18446744073709551616)", "voters=(1)&&()",
+        "voters=(1) learners=()", "voters=(1) learners_next=(2) learners=(3)", "voters=(1) autoleave autoleave", "voters=(1) voters=(1)", "learners=(1)", "(1)", "voters=(1) autoleav",
+    ] {
+        let (status, number, why) = refused(text.parse::<Configuration>());
+        assert_eq!((status, number), (Status::BadPrinted, 0), "{text:?}");
+        assert!(why.starts_with("not a printed configuration"));
+        assert!(plan(text, "voters=(1)").is_err(), "{text:?}");
+    }
 }
 
 fn voters(ids: &[u64]) -> Configuration {

@@ -77,7 +77,10 @@ func (c *cluster) next(target confscript.ConfState) (id uint64, now confscript.C
 		case confscript.Transfer:
 			s.node.TransferLeader(action.To)
 		case confscript.Propose:
-			s.node.ProposeConfChange(changeOf(action.Stage.ConfChange))
+			var change pb.ConfChangeV2
+			if change, err = confscript.As[pb.ConfChangeV2](action.Stage.ConfChange); err == nil {
+				s.node.ProposeConfChange(change)
+			}
 		}
 	})
 	return s.id, now, action, err
@@ -103,8 +106,12 @@ func (c *cluster) foremost() *server {
 // view returns what the server knows of its cluster. If it does not lead, nobody is known to.
 func (s *server) view() confscript.View {
 	status := s.node.Status()
+	state, err := confscript.ConfStateOf(&s.state)
+	if err != nil {
+		log.Fatal(err)
+	}
 	view := confscript.View{
-		ConfState: stateOf(s.state), ConfIndex: s.known, Commit: status.Commit, PendingConfIndex: s.pending(),
+		ConfState: state, ConfIndex: s.known, Commit: status.Commit, PendingConfIndex: s.pending(),
 		Progress: map[uint64]confscript.Progress{},
 	}
 	if status.RaftState != raft.StateLeader {
@@ -136,22 +143,6 @@ func (s *server) pending() uint64 {
 		}
 	}
 	return 0
-}
-
-// changeOf returns a proposal as raft's own type.
-func changeOf(change confscript.ConfChangeV2) pb.ConfChangeV2 {
-	made := pb.ConfChangeV2{Transition: pb.ConfChangeTransition(change.Transition)}
-	for _, single := range change.Changes {
-		made.Changes = append(made.Changes, pb.ConfChangeSingle{Type: pb.ConfChangeType(single.Type), NodeID: single.NodeID})
-	}
-	return made
-}
-
-// stateOf returns a configuration of raft as that of the package.
-func stateOf(state pb.ConfState) confscript.ConfState {
-	return confscript.ConfState{
-		Voters: state.Voters, VotersOutgoing: state.VotersOutgoing, Learners: state.Learners, LearnersNext: state.LearnersNext, AutoLeave: state.AutoLeave,
-	}
 }
 
 func describe(state confscript.ConfState) string {
