@@ -172,14 +172,14 @@ static void on_texts(const char *a, const char *b) { first = a; second = b; room
 static void texts(void) {
     /* The text of each status, by its code; the last number is not a status. */
     static const char *const words[] = {
-        "done", "the buffer is too small", "out of memory", "not a ConfState line", "an id is named twice", "not a configuration",
-        "no incoming voter", "not a step", "not a member", "config is already joint", "can't make a zero-voter config joint",
+        "done", "the buffer is too small", "out of memory", "not a ConfState line: expected Voters:[1 2] VotersOutgoing:[] Learners:[3] LearnersNext:[] AutoLeave:false", "an id is named twice", "not a configuration: an id is 0 or listed twice, a learner is a voter, a next learner is not an outgoing voter alone, or auto-leave has no outgoing voters",
+        "no incoming voter", "not a step: expected simple l4 l5, enter-joint autoleave=false r1 v4, or leave-joint", "not a member", "config is already joint", "can't make a zero-voter config joint",
         "can't leave a non-joint config", "can't apply simple config change in joint config", "removed all voters",
         "more than one voter changed without entering joint config", "the id 0", "a next learner is not an outgoing voter",
-        "a next learner is an incoming voter", "a learner is a voter", "removed and added again",
+        "a next learner is an incoming voter", "a learner is a voter", "removed and added again: a server that lost its log needs a new id",
         "auto-leave without outgoing voters", "the counts do not match the length", "a vote is neither 0, 1 nor 2",
         "the voters are no quorum", "unknown strategy", "the target is joint", "unknown step", "unknown kind of change", "unknown output",
-        "no form of a configuration", "not a printed configuration", "not the JSON of a configuration", "not a list of changes",
+        "no form of a configuration: expected voters=(1 2 3) learners=(4), a ConfState line, or JSON of a ConfState or of etcdctl member list", "not a printed configuration: expected voters=(1 2)&&(1 2 3) learners=(4) learners_next=(3) autoleave, without what is empty, with spaces between ids", "not the JSON of a configuration: expected voters, voters_outgoing, learners, learners_next and auto_leave, or etcdctl member list -w json, with decimal numbers as ids", "not a list of changes: expected changes as r1 v4 l5, or a configuration as voters=(1 2 3), a ConfState line, or JSON",
         "down and not a member", "by this strategy the cluster may stall", "unknown status"};
     room = ROOM;
     for (code = 0; code < sizeof words / sizeof *words; code++)

@@ -86,20 +86,20 @@ func TestRefusals(t *testing.T) {
 	_, output := PlanAs(3, Options{}, now, target)
 	_, joint := PlanBy(Options{Strategy: OneAtATime}, now, strings.Replace(target, "Outgoing:[]", "Outgoing:[1 2 3]", 1))
 	for text, err := range map[string]error{
-		"not a ConfState line (the configuration)":            first,
-		"not a ConfState line (the target)":                   second,
-		"can't leave a non-joint config (step 1)":             step,
-		"no form of a configuration (the configuration)":      form,
-		"not a printed configuration (the target)":            printed,
-		"not the JSON of a configuration (the configuration)": json,
-		"not a list of changes (the target)":                  list,
-		"not a member (id 7)":                                 member,
-		"removed and added again (id 3)":                      again,
-		"down and not a member (id 9)":                        down,
-		"unknown strategy":                                    strategy,
-		"unknown output":                                      output,
-		"the target is joint":                                 joint,
-		"the id 0":                                            Check(strings.Replace(now, "1 2", "0 2", 1)),
+		"the configuration: not a ConfState line: expected Voters:[1 2] VotersOutgoing:[] Learners:[3] LearnersNext:[] AutoLeave:false": first,
+		"the target: not a ConfState line: expected Voters:[1 2] VotersOutgoing:[] Learners:[3] LearnersNext:[] AutoLeave:false":        second,
+		"step 1: can't leave a non-joint config": step,
+		"the configuration: no form of a configuration: expected voters=(1 2 3) learners=(4), a ConfState line, or JSON of a ConfState or of etcdctl member list":                                   form,
+		"the target: not a printed configuration: expected voters=(1 2)&&(1 2 3) learners=(4) learners_next=(3) autoleave, without what is empty, with spaces between ids":                          printed,
+		"the configuration: not the JSON of a configuration: expected voters, voters_outgoing, learners, learners_next and auto_leave, or etcdctl member list -w json, with decimal numbers as ids": json,
+		"the target: not a list of changes: expected changes as r1 v4 l5, or a configuration as voters=(1 2 3), a ConfState line, or JSON":                                                          list,
+		"not a member (id 7)": member,
+		"removed and added again: a server that lost its log needs a new id (id 3)": again,
+		"down and not a member (id 9)":                                              down,
+		"unknown strategy":                                                          strategy,
+		"unknown output":                                                            output,
+		"the target is joint":                                                       joint,
+		"the id 0":                                                                  Check(strings.Replace(now, "1 2", "0 2", 1)),
 	} {
 		if err == nil || err.Error() != text {
 			t.Errorf("%v, and not %s", err, text)
@@ -141,11 +141,11 @@ func TestStatuses(t *testing.T) {
 
 func TestErrorTexts(t *testing.T) {
 	for text, refused := range map[string]Refused{
-		"no incoming voter":                                             {ErrNoVoter, 0},
-		"no incoming voter (the target)":                                {ErrNoVoter, 2},
-		"not a step (line 3)":                                           {ErrBadLine, 3},
+		"no incoming voter":             {ErrNoVoter, 0},
+		"the target: no incoming voter": {ErrNoVoter, 2},
+		"line 3: not a step: expected simple l4 l5, enter-joint autoleave=false r1 v4, or leave-joint": {ErrBadLine, 3},
 		"can't leave a non-joint config":                                {ErrNotJoint, 0},
-		"unknown kind of change (change 2)":                             {ErrBadChange, 2},
+		"change 2: unknown kind of change":                              {ErrBadChange, 2},
 		"a next learner is an incoming voter (id 18446744073709551615)": {ErrNextAndIncoming, math.MaxUint64},
 		"unknown status (7)":                                            {1000, 7},
 	} {

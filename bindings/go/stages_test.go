@@ -97,14 +97,14 @@ func TestRefusedStages(t *testing.T) {
 	one := ConfState{Voters: ids(1)}
 	refused := func(_ []Stage, _ bool, err error) error { return err }
 	for text, err := range map[string]error{
-		"unknown strategy":                      refused(Stages(Options{Strategy: 3}, one, one)),
-		"the id 0":                              refused(Stages(Options{Down: ids(0)}, one, one)),
-		"an id is named twice (id 7)":           refused(Stages(Options{}, ConfState{Voters: ids(7, 1, 7)}, one)),
-		"a learner is a voter (id 2)":           refused(Stages(Options{}, one, ConfState{Voters: ids(2), Learners: ids(2)})),
-		"down and not a member (id 9)":          refused(Stages(Options{Down: ids(1, 9)}, one, one)),
-		"no incoming voter (the configuration)": refused(Stages(Options{}, ConfState{}, one)),
-		"no incoming voter (the target)":        refused(Stages(Options{}, one, ConfState{Learners: ids(1)})),
-		"the target is joint":                   refused(Stages(Options{Strategy: OneAtATime}, one, ConfState{Voters: ids(2), VotersOutgoing: ids(1)})),
+		"unknown strategy":                     refused(Stages(Options{Strategy: 3}, one, one)),
+		"the id 0":                             refused(Stages(Options{Down: ids(0)}, one, one)),
+		"an id is named twice (id 7)":          refused(Stages(Options{}, ConfState{Voters: ids(7, 1, 7)}, one)),
+		"a learner is a voter (id 2)":          refused(Stages(Options{}, one, ConfState{Voters: ids(2), Learners: ids(2)})),
+		"down and not a member (id 9)":         refused(Stages(Options{Down: ids(1, 9)}, one, one)),
+		"the configuration: no incoming voter": refused(Stages(Options{}, ConfState{}, one)),
+		"the target: no incoming voter":        refused(Stages(Options{}, one, ConfState{Learners: ids(1)})),
+		"the target is joint":                  refused(Stages(Options{Strategy: OneAtATime}, one, ConfState{Voters: ids(2), VotersOutgoing: ids(1)})),
 	} {
 		if err == nil || err.Error() != text {
 			t.Errorf("%v, and not %s", err, text)

@@ -70,35 +70,34 @@ type Refused struct {
 // Unwrap returns the status, for errors.Is.
 func (refused *Refused) Unwrap() error { return refused.Status }
 
-// Error returns what the status means, in words, and of which id, text, line, step or change it is reported.
+// Error returns what the status means, in words, after the text, line, step or change of which it is reported, and before the
+// id.
 func (refused *Refused) Error() string {
-	text := refused.Status.Error()
-	if of := refused.of(); of != "" {
-		text += " (" + of + ")"
-	}
-	return text
+	place, id := refused.names()
+	return place + refused.Status.Error() + id
 }
 
-// of returns what the number names; it is empty if the status has none.
-func (refused *Refused) of() string {
-	if refused.Number == 0 {
-		return ""
+// names returns what the number names; both are empty if the status has none.
+func (refused *Refused) names() (place, id string) {
+	number := refused.Number
+	if number == 0 {
+		return "", ""
 	}
 	switch refused.Status {
 	case ErrBadConfState, ErrNotAConfiguration, ErrNoVoter, ErrUnknownForm, ErrBadPrinted, ErrBadJSON, ErrBadChangeList:
-		if refused.Number == 1 {
-			return "the configuration"
+		if number == 1 {
+			return "the configuration: ", ""
 		}
-		return "the target"
-	case ErrRepeatedID, ErrNextNotOutgoing, ErrNextAndIncoming, ErrLearnerAndVoter, ErrNotAMember, ErrAddedAgain, ErrDownNotAMember:
-		return fmt.Sprint("id ", refused.Number)
+		return "the target: ", ""
 	case ErrBadLine:
-		return fmt.Sprint("line ", refused.Number)
+		return fmt.Sprintf("line %d: ", number), ""
 	case ErrAlreadyJoint, ErrZeroVoterJoint, ErrNotJoint, ErrSimpleInJoint, ErrRemovedAllVoters, ErrMoreThanOneVoter:
-		return fmt.Sprint("step ", refused.Number)
+		return fmt.Sprintf("step %d: ", number), ""
 	case ErrBadChange:
-		return fmt.Sprint("change ", refused.Number)
+		return fmt.Sprintf("change %d: ", number), ""
+	case ErrRepeatedID, ErrNextNotOutgoing, ErrNextAndIncoming, ErrLearnerAndVoter, ErrNotAMember, ErrAddedAgain, ErrDownNotAMember:
+		return "", fmt.Sprintf(" (id %d)", number)
 	default:
-		return fmt.Sprint(refused.Number)
+		return "", fmt.Sprintf(" (%d)", number)
 	}
 }

@@ -88,17 +88,17 @@ class Status(IntEnum):
 _TEXTS = {
     Status.BAD_CONF_STATE, Status.NOT_A_CONFIGURATION, Status.NO_VOTER, Status.UNKNOWN_FORM, Status.BAD_PRINTED, Status.BAD_JSON, Status.BAD_CHANGE_LIST,
 }
-# What the number of a status is counted of.
+_IDS_NAMED = {
+    Status.REPEATED_ID, Status.NEXT_NOT_OUTGOING, Status.NEXT_AND_INCOMING, Status.LEARNER_AND_VOTER, Status.NOT_A_MEMBER, Status.ADDED_AGAIN,
+    Status.DOWN_NOT_A_MEMBER,
+}
+# What the number of another status is counted of.
 _COUNTED = {
-    "id ": {
-        Status.REPEATED_ID, Status.NEXT_NOT_OUTGOING, Status.NEXT_AND_INCOMING, Status.LEARNER_AND_VOTER, Status.NOT_A_MEMBER, Status.ADDED_AGAIN,
-        Status.DOWN_NOT_A_MEMBER,
-    },
-    "line ": {Status.BAD_LINE},
-    "step ": {
+    "line": {Status.BAD_LINE},
+    "step": {
         Status.ALREADY_JOINT, Status.ZERO_VOTER_JOINT, Status.NOT_JOINT, Status.SIMPLE_IN_JOINT, Status.REMOVED_ALL_VOTERS, Status.MORE_THAN_ONE_VOTER,
     },
-    "change ": {Status.BAD_CHANGE},
+    "change": {Status.BAD_CHANGE},
 }
 
 
@@ -120,9 +120,11 @@ class Refused(Exception):
         if not self.number:
             return text
         if self.status in _TEXTS:
-            return f"{text} ({'the configuration' if self.number == 1 else 'the target'})"
-        of = "".join(what for what, statuses in _COUNTED.items() if self.status in statuses)
-        return f"{text} ({of}{self.number})"
+            return f"{'the configuration' if self.number == 1 else 'the target'}: {text}"
+        for what, statuses in _COUNTED.items():
+            if self.status in statuses:
+                return f"{what} {self.number}: {text}"
+        return f"{text} ({'id ' if self.status in _IDS_NAMED else ''}{self.number})"
 
 
 class Strategy(IntEnum):

@@ -51,18 +51,18 @@ class Calls(unittest.TestCase):
 
     def test_refusals(self):
         for call, status, number, text in [
-            (lambda: confscript.plan("Voters:[1]", TARGET), 3, 1, "not a ConfState line (the configuration)"),
-            (lambda: confscript.plan(NOW, "Voters:[1]"), 3, 2, "not a ConfState line (the target)"),
-            (lambda: confscript.plan("", TARGET), 29, 1, "no form of a configuration (the configuration)"),
-            (lambda: confscript.plan(NOW, "voters=(1"), 30, 2, "not a printed configuration (the target)"),
-            (lambda: confscript.plan("{}}", TARGET), 31, 1, "not the JSON of a configuration (the configuration)"),
-            (lambda: confscript.plan(NOW, "v1 x"), 32, 2, "not a list of changes (the target)"),
+            (lambda: confscript.plan("Voters:[1]", TARGET), 3, 1, "the configuration: not a ConfState line: expected Voters:[1 2] VotersOutgoing:[] Learners:[3] LearnersNext:[] AutoLeave:false"),
+            (lambda: confscript.plan(NOW, "Voters:[1]"), 3, 2, "the target: not a ConfState line: expected Voters:[1 2] VotersOutgoing:[] Learners:[3] LearnersNext:[] AutoLeave:false"),
+            (lambda: confscript.plan("", TARGET), 29, 1, "the configuration: no form of a configuration: expected voters=(1 2 3) learners=(4), a ConfState line, or JSON of a ConfState or of etcdctl member list"),
+            (lambda: confscript.plan(NOW, "voters=(1"), 30, 2, "the target: not a printed configuration: expected voters=(1 2)&&(1 2 3) learners=(4) learners_next=(3) autoleave, without what is empty, with spaces between ids"),
+            (lambda: confscript.plan("{}}", TARGET), 31, 1, "the configuration: not the JSON of a configuration: expected voters, voters_outgoing, learners, learners_next and auto_leave, or etcdctl member list -w json, with decimal numbers as ids"),
+            (lambda: confscript.plan(NOW, "v1 x"), 32, 2, "the target: not a list of changes: expected changes as r1 v4 l5, or a configuration as voters=(1 2 3), a ConfState line, or JSON"),
             (lambda: confscript.plan(NOW, "r7"), 8, 7, "not a member (id 7)"),
-            (lambda: confscript.plan(NOW, "r3 v3"), 19, 3, "removed and added again (id 3)"),
+            (lambda: confscript.plan(NOW, "r3 v3"), 19, 3, "removed and added again: a server that lost its log needs a new id (id 3)"),
             (lambda: confscript.plan(NOW, "v4", down=[3, 9]), 33, 9, "down and not a member (id 9)"),
             (lambda: confscript.plan(NOW, "v4", down=[0]), 15, 0, "the id 0"),
             (lambda: confscript.plan(NOW, "v4", output=3), 28, 0, "unknown output"),
-            (lambda: confscript.apply(NOW, "leave-joint"), 11, 1, "can't leave a non-joint config (step 1)"),
+            (lambda: confscript.apply(NOW, "leave-joint"), 11, 1, "step 1: can't leave a non-joint config"),
             (lambda: confscript.check(NOW.replace("1 2", "0 2")), 15, 0, "the id 0"),
             (lambda: confscript.plan(NOW, TARGET, 3), 24, 0, "unknown strategy"),
             (lambda: confscript.plan(NOW, NOW.replace("Outgoing:[]", "Outgoing:[4]"), confscript.Strategy.ONE_AT_A_TIME), 25, 0, "the target is joint"),
@@ -85,11 +85,11 @@ class Calls(unittest.TestCase):
     def test_texts_of_refusals(self):
         for status, number, text in [
             (6, 0, "no incoming voter"),
-            (6, 2, "no incoming voter (the target)"),
-            (7, 3, "not a step (line 3)"),
+            (6, 2, "the target: no incoming voter"),
+            (7, 3, "line 3: not a step: expected simple l4 l5, enter-joint autoleave=false r1 v4, or leave-joint"),
             (11, 0, "can't leave a non-joint config"),
             (17, 2**64 - 1, f"a next learner is an incoming voter (id {2**64 - 1})"),
-            (27, 2, "unknown kind of change (change 2)"),
+            (27, 2, "change 2: unknown kind of change"),
             (1000, 7, "unknown status (7)"),
         ]:
             self.assertEqual(str(confscript.Refused(status, number)), text)
@@ -214,7 +214,7 @@ class Calls(unittest.TestCase):
         refused = confscript.Refused(11, 1)
         for made in [copy.copy(refused), copy.deepcopy(refused), *(pickle.loads(pickle.dumps(refused, protocol)) for protocol in range(pickle.HIGHEST_PROTOCOL + 1))]:
             self.assertIs(type(made), confscript.Refused)
-            self.assertEqual((made.status, made.number, str(made)), (11, 1, "can't leave a non-joint config (step 1)"))
+            self.assertEqual((made.status, made.number, str(made)), (11, 1, "step 1: can't leave a non-joint config"))
         # A pool waits forever for a result that cannot be pickled, so the wait has a limit.
         with multiprocessing.Pool(1) as pool:
             with self.assertRaises(confscript.Refused) as raised:

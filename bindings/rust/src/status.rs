@@ -121,17 +121,27 @@ impl Error {
         self.number
     }
 
-    fn write_number(&self, out: &mut fmt::Formatter<'_>) -> fmt::Result {
+    // What the number denotes, before the text of the status.
+    fn write_place(&self, out: &mut fmt::Formatter<'_>) -> fmt::Result {
         use Status::*;
         match (self.status(), self.number) {
             (_, 0) => Ok(()),
-            (BadConfState | NotAConfiguration | NoVoter | UnknownForm | BadPrinted | BadJson | BadChangeList, 1) => out.write_str(" (the configuration)"),
-            (BadConfState | NotAConfiguration | NoVoter | UnknownForm | BadPrinted | BadJson | BadChangeList, _) => out.write_str(" (the target)"),
-            (RepeatedId | NextNotOutgoing | NextAndIncoming | LearnerAndVoter | NotAMember | AddedAgain | DownNotAMember, id) => write!(out, " (id {id})"),
-            (BadLine, line) => write!(out, " (line {line})"),
-            (AlreadyJoint | ZeroVoterJoint | NotJoint | SimpleInJoint | RemovedAllVoters | MoreThanOneVoter, step) => write!(out, " (step {step})"),
-            (BadChange, change) => write!(out, " (change {change})"),
-            (_, number) => write!(out, " ({number})"),
+            (BadConfState | NotAConfiguration | NoVoter | UnknownForm | BadPrinted | BadJson | BadChangeList, 1) => out.write_str("the configuration: "),
+            (BadConfState | NotAConfiguration | NoVoter | UnknownForm | BadPrinted | BadJson | BadChangeList, _) => out.write_str("the target: "),
+            (BadLine, line) => write!(out, "line {line}: "),
+            (AlreadyJoint | ZeroVoterJoint | NotJoint | SimpleInJoint | RemovedAllVoters | MoreThanOneVoter, step) => write!(out, "step {step}: "),
+            (BadChange, change) => write!(out, "change {change}: "),
+            _ => Ok(()),
+        }
+    }
+
+    // What it denotes, after the text.
+    fn write_id(&self, out: &mut fmt::Formatter<'_>) -> fmt::Result {
+        use Status::*;
+        match (self.status(), self.number) {
+            (RepeatedId | NextNotOutgoing | NextAndIncoming | LearnerAndVoter | NotAMember | AddedAgain | DownNotAMember, id @ 1..) => write!(out, " (id {id})"),
+            (Unknown, number @ 1..) => write!(out, " ({number})"),
+            _ => Ok(()),
         }
     }
 }
@@ -140,8 +150,9 @@ impl fmt::Display for Error {
     fn fmt(&self, out: &mut fmt::Formatter<'_>) -> fmt::Result {
         // SAFETY: the pointer is a slice's, and the count its length.
         let text = written(|room| unsafe { confscript_status_text(self.code, room.as_mut_ptr(), room.len()) });
+        self.write_place(out)?;
         out.write_str(&text.unwrap_or_default())?;
-        self.write_number(out)
+        self.write_id(out)
     }
 }
 

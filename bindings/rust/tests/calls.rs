@@ -67,21 +67,21 @@ fn writes_a_text_longer_than_the_first_room() {
 #[test]
 fn refuses() {
     for (now, target, expected) in [
-        ("Voters:[1]", TARGET, why(Status::BadConfState, 1, "not a ConfState line (the configuration)")),
-        (NOW, "Voters:[1]", why(Status::BadConfState, 2, "not a ConfState line (the target)")),
-        ("", TARGET, why(Status::UnknownForm, 1, "no form of a configuration (the configuration)")),
-        (NOW, "voters=(1", why(Status::BadPrinted, 2, "not a printed configuration (the target)")),
-        ("{}}", TARGET, why(Status::BadJson, 1, "not the JSON of a configuration (the configuration)")),
-        (NOW, "v1 x", why(Status::BadChangeList, 2, "not a list of changes (the target)")),
+        ("Voters:[1]", TARGET, why(Status::BadConfState, 1, "the configuration: not a ConfState line: expected Voters:[1 2] VotersOutgoing:[] Learners:[3] LearnersNext:[] AutoLeave:false")),
+        (NOW, "Voters:[1]", why(Status::BadConfState, 2, "the target: not a ConfState line: expected Voters:[1 2] VotersOutgoing:[] Learners:[3] LearnersNext:[] AutoLeave:false")),
+        ("", TARGET, why(Status::UnknownForm, 1, "the configuration: no form of a configuration: expected voters=(1 2 3) learners=(4), a ConfState line, or JSON of a ConfState or of etcdctl member list")),
+        (NOW, "voters=(1", why(Status::BadPrinted, 2, "the target: not a printed configuration: expected voters=(1 2)&&(1 2 3) learners=(4) learners_next=(3) autoleave, without what is empty, with spaces between ids")),
+        ("{}}", TARGET, why(Status::BadJson, 1, "the configuration: not the JSON of a configuration: expected voters, voters_outgoing, learners, learners_next and auto_leave, or etcdctl member list -w json, with decimal numbers as ids")),
+        (NOW, "v1 x", why(Status::BadChangeList, 2, "the target: not a list of changes: expected changes as r1 v4 l5, or a configuration as voters=(1 2 3), a ConfState line, or JSON")),
         (NOW, "r7", why(Status::NotAMember, 7, "not a member (id 7)")),
-        (NOW, "r3 v3", why(Status::AddedAgain, 3, "removed and added again (id 3)")),
-        (NOW, "voters=()", why(Status::NoVoter, 2, "no incoming voter (the target)")),
-        ("voters=(1) learners=(1)", TARGET, why(Status::NotAConfiguration, 1, "not a configuration (the configuration)")),
+        (NOW, "r3 v3", why(Status::AddedAgain, 3, "removed and added again: a server that lost its log needs a new id (id 3)")),
+        (NOW, "voters=()", why(Status::NoVoter, 2, "the target: no incoming voter")),
+        ("voters=(1) learners=(1)", TARGET, why(Status::NotAConfiguration, 1, "the configuration: not a configuration: an id is 0 or listed twice, a learner is a voter, a next learner is not an outgoing voter alone, or auto-leave has no outgoing voters")),
     ] {
         assert_eq!(refused(plan(now, target)), expected);
     }
-    assert_eq!(refused(apply(NOW, "leave-joint")), why(Status::NotJoint, 1, "can't leave a non-joint config (step 1)"));
-    assert_eq!(refused(apply(NOW, "simple v4\nx")), why(Status::BadLine, 2, "not a step (line 2)"));
+    assert_eq!(refused(apply(NOW, "leave-joint")), why(Status::NotJoint, 1, "step 1: can't leave a non-joint config"));
+    assert_eq!(refused(apply(NOW, "simple v4\nx")), why(Status::BadLine, 2, "line 2: not a step: expected simple l4 l5, enter-joint autoleave=false r1 v4, or leave-joint"));
     assert_eq!(refused(check(&NOW.replace("1 2", "0 2"))), why(Status::ZeroId, 0, "the id 0"));
     assert_eq!(check(NOW), Ok(()));
 }
@@ -297,7 +297,7 @@ fn next_actions() {
     let first = DriveOptions { strategy: Strategy::LearnersFirst, ..DriveOptions::default() };
     assert_eq!(next(first, &target, &known), Ok(Action::Propose(plan.stages[0].clone())));
     assert_eq!(refused(next(DriveOptions::default(), &target, &known)), why(Status::StrategyMayStall, 0, "by this strategy the cluster may stall"));
-    assert_eq!(refused(next(first, &voters(&[]), &known)), why(Status::NoVoter, 2, "no incoming voter (the target)"));
+    assert_eq!(refused(next(first, &voters(&[]), &known)), why(Status::NoVoter, 2, "the target: no incoming voter"));
 }
 
 // The numbers are more than those of the first buffer.
@@ -318,8 +318,8 @@ fn refuses_stages() {
         (Options::default(), voters(&[7, 1, 7]), voters(&[2]), why(Status::RepeatedId, 7, "an id is named twice (id 7)")),
         (Options::default(), voters(&[1]), invalid, why(Status::LearnerAndVoter, 2, "a learner is a voter (id 2)")),
         (Options { down: &[1, 9], ..Options::default() }, voters(&[1]), voters(&[2]), why(Status::DownNotAMember, 9, "down and not a member (id 9)")),
-        (Options::default(), voters(&[]), voters(&[2]), why(Status::NoVoter, 1, "no incoming voter (the configuration)")),
-        (Options::default(), voters(&[1]), voters(&[]), why(Status::NoVoter, 2, "no incoming voter (the target)")),
+        (Options::default(), voters(&[]), voters(&[2]), why(Status::NoVoter, 1, "the configuration: no incoming voter")),
+        (Options::default(), voters(&[1]), voters(&[]), why(Status::NoVoter, 2, "the target: no incoming voter")),
         (one_at_a_time, voters(&[1]), joint, why(Status::JointTarget, 0, "the target is joint")),
     ] {
         assert_eq!(refused(stages(options, &now, &target)), expected);

@@ -91,11 +91,14 @@ impl Status {
             Status::Done => "done",
             Status::TooSmall => "the buffer is too small",
             Status::NoMemory => "out of memory",
-            Status::BadConfState => "not a ConfState line",
+            Status::BadConfState =>
+                "not a ConfState line: expected Voters:[1 2] VotersOutgoing:[] Learners:[3] LearnersNext:[] AutoLeave:false",
             Status::RepeatedId => "an id is named twice",
-            Status::NotAConfiguration => "not a configuration",
+            Status::NotAConfiguration =>
+                "not a configuration: an id is 0 or listed twice, a learner is a voter, a next learner is not an outgoing voter alone, or auto-leave has no outgoing voters",
             Status::NoVoter => "no incoming voter",
-            Status::BadLine => "not a step",
+            Status::BadLine =>
+                "not a step: expected simple l4 l5, enter-joint autoleave=false r1 v4, or leave-joint",
             Status::NotAMember => "not a member",
             Status::AlreadyJoint => "config is already joint",
             Status::ZeroVoterJoint => "can't make a zero-voter config joint",
@@ -107,7 +110,8 @@ impl Status {
             Status::NextNotOutgoing => "a next learner is not an outgoing voter",
             Status::NextAndIncoming => "a next learner is an incoming voter",
             Status::LearnerAndVoter => "a learner is a voter",
-            Status::AddedAgain => "removed and added again",
+            Status::AddedAgain =>
+                "removed and added again: a server that lost its log needs a new id",
             Status::NotJointButAutoLeave => "auto-leave without outgoing voters",
             Status::DifferentLengths => "the counts do not match the length",
             Status::BadVote => "a vote is neither 0, 1 nor 2",
@@ -117,10 +121,14 @@ impl Status {
             Status::BadStep => "unknown step",
             Status::BadChange => "unknown kind of change",
             Status::BadOutput => "unknown output",
-            Status::UnknownForm => "no form of a configuration",
-            Status::BadPrinted => "not a printed configuration",
-            Status::BadJson => "not the JSON of a configuration",
-            Status::BadChangeList => "not a list of changes",
+            Status::UnknownForm =>
+                "no form of a configuration: expected voters=(1 2 3) learners=(4), a ConfState line, or JSON of a ConfState or of etcdctl member list",
+            Status::BadPrinted =>
+                "not a printed configuration: expected voters=(1 2)&&(1 2 3) learners=(4) learners_next=(3) autoleave, without what is empty, with spaces between ids",
+            Status::BadJson =>
+                "not the JSON of a configuration: expected voters, voters_outgoing, learners, learners_next and auto_leave, or etcdctl member list -w json, with decimal numbers as ids",
+            Status::BadChangeList =>
+                "not a list of changes: expected changes as r1 v4 l5, or a configuration as voters=(1 2 3), a ConfState line, or JSON",
             Status::DownNotAMember => "down and not a member",
             Status::StrategyMayStall => "by this strategy the cluster may stall",
         }
