@@ -1,6 +1,7 @@
 """The command line of confscript-etcd."""
 import argparse
 import os
+import signal
 import subprocess
 
 from . import output, status
@@ -139,6 +140,8 @@ def main(program):
     if options.command == "carry-out" and options.plan == "-" and not (options.yes or options.dry_run):
         top.error("the plan is read from standard input, so the answer can't be: give --yes, or the plan as a file")
     try:
+        # It was blocked until all is read that the command is made of.
+        signal.pthread_sigmask(signal.SIG_UNBLOCK, [signal.SIGINT])
         return run(options, program)
     except Stop as stop:
         output.complain(f"confscript-etcd: {stop}")

@@ -19,11 +19,11 @@ def holds(name, condition):
         print(f"FAILED: {name}", flush=True)
 
 
-def wait_for(what, condition):
+def wait_for(what, condition, pause=0.1):
     """Waits until a condition holds, and returns its value."""
     end = time.monotonic() + LIMIT
     while not (value := condition()):
         if time.monotonic() > end:
             raise Broken(f"waited in vain: {what}")
-        time.sleep(0.1)
+        time.sleep(pause)
     return value

@@ -1,10 +1,12 @@
 """The command line of confscript-etcd, without a cluster."""
 import os
 import re
+import signal
 import subprocess
 import tempfile
+import time
 
-from checks import holds
+from checks import holds, wait_for
 from clusters import ENVIRONMENT
 from runs import COMMAND, TOP, built_program
 
@@ -80,4 +82,30 @@ def etcdctl_hangs():
                                                       "is --endpoints right?\n"))
 
 
-TESTS = (command_line, etcdctl_hangs)
+def interrupted_at_once():
+    """An interrupt in the first moments, also while Python itself starts, ends the command with one line or with none."""
+    wrong, printed = [], 0
+    for at in range(60):
+        with subprocess.Popen([COMMAND, "status", "--etcdctl", "sh -c 'exec sleep 1000'"], stdin=subprocess.DEVNULL, stdout=subprocess.PIPE,
+                              stderr=subprocess.PIPE, text=True, env={**ENVIRONMENT, "CONFSCRIPT": built_program()}, start_new_session=True) as it:
+            wait_for("Python starts", lambda: runs_python(it.pid), 0)
+            time.sleep(at / 500)
+            os.killpg(it.pid, signal.SIGINT)
+            output, error = it.communicate()
+        printed += error != ""
+        if output or (it.returncode, error) not in ((1, "confscript-etcd: interrupted; nothing was changed\n"), (-signal.SIGINT, "")):
+            wrong.append((at, it.returncode, output, error))
+    holds(f"of 60 interrupts {len(wrong)} end otherwise, such as {wrong[:1]}", not wrong)
+    holds("some come before Python can take them, and are reported", printed)
+
+
+def runs_python(process):
+    """Whether a process has become Python."""
+    try:
+        with open(f"/proc/{process}/cmdline", "rb") as file:
+            return b"python3\0" in file.read()
+    except OSError:
+        return True  # it has ended
+
+
+TESTS = (command_line, etcdctl_hangs, interrupted_at_once)
