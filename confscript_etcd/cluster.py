@@ -5,7 +5,7 @@ from concurrent.futures import ThreadPoolExecutor
 
 from .etcdctl import without_user
 from .metrics import active_peers, context_of
-from .reasons import Leaderless, NotYet, Stop, listed, verb
+from .reasons import Leaderless, NotYet, Settling, Stop, listed, verb
 from .servers import Member, unreachable
 from .view import Status, View
 
@@ -65,6 +65,13 @@ class Cluster:
         others = f", and {listed(silent)} {verb(silent, 'does', 'do')} not answer" if silent else ""
         raise Leaderless(f"no list of members: {listed(leaders)} {verb(leaders, 'answers and has', 'answer and have')} no leader{others}. Name other "
                      "voters (--endpoints). If a majority of them is down, nothing can be written (ETCD.md, 'If quorum is lost')")
+
+    def list_at_newest(self, url):
+        """The members as a server lists them that has just answered. If it does not, the cluster may be electing a leader."""
+        try:
+            return self.list_at([url])
+        except NotYet as reason:
+            raise Settling(f"{url} answers, and gives no list of members: {reason}") from None
 
     def status_at(self, url, beside=()):
         """The id of the server that answers at a client URL, and its status. None if none does. A learner can't find out who
@@ -168,7 +175,7 @@ class Cluster:
             self.members = ()
             raise NotYet("no voter answers at the client URLs that are advertised (--client-url NAME=URL names others)")
         newest = max(answering, key=lambda status: (status.leader != 0, status.applied))
-        self.members = self.list_at([newest.url])
+        self.members = self.list_at_newest(newest.url)
         statuses.update(self.statuses([member for member in self.members if member not in voters], [newest.url]))
         statuses = {member.id: statuses[member.id] for member in self.members if member.id in statuses}
         view = View(self.members, statuses, self.hearers(self.members, statuses), False)

@@ -33,13 +33,13 @@ class NotYet(Stop):
         self.progress = progress
 
 
-class Leaderless(NotYet):
-    """None of the servers that answer has a leader."""
-
-
 class Settling(NotYet):
     """What passes within seconds by itself, or does not: a server that has just failed is heard from until its peers miss
     it."""
+
+
+class Leaderless(Settling):
+    """None of the servers that answer has a leader. They may be electing one."""
 
 
 def wait(limit, attempt, kind=NotYet):

@@ -6,6 +6,7 @@ import itertools
 import json
 import os
 import random
+import re
 import shutil
 import signal
 import socket
@@ -190,8 +191,36 @@ class Cluster:
         """The id of a server, as the first one that is up lists it."""
         return next(int(it["ID"]) for up in self.up() for it in self.members(up) if it["peerURLs"] == [server.peer])
 
+    def cluster_id(self):
+        return int(next(status["header"]["cluster_id"] for status in (server.status() for server in self.first) if status))
+
     def up(self):
         return [server for server in self.servers.values() if server.is_up()]
+
+    def wait_until_missed(self, *dead):
+        """Waits until all other servers know that these ended: they follow one of their own, and have no connection with
+        them."""
+        ids = {self.id(server) for server in dead}
+
+        def misses(server):
+            leader, peers = int((server.status() or {}).get("leader", 0)), self.active_peers(server)
+            return leader not in (0, *ids) and peers is not None and not ids & peers
+
+        wait_for(f"{', '.join(it.name for it in dead)} is missed", lambda: all(misses(it) for it in self.up()))
+
+    def wait_until_heard(self, server):
+        """Waits until all other servers have connections with a server."""
+        id = self.id(server)
+        wait_for(f"{server.name} is heard", lambda: all(id in (self.active_peers(it) or ()) for it in self.up() if it is not server))
+
+    def active_peers(self, server):
+        """The ids of the members with which a server has connections. None if it does not say."""
+        try:
+            with self.opener().open(f"{server.client}/metrics", timeout=10) as answer:
+                text = answer.read().decode()
+        except UNANSWERED:
+            return None
+        return {int(id, 16) for id in re.findall(r'(?m)^etcd_network_active_peers{.*Remote="([0-9a-f]+)"} [1-9]', text)}
 
     def configuration(self, server):
         """The members as a server lists them, such as `n1 n2 +n4`: voters, and learners with a plus."""

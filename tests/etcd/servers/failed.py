@@ -18,7 +18,7 @@ def failed_server():
         id = f"{cluster.id(dead):x}"
         dead.kill()
         new = f"n4={cluster['n4'].peer}"
-        wait_for("another server leads", cluster.leader)
+        cluster.wait_until_missed(dead)
 
         status, output, _ = run(cluster, "status")
         holds(f"status shows the server that failed:\n{output}", status == 4 and suggested(cluster, "replace", dead.name, "--with", "NAME=URL") in output
@@ -43,6 +43,9 @@ def failed_server():
         refuses(cluster, "no answer", "nothing was changed", "replace", dead.name, "--with", new)
         refuses(cluster, "the answer no", "nothing was changed", "replace", dead.name, "--with", new, answer="n\n")
         output = succeeds(cluster, "replace", id, "--with", new, "--dry-run")
+        ids = ", ".join(f"{name} {cluster.id(cluster[name]):x}" for name in ("n1", "n2", "n3"))
+        identity = f"This is the cluster {cluster.cluster_id():x} at {','.join(it.client for it in cluster.first)}: {ids}."
+        holds(f"it is said which cluster is changed:\n{output}", identity in " ".join(output.split()))
         calls = [line.split(" ", 2)[2] for line in output.splitlines() if line.startswith("etcdctl ")]
         holds(f"a dry run:\n{output}", calls == [f"member remove {id}", f"member add n4 --peer-urls={cluster['n4'].peer} --learner", "member promote ID_OF_n4"])
         holds(f"it is said that the server must stay stopped:\n{output}", f"\nKeep {dead.name} stopped. " in output)
@@ -65,6 +68,7 @@ def failed_server_comes_back():
         dead = cluster["n3"]
         id = cluster.id(dead)
         dead.kill()
+        cluster.wait_until_missed(dead)
         output = succeeds(cluster, "replace", "n3", "--with", "n4=http://127.0.0.1:1", "--dry-run")
         holds(f"README shows what is printed:\n{output}", output.startswith(shown_by_readme()))
         words = ["replace", "n3", "--with", f"n3={dead.peer}", "--yes"]

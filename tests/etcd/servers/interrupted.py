@@ -44,6 +44,7 @@ def killed_after_each_call(cluster, *words):
 def killed_while_a_failed_server_is_replaced():
     with Cluster(3, ["n4"]).running() as cluster:
         cluster["n3"].kill()
+        cluster.wait_until_missed(cluster["n3"])
         words = ["replace", "n3", "--with", f"n4={cluster['n4'].peer}", "--yes", "--start", start_command(cluster)]
         killed_after_each_call(cluster, *words)
         holds("nothing is left", "there is nothing to do" in succeeds(cluster, *words))
@@ -56,6 +57,7 @@ def killed_while_a_failed_server_comes_back():
         id = cluster.id(cluster["n3"])
         cluster["n3"].kill()
         cluster["n3"].delete_data()
+        cluster.wait_until_missed(cluster["n3"])
         words = ["replace", "n3", "--with", f"n3={cluster['n3'].peer}", "--yes", "--start", start_command(cluster)]
         killed_after_each_call(cluster, *words)
         refuses(cluster, "once more", "n3 answers at the URL of its successor, so nothing is changed. If it was replaced before, that is done; if not, stop it "

@@ -48,7 +48,7 @@ def examples_for_operators():
     with Cluster(3, ["n4"]).running() as cluster:
         words = words_of(command, cluster)
         cluster["n3"].kill()
-        wait_for("its peers miss it", lambda: not any(it["heard_by"] for it in json.loads(run(cluster, *words_of(look, cluster))[1]).get("members", [{"heard_by": 1}])))
+        cluster.wait_until_missed(cluster["n3"])
         status, output, _ = run(cluster, *words_of(look, cluster))
         holds(f"a member that does not answer is no failure of the unit: {status}", status == int(fine) and json.loads(output)["may_fail"] == 0)
         seen = []
@@ -60,6 +60,7 @@ def examples_for_operators():
         cluster.check_end("n1 n2 n4")
         for server in cluster.up()[:2]:
             server.kill()
+        wait_for("no server leads", lambda: not any((server.status() or {}).get("leader") for server in cluster.servers.values()))
         status, _, _ = run(cluster, *words_of(look, cluster), endpoints=cluster.up())
         holds(f"that nothing can be written is one: {status}", status == 5 != int(fine))
 

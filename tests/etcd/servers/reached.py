@@ -28,6 +28,8 @@ def reached_elsewhere():
     with ProxiedCluster(3, ["n4"]).running() as cluster:
         first, others = cluster["n1"], [cluster["n2"], cluster["n3"]]
         new = ["--with", f"n4={cluster['n4'].peer}", "--yes", "--limit", "1"]
+        for server in others:
+            cluster.wait_until_heard(server)
         status, output, _ = run(cluster, "status")
         holds(f"all are known by the endpoints:\n{output}", status == 0 and "\n3 of 3 voters answer (majority: 2). 1 more may fail.\n" in output)
 

@@ -57,6 +57,7 @@ def what_etcd_refuses():
         accepted(cluster, "remove", f"{cluster.id(cluster['n4']):x}")
         dead = next(name for name in ids if cluster[name] is not cluster.leader())
         cluster[dead].kill()
+        cluster.wait_until_missed(cluster[dead])
         up = next(name for name in ids if name != dead and cluster[name] is not wait_for("a server leads", cluster.leader))
         holds("a member more while one of three is down", "unhealthy cluster" in answer(cluster, "add", "n4", new))
         holds("the removal of one that is up, which leaves one of two", "unhealthy cluster" in answer(cluster, "remove", ids[up]))
@@ -70,7 +71,9 @@ def one_of_five_is_down():
         version = cluster["n1"].status()["version"]
         accepted(cluster, "add", "n6", "--learner", f"--peer-urls={cluster['n6'].peer}")
         accepted(cluster, "remove", f"{cluster.id(cluster['n6']):x}")
-        next(server for server in cluster.first if server is not cluster.leader()).kill()
+        dead = next(server for server in cluster.first if server is not cluster.leader())
+        dead.kill()
+        cluster.wait_until_missed(dead)
         said = answer(cluster, "add", "n6", f"--peer-urls={cluster['n6'].peer}")
         adds = {"3.4.23": False, "3.5.16": False, "3.5.30": True}.get(version)
         holds(f"{version} answers {said!r}", adds in (None, said == "") and (said == "" or "unhealthy cluster" in said))
