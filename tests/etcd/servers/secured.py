@@ -60,6 +60,31 @@ def certificates():
         cluster.check_end("n1 n2 n4")
 
 
+class HiddenCluster(SecureCluster):
+    """A cluster whose third server advertises a client URL at which nothing listens."""
+
+    def start(self):
+        self["n3"].advertised = "https://127.0.0.1:1"
+        super().start()
+
+
+def leader_is_not_reached():
+    """Followers name a leader that does not answer here, and the peers of none can be read: it is heard from, and is not
+    removed as failed. Nothing but what the followers say shows that."""
+    with HiddenCluster(3, ["n4"]).running() as cluster:
+        one, other, hidden = cluster.first
+        leader = wait_for("a server leads", cluster.leader)
+        if leader is not hidden:
+            wait_for("n3 is asked to lead", lambda: cluster.etcdctl_at(leader, "move-leader", f"{cluster.id(hidden):x}"))
+        wait_for("all follow n3", lambda: {int((it.status() or {}).get("leader", 0)) for it in cluster.first} == {cluster.id(hidden)})
+        with open(f"{cluster.folder}/hiding", "w", encoding="utf-8") as script:
+            script.write(f'exec {shlex.join(cluster.etcdctl)} "$@"\n')
+        refuses(cluster, "a leader that followers name", "n3 does not answer at https://127.0.0.1:1, but n1 and n2 hear from it, so it has not failed. "
+                "If it is reached elsewhere: --client-url n3=URL", "replace", "n3", "--with", f"n4={cluster['n4'].peer}", "--yes", "--limit", "1",
+                "--peer-proxy", endpoints=[one, other], etcdctl=["sh", script.name])
+        cluster.check_end("n1 n2 n3")
+
+
 class UserCluster(Cluster):
     """A cluster that asks who calls. Later releases of 3.5 also ask who wants to know the members or the status."""
 
@@ -116,4 +141,4 @@ def users():
         cluster.check_end("n1 n2 n4")
 
 
-TESTS = (certificates, users)
+TESTS = (certificates, leader_is_not_reached, users)
