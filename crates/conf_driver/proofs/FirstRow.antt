@@ -32,7 +32,7 @@ by-transfer : (id : Option ℕ) → AnswersBy (nat_eq 2) (option_map Transfer id
 by-transfer None = tt
 by-transfer (Some id) = refl
 
-kind-wait_for : (s : Situation) (ids : Ids) → kind (wait_for s ids) ≡ 4
+pub kind-wait_for : (s : Situation) (ids : Ids) → kind (wait_for s ids) ≡ 4
 kind-wait_for s ids = grind arith
 
 by-wait_for : (s : Situation) (ids : Ids) → AnswersBy (nat_eq 4) (Some (wait_for s ids))

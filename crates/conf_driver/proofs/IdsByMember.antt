@@ -1,9 +1,9 @@
 -- The sets of the table by their members.
-use Rattle.std.proofs.Common.{◌≡◌, ℕ, true, false, not, ◌&&◌, sym, ◌∙◌, arith}
-use Rattle.std.proofs.lemmas.Bool.{and_parts, not-true}
-use Rattle.quorum_sets.specs.Ids.{Ids, ascending, has, is_empty}
-use Rattle.quorum_sets.proofs.Offered.{has-ascending, has-ids_where, has-same_ids}
-use Rattle.conf_change.proofs.Offered.{has-none_in_empty}
+use Rattle.std.proofs.Common.{◌≡◌, ℕ, true, false, not, ◌&&◌, sym, ap, ◌∙◌, arith, inl, inr}
+use Rattle.std.proofs.lemmas.Bool.{and_parts, cases_Bool, not-true}
+use Rattle.quorum_sets.specs.Ids.{Ids, ascending, has, is_empty, no_ids}
+use Rattle.quorum_sets.proofs.Offered.{has-ascending, has-ids_where, has-no_ids, has-same_ids}
+use Rattle.conf_change.proofs.Offered.{has-none_in_empty, is_empty-no_ids}
 use Rattle.conf_driver.specs.IdSets.{◌∩◌, ◌∖◌}
 
 pub has-common : (a b : Ids) (q : ℕ) → has (a ∩ b) q ≡ (has a q && has b q)
@@ -32,3 +32,23 @@ has-without-is a b q here other = grind (arith, here, other, has-without a b q)
 
 pub has-common-is : (a b : Ids) (q : ℕ) → has a q ≡ true → has b q ≡ true → has (a ∩ b) q ≡ true
 has-common-is a b q here other = grind (arith, here, other, has-common a b q)
+
+-- an id of a set that has nobody besides those that are down or up
+pub up-unless_down : (ids down up : Ids) (id : ℕ) → is_empty (ids ∖ down ∖ up) ≡ true → has ids id ≡ true → has down id ≡ false → has up id ≡ true
+up-unless_down ids down up id none here not_down = in-second (ids ∖ down) up id none (has-without-is ids down id here not_down)
+
+-- ---- sets without members
+pub is_empty-nobody : (ids : Ids) → ((q : ℕ) → has ids q ≡ false) → is_empty ids ≡ true
+is_empty-nobody ids nobody = ap is_empty (has-same_ids ids no_ids (λ q. nobody q ∙ sym (has-no_ids q))) ∙ is_empty-no_ids
+
+pub nobody-without : (a b : Ids) → ((q : ℕ) → has a q ≡ true → has b q ≡ true) → is_empty (a ∖ b) ≡ true
+nobody-without a b within = is_empty-nobody (a ∖ b) (λ q. elim (cases_Bool (has a q)) [
+  | inl here ↦ grind (arith, within q here, has-without a b q)
+  | inr other ↦ grind (arith, other, has-without a b q)
+])
+
+pub nobody-common : (a b : Ids) → ((q : ℕ) → has a q ≡ true → has b q ≡ false) → is_empty (a ∩ b) ≡ true
+nobody-common a b apart = is_empty-nobody (a ∩ b) (λ q. elim (cases_Bool (has a q)) [
+  | inl here ↦ grind (arith, apart q here, has-common a b q)
+  | inr other ↦ grind (arith, other, has-common a b q)
+])

@@ -1,12 +1,10 @@
 -- What is so of a situation in which a step is proposed.
-use Rattle.std.proofs.Common.{◌≡◌, ℕ, Bool, true, false, not, ◌&&◌, List, [], ◌∷◌, refl, sym, ap, ◌∙◌, arith}
+use Rattle.std.proofs.Common.{◌≡◌, ℕ, Bool, false, not, ◌&&◌, List, [], ◌∷◌, sym, ap, ◌∙◌, arith}
 use Rattle.std.specs.Prelude.{None, nat_eq}
-use Rattle.quorum_sets.specs.Ids.{Ids, is_empty}
 use Rattle.conf_change.specs.declared.step.Step.{Step}
 use Rattle.conf_driver.specs.Next.{answer_in, propose_first}
 use Rattle.conf_driver.specs.Rows as row
 use Rattle.conf_driver.specs.Situation.{has_step}
-use Rattle.conf_driver.specs.declared.action.Action.{Action}
 use Rattle.conf_driver.specs.declared.action.Action.TheVariants.{Propose}
 use Rattle.conf_driver.specs.declared.situation.Situation.{Situation}
 use Rattle.conf_driver.proofs.FirstRow.{by_rows}
@@ -58,14 +56,7 @@ pub first_step : (steps : List Step) (step : Step) → propose_first steps ≡ P
 first_step [] step is = absurd (cc)
 first_step (first ∷ rest) step is = let same : first ≡ step = cc in (rest, ap (λ x. x ∷ rest) same)
 
--- ---- what it means that a row does not answer
-pub when-none : (holds : Bool) (a : Action) → row.when holds a ≡ None → holds ≡ false
-when-none true a is = absurd (cc)
-when-none false a is = refl
-
-pub if_any-none : (ids : Ids) (answer : Ids → Action) → row.if_any ids answer ≡ None → is_empty ids ≡ true
-if_any-none ids answer is = grind arith
-
+-- ---- tests
 pub zero-from_test : (n : ℕ) → not (nat_eq n 0) ≡ false → n ≡ 0
 zero-from_test n none = grind (arith, none)
 

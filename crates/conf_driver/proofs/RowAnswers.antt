@@ -32,6 +32,10 @@ pub none-if : (test : Bool) (given : Option Action) → (if test then given else
 none-if true given is holds = is
 none-if false given is holds = absurd (cc)
 
+pub when-none : (holds : Bool) (answer : Action) → when holds answer ≡ None → holds ≡ false
+when-none true answer is = absurd (cc)
+when-none false answer is = refl
+
 pub if_any-none : (ids : Ids) (answer : Ids → Action) → if_any ids answer ≡ None → is_empty ids ≡ true
 if_any-none ids answer is = by_test (is_empty ids) is
   where

@@ -1,23 +1,18 @@
 -- Which row starts and stops servers, and which ids it names.
-use Rattle.std.proofs.Common.{◌≡◌, ℕ, true, false, List, [], ◌∷◌, sym, ap, ◌∙◌, arith}
+use Rattle.std.proofs.Common.{◌≡◌, true, false, List, [], ◌∷◌, arith}
 use Rattle.std.specs.Prelude.{None}
-use Rattle.quorum_sets.specs.Ids.{Ids, has, is_empty, no_ids}
-use Rattle.quorum_sets.proofs.Offered.{has-no_ids, has-same_ids, has-union}
+use Rattle.quorum_sets.specs.Ids.{Ids, is_empty}
+use Rattle.quorum_sets.proofs.Offered.{has-union}
 use Rattle.conf_change.specs.Configuration.{member_ids}
 use Rattle.conf_change.specs.declared.step.Step.{Step}
-use Rattle.conf_change.proofs.Offered.{is_empty-no_ids}
 use Rattle.conf_driver.specs.IdSets.{◌∪◌, ◌∖◌}
 use Rattle.conf_driver.specs.Next.{answer_in, propose_first}
 use Rattle.conf_driver.specs.Rows as row
 use Rattle.conf_driver.specs.declared.action.Action.TheVariants.{Start, Stop}
 use Rattle.conf_driver.specs.declared.situation.Situation.{Situation}
 use Rattle.conf_driver.proofs.FirstRow.{by_rows}
-use Rattle.conf_driver.proofs.IdsByMember.{has-without}
+use Rattle.conf_driver.proofs.IdsByMember.{has-without, is_empty-nobody}
 use Rattle.conf_driver.proofs.RowAnswers.{if_any-some, some-if}
-
--- a set without members
-pub is_empty-nobody : (ids : Ids) → ((q : ℕ) → has ids q ≡ false) → is_empty ids ≡ true
-is_empty-nobody ids nobody = ap is_empty (has-same_ids ids no_ids (λ q. nobody q ∙ sym (has-no_ids q))) ∙ is_empty-no_ids
 
 -- ---- starting
 -- the members, now or after the step, that are neither voters nor down

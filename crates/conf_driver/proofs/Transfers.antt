@@ -15,8 +15,7 @@ use Rattle.conf_driver.specs.declared.action.Action.TheVariants.{Transfer}
 use Rattle.conf_driver.specs.declared.situation.Situation.{Situation}
 use Rattle.conf_driver.proofs.FirstRow.{by_rows}
 use Rattle.conf_driver.proofs.IdsByMember.{has-common}
-use Rattle.conf_driver.proofs.Proposed.{when-none}
-use Rattle.conf_driver.proofs.RowAnswers.{some-if, some-unless}
+use Rattle.conf_driver.proofs.RowAnswers.{some-if, some-unless, when-none}
 
 -- ---- the least of some ids
 first_item : (xs : List ℕ) (id : ℕ) → slice_get xs 0 ≡ Some id → list_any (λ x. id == x) xs ≡ true

@@ -6,3 +6,4 @@ pub mod Next
 pub mod Proposals
 pub mod Leadership
 pub mod Servers
+pub mod AtTarget

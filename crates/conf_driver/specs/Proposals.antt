@@ -1,8 +1,10 @@
 -- What is true of a step that `next` proposes.
-use Rattle.std.specs.Prelude.{◌≡◌, ◌≢◌, true, false, List, ◌∷◌, Ok}
+use Rattle.std.specs.Prelude.{◌≡◌, ◌≢◌, ℕ, true, false, ◌||◌, List, ◌∷◌, Ok}
 use Rattle.std.specs.Result.{result_ok}
-use Rattle.quorum_sets.specs.Ids.{Ids}
-use Rattle.conf_change.specs.Configuration.{Configuration}
+use Rattle.quorum_sets.specs.Ids.{Ids, has}
+use Rattle.quorum_sets.specs.Tolerance.{Tolerates}
+use Rattle.quorum_sets.specs.Voters.{is_quorum}
+use Rattle.conf_change.specs.Configuration.{Configuration, voters_of}
 use Rattle.conf_change.specs.Outcome.{outcome}
 use Rattle.conf_change.specs.declared.step.Step.{Step}
 use Rattle.conf_plan.specs.OneChangeEach.{one_change_each, LeadsChangeByChange}
@@ -11,6 +13,8 @@ use Rattle.conf_plan.specs.Run.{Gives, IsRun, IsValidWithVoter}
 use Rattle.conf_plan.specs.declared.strategy.Strategy.{Strategy}
 use Rattle.conf_plan.specs.declared.strategy.Strategy.TheVariants.{Shortest}
 use Rattle.raft_json.specs.Proposal.{after_auto_leave, carried_out, proposal_of, proposed_step}
+use Rattle.conf_driver.specs.IdSets.{◌∖◌}
+use Rattle.conf_driver.specs.Situation.{voter_ids}
 use Rattle.conf_driver.specs.View.{ViewState}
 
 -- `next` answers: the configurations are valid and have voters, and the strategy is not the shortest one and has a path
@@ -34,3 +38,14 @@ pub record IsFirstOfPath (strategy : Strategy) (down : Ids) (now target : Config
   pub leads : IsRun after rest target
   pub taken : outcome now (proposed_step now step) ≡ Ok after
   pub carried_out : carried_out now (proposal_of now step) ≡ result_ok (after_auto_leave (Ok after))
+
+-- Who is up and has caught up is a quorum before the step and after it. As many of them may fail after it as both before
+-- it and at the target, where those that are down do not count. A new voter was a learner, and has caught up unless it is
+-- down or not heard from.
+pub record KeepsQuorum (down heard up : Ids) (now target after : Configuration) : Type 0 where
+  pub before : is_quorum (voters_of now) up ≡ true
+  pub then : is_quorum (voters_of after) up ≡ true
+  pub tolerance : (k : ℕ) → Tolerates (voters_of now) (voter_ids now ∖ up) k → Tolerates (voters_of target) down k
+      → Tolerates (voters_of after) (voter_ids after ∖ up) k
+  pub learners : (id : ℕ) → has after.incoming id ≡ true → (has now.incoming id || has now.outgoing id) ≡ false → has now.learners id ≡ true
+  pub caught_up : (id : ℕ) → has after.incoming id ≡ true → (has now.incoming id || has now.outgoing id) ≡ false → has heard id ≡ true → has down id ≡ false → has up id ≡ true

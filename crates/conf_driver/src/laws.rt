@@ -1,18 +1,21 @@
 //! Laws of what [`next`](crate::next) answers, whatever it knows. Each is the contract of a function that does nothing.
-ghost use Rattle.std.specs.Prelude.{◌≡◌, ◌≢◌, ℕ, true};
+ghost use Rattle.std.specs.Prelude.{◌≡◌, ◌≢◌, ◌↔◌, ℕ, true};
 ghost use Rattle.quorum_sets.specs.Ids.{Ids, has};
 ghost use Rattle.conf_change.specs.Configuration.{Configuration};
 ghost use Rattle.conf_change.specs.declared.step.Step.{Step};
+ghost use Rattle.conf_plan.specs.Run.{Gives};
 ghost use Rattle.conf_plan.specs.declared.strategy.Strategy.{Strategy};
-ghost use Rattle.conf_driver.specs.declared.action.Action.TheVariants.{Start, Stop, Transfer, Propose};
+ghost use Rattle.conf_driver.specs.declared.action.Action.TheVariants.{Start, Stop, Transfer, Propose, Done};
+ghost use Rattle.conf_driver.specs.AtTarget.{IsDone};
 ghost use Rattle.conf_driver.specs.IdSets.{◌∪◌, ◌∖◌};
 ghost use Rattle.conf_driver.specs.Leadership.{LeaderStays, MayTakeOver, after_first_step};
 ghost use Rattle.conf_driver.specs.Next.{next_of};
-ghost use Rattle.conf_driver.specs.Proposals.{CanAnswer, IsFirstOfPath};
+ghost use Rattle.conf_driver.specs.Proposals.{CanAnswer, IsFirstOfPath, KeepsQuorum};
 ghost use Rattle.conf_driver.specs.Servers.{MayStart, MayStop};
-ghost use Rattle.conf_driver.specs.View.{ViewState};
+ghost use Rattle.conf_driver.specs.View.{ViewState, heard_from, up_and_caught_up};
 
-use conf_plan::laws::{one_change_each_leads, paths_keep_promises};
+use conf_plan::laws::{fewer_uncounted_tolerate_more, one_change_each_leads, paths_keep_promises};
+use quorum_sets::laws::most_down_by_counting;
 use raft_json::laws::{etcd_carries_out_the_step, proposed_step_leads_alike};
 
 /// A step is proposed only while no change is pending. It is the first of a path that keeps what its strategy promises,
@@ -66,4 +69,27 @@ pub fn nobody_is_stopped_early()
         → next_of strategy target down view ≡ Start ids → has ids id ≡ true → MayStart target down view id }
 {
     one_change_each_leads();
+}
+
+/// The answer is that all is done exactly if the target is reached, with all that has to have come with it.
+pub fn done_is_done()
+    ensures { (strategy : Strategy) (target : Configuration) (down : Ids) (view : ViewState)
+        → CanAnswer strategy target view → (next_of strategy target down view ≡ Done) ↔ IsDone target down view }
+{
+    most_down_by_counting();
+    one_change_each_leads();
+}
+
+/// While a step is made, who is up and has caught up is a quorum before and after it, and no fewer of them may fail than
+/// before it or at the target. New voters were learners that have caught up, unless they are down or not heard from.
+pub fn steps_keep_quorums()
+    ensures { (strategy : Strategy) (target : Configuration) (down : Ids) (view : ViewState) (step : Step)
+        (after : Configuration) → CanAnswer strategy target view → next_of strategy target down view ≡ Propose step
+        → Gives view.conf_state step after
+        → KeepsQuorum down (heard_from view) (up_and_caught_up down view) view.conf_state target after }
+{
+    fewer_uncounted_tolerate_more();
+    most_down_by_counting();
+    one_change_each_leads();
+    paths_keep_promises();
 }

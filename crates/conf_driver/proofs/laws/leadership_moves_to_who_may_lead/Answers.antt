@@ -8,10 +8,9 @@ use Rattle.conf_plan.specs.OneChangeEach.{one_change_each}
 use Rattle.conf_plan.specs.PathBy.{path_by}
 use Rattle.conf_driver.specs.IdSets.{◌∩◌, ◌∖◌}
 use Rattle.conf_driver.specs.Next.{situation}
-use Rattle.conf_driver.specs.Rows.{if_any, wait_for}
 use Rattle.conf_driver.proofs.IdsByMember.{has-common, has-without}
 use Rattle.conf_driver.proofs.Proposed.{IsProposed-from_answer, zero-from_test}
-use Rattle.conf_driver.proofs.RowAnswers.{if_any-none, none-unless}
+use Rattle.conf_driver.proofs.RowsPassed.{successor-passed}
 use Rattle.conf_driver.proofs.Transfers.{Transfers-from_answer}
 use Rattle.conf_driver.proofs.laws.leadership_moves_to_who_may_lead.Goals as goal
 
@@ -52,6 +51,5 @@ returns-clause-proposal c strategy target down view step is =
     elim (cases_Bool (has s.leaders_after view.lead)) [
       | inl leads ↦ inl leads
       | inr leads_not ↦ inr (λ id voter not_down.
-          let none = none-unless (has s.leaders_after view.lead) (if_any (s.voters ∩ s.leaders_after ∖ down) (wait_for s)) proposed.successor_lags leads_not in
-          may_lead_not s.voters s.leaders_after down id (if_any-none _ (wait_for s) none) (has-union now.incoming now.outgoing id ∙ voter) not_down)
+          may_lead_not s.voters s.leaders_after down id (successor-passed s proposed.successor_lags leads_not) (has-union now.incoming now.outgoing id ∙ voter) not_down)
     ]

@@ -11,10 +11,8 @@ use Rattle.conf_plan.specs.PathBy.{path_by}
 use Rattle.conf_driver.specs.IdSets.{◌∪◌, ◌∖◌}
 use Rattle.conf_driver.specs.Next.{situation}
 use Rattle.conf_driver.specs.Situation.{voter_ids}
-use Rattle.conf_driver.specs.declared.action.Action.TheVariants.{Stuck}
-use Rattle.conf_driver.specs.declared.action.StuckReason.TheVariants.{Reused}
 use Rattle.conf_driver.proofs.IdsByMember.{has-without-is, in-without, not-in_second}
-use Rattle.conf_driver.proofs.RowAnswers.{if_any-none}
+use Rattle.conf_driver.proofs.RowsPassed.{reused-passed}
 use Rattle.conf_driver.proofs.ServersAnswered.{IsStarted-from_answer, IsStopped-from_answer, to_run}
 use Rattle.conf_driver.proofs.WhoIsUp.{having-all}
 use Rattle.conf_driver.proofs.laws.nobody_is_stopped_early.Goals as goal
@@ -61,6 +59,6 @@ returns-clause-start c strategy target down view ids id is here =
       votes_not = sym (has-union now.incoming now.outgoing id) ∙ of_voters.1;
       not_down = of_down.1;
       not_retired = λ of_target not_now.
-          not-in_second (member_ids target ∖ member_ids now) view.retired id (if_any-none _ (Stuck Reused) started.reused)
+          not-in_second (member_ids target ∖ member_ids now) view.retired id (reused-passed s started.reused)
           (has-without-is (member_ids target) (member_ids now) id (has-all_members target id ∙ of_target) (has-all_members now id ∙ not_now));
     }

@@ -10,7 +10,8 @@ use Rattle.conf_plan.specs.PathBy.{path_by}
 use Rattle.conf_plan.specs.Run.{Gives, IsRun}
 use Rattle.raft_json.specs.Proposal.{proposed_step}
 use Rattle.conf_driver.specs.Next.{situation}
-use Rattle.conf_driver.proofs.Proposed.{IsProposed-from_answer, first_step, second_fails, when-none, zero-from_test}
+use Rattle.conf_driver.proofs.Proposed.{IsProposed-from_answer, first_step, second_fails, zero-from_test}
+use Rattle.conf_driver.proofs.RowsPassed.{leaving-passed, pending-passed}
 use Rattle.conf_driver.proofs.laws.proposals_are_accepted.Goals as goal
 
 -- a step that is proposed as it is, or enters a joint configuration
@@ -42,7 +43,7 @@ pub returns-clause-not_pending : goal.returns-clause-not_pending
 returns-clause-not_pending c strategy target down view step is =
     let s = situation strategy target down view in
     let proposed = IsProposed-from_answer s (one_change_each (path_by strategy down view.conf_state target)) step is in
-    zero-from_test view.pending_conf_index (when-none _ _ proposed.is_pending)
+    zero-from_test view.pending_conf_index (pending-passed s proposed.is_pending)
 
 pub returns-clause-first : goal.returns-clause-first
 returns-clause-first c strategy target down view step can is =
@@ -58,7 +59,7 @@ returns-clause-first c strategy target down view step can is =
       path = first.1;
       promises = c.paths_keep_promises.ensures.promises strategy down now target can.valid_now can.valid_target can.path;
       each = leads;
-      not_left = second_fails steps first.0 step now.auto_leave first.1 (when-none _ _ proposed.is_leaving);
+      not_left = second_fails steps first.0 step now.auto_leave first.1 (leaving-passed (situation strategy target down view) proposed.is_leaving);
       gives = run.1;
       leads = run.2;
       taken = outcome-proposed c.proposed_step_leads_alike.ensures.enter now run.0 step (first-is_one (path_by strategy down now target) step first.0 first.1) run.1;

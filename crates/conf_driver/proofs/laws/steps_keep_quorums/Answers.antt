@@ -1,0 +1,75 @@
+use Rattle.std.proofs.Common.{◌≡◌, ℕ, true, false, ◌||◌, refl, sym, subst, ◌∙◌, is_some}
+use Rattle.std.specs.Prelude.{Option, Some, None}
+use Rattle.std.specs.Option.{is_none}
+use Rattle.std.proofs.lemmas.Bool.{or_left}
+use Rattle.quorum_sets.specs.Ids.{has, is_empty, no_ids, union}
+use Rattle.quorum_sets.specs.Tolerance.{Tolerates}
+use Rattle.quorum_sets.specs.Voters.{is_quorum}
+use Rattle.quorum_sets.proofs.Offered.{has-union}
+use Rattle.conf_change.specs.Configuration.{is_joint, member_ids, voters_of}
+use Rattle.conf_change.proofs.Offered.{has-all_members}
+use Rattle.conf_plan.specs.OneChangeEach.{one_change_each}
+use Rattle.conf_plan.specs.OnTheWay.{IsAsTolerant, MakesVotersOfReady}
+use Rattle.conf_plan.specs.PathBy.{path_by}
+use Rattle.conf_driver.specs.IdSets.{◌∩◌, ◌∖◌}
+use Rattle.conf_driver.specs.Next.{situation}
+use Rattle.conf_driver.specs.Situation.{is_less, tolerance, voter_ids}
+use Rattle.conf_driver.specs.View.{heard_from, up_and_caught_up}
+use Rattle.conf_driver.proofs.Counting.{Tolerates-after_step, Tolerates-from_commits, commits-from_Tolerates, is_quorum-up, votes}
+use Rattle.conf_driver.proofs.FirstStep.{after_first-is, first-holds, path-tolerates, target-counts, voters-learn_first, voters-were_members}
+use Rattle.conf_driver.proofs.IdsByMember.{has-common-is, up-unless_down}
+use Rattle.conf_driver.proofs.Proposed.{IsProposed-from_answer, first_step}
+use Rattle.conf_driver.proofs.RowsPassed.{behind-passed, quorum_up-passed, silent-passed, stalls-passed}
+use Rattle.conf_driver.proofs.WhoIsUp.{up-not_down}
+use Rattle.conf_driver.proofs.laws.steps_keep_quorums.Goals as goal
+
+some-from_counts : {A : Type 0} (o : Option A) → is_none o ≡ false → is_some o ≡ true
+some-from_counts None counts = absurd (cc)
+some-from_counts (Some x) counts = refl
+
+pub returns : goal.returns
+returns c strategy target down view step after can is gives =
+    let now = view.conf_state in
+    let up = up_and_caught_up down view in
+    let heard = heard_from view in
+    let path = path_by strategy down now target in
+    let steps = one_change_each path in
+    let s = situation strategy target down view in
+    let fits = c.most_down_by_counting.ensures.fits in
+    let commits = c.most_down_by_counting.ensures.commits in
+    let fewer = c.fewer_uncounted_tolerate_more.ensures in
+    let proposed = IsProposed-from_answer s steps step is in
+    let first = first_step steps step proposed.last in
+    let same = after_first-is now after steps first.0 step first.1 gives in
+    let promises = c.paths_keep_promises.ensures.promises strategy down now target can.valid_now can.valid_target can.path in
+    let leads = c.one_change_each_leads.ensures strategy down now target can.valid_now can.valid_target can.path in
+    let tolerant = path-tolerates strategy down now target path promises in
+    let ready : MakesVotersOfReady now step after =
+    first-holds MakesVotersOfReady now target after steps first.0 step first.1 gives (leads.ready (voters-learn_first strategy down now target path can.not_shortest promises)) in
+    let as_tolerant : IsAsTolerant down now target after =
+    first-holds (λ b x d. IsAsTolerant down now target d) now target after steps first.0 step first.1 gives (leads.tolerance down tolerant) in
+    let behind : is_empty (voter_ids after ∩ member_ids now ∩ heard ∖ down ∖ up) ≡ true =
+    subst (λ d. is_empty (voter_ids d ∩ member_ids now ∩ heard ∖ down ∖ up) ≡ true) same (behind-passed s proposed.voter_is_behind) in
+    let caught_up : (id : ℕ) → votes after id ≡ true → has down id ≡ false → has heard id ≡ true → has up id ≡ true =
+    λ id voter not_down is_heard.
+    let member = voters-were_members now after step id gives ready voter in
+    let known = has-common-is (voter_ids after) (member_ids now) id (has-union after.incoming after.outgoing id ∙ voter) (has-all_members now id ∙ member) in
+    up-unless_down (voter_ids after ∩ member_ids now ∩ heard) down up id behind (has-common-is (voter_ids after ∩ member_ids now) heard id known is_heard) not_down in
+    let silent : (is_joint after || is_less (tolerance after up) (tolerance now up)) ≡ true → is_empty (voter_ids after ∖ down ∖ heard) ≡ true =
+    subst (λ d. (is_joint d || is_less (tolerance d up) (tolerance now up)) ≡ true → is_empty (voter_ids d ∖ down ∖ heard) ≡ true) same
+    (silent-passed s proposed.voter_is_silent) in
+    let kept = Tolerates-after_step fits fewer now after target down heard up (up-not_down down view) caught_up
+    (λ worse id voter not_down. up-unless_down (voter_ids after) down heard id (silent worse) (has-union after.incoming after.outgoing id ∙ voter) not_down) as_tolerant in
+    let before : is_quorum (voters_of now) up ≡ true = quorum_up-passed s proposed.no_quorum_is_up in
+    let counts = target-counts (λ b x d. IsAsTolerant down now target d) now target no_ids down path tolerant (stalls-passed s proposed.path_stalls) in
+    let of_target : Tolerates (voters_of target) down 0 =
+    fewer (voters_of target) down (union down counts.0) 0 (λ id voter is_down. has-union down counts.0 id ∙ or_left _ _ is_down)
+    (Tolerates-from_commits fits commits (voters_of target) (union down counts.0) (commits (voters_of target) (union down counts.0) ∙ some-from_counts _ counts.1)) in
+    record {
+      before = before;
+      then = is_quorum-up after up ∙ commits-from_Tolerates fits commits (voters_of after) (voter_ids after ∖ up)
+          (kept 0 (Tolerates-from_commits fits commits (voters_of now) (voter_ids now ∖ up) (sym (is_quorum-up now up) ∙ before)) of_target);
+      tolerance = kept;
+      learners = λ id incoming new. (ready id incoming new).learner;
+      caught_up = λ id incoming new is_heard not_down. caught_up id (or_left _ (has after.outgoing id) incoming) not_down is_heard;
+    }
