@@ -60,12 +60,19 @@ pub record IsRequest (first : Configuration) (c : Cluster) (r : VoteRequest) : T
   pub known : IsKnown c r.term r.committed
   pub own_vote : HasVoted c r.term r.candidate r.candidate
 
+-- a part of what a candidate knew to be committed, by which its votes may be counted
+pub record MayCountBy (first : Configuration) (r : VoteRequest) (counted : Log) : Type 0 where
+  pub part : IsPrefix counted r.committed
+  pub one_change_beyond : IsOneChangeBeyond first r.log counted
+
 -- of an election, and what its leader works on
 pub record IsElectedWith (first : Configuration) (c : Cluster) (e : Election) (now : Leadership) : Type 0 where
   pub asked : In e.request c.requests
   pub grown : IsGrown e.request.term e.request.log now.log
   pub voted : (voter : ℕ) → has e.votes voter ≡ true → HasVoted c e.request.term voter e.request.candidate
-  pub quorum : IsQuorumAfter first e.request.committed e.votes
+  pub counted : Log
+  pub counts : MayCountBy first e.request counted
+  pub quorum : IsQuorumAfter first counted e.votes
   pub stored : IsPrefix now.committed now.log
   pub known : IsKnown c (e.request.term + 1) now.committed
 

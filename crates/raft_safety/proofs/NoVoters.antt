@@ -9,6 +9,7 @@ use Rattle.raft_safety.specs.Configurations.{configuration_after, voters_after, 
 use Rattle.raft_safety.specs.Cluster.{Commitment, Cluster, In, Leads, new_cluster}
 use Rattle.raft_safety.specs.Steps.{Action, AreAllowed, after_actions}
 use Rattle.raft_safety.proofs.Invariants.{AreInvariants}
+use Rattle.raft_safety.proofs.Growth.{IsKnown-prefix}
 use Rattle.raft_safety.proofs.Theorem.{AreInvariants-reached}
 
 none_of_none : (ids : Ids) → majority_passes (has ids) no_ids ≡ false
@@ -44,7 +45,7 @@ Leads-no_voters first actions none allowed term leader leads =
     let c : Cluster = after_actions new_cluster actions in
     let i = AreInvariants-reached first actions allowed in
     let e = i.elections leads.0 leads.1 in
-    elim (i.requests leads.0.request e.asked).known [
-      | inl empty ↦ no_quorum first none leads.0.request.committed empty leads.0.votes e.quorum
+    elim (IsKnown-prefix c leads.0.request.term e.counted leads.0.request.committed e.counts.part (i.requests leads.0.request e.asked).known) [
+      | inl empty ↦ no_quorum first none e.counted empty leads.0.votes e.quorum
       | inr by ↦ nothing_committed first c i none by.0.log by.0 refl by.1
     ]

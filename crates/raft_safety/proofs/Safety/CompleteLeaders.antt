@@ -7,16 +7,18 @@ use Rattle.raft_safety.specs.Configurations.{IsOneChangeBeyond, voter_changes}
 use Rattle.raft_safety.specs.Cluster.{VoteRequest, Election, Commitment, Cluster, In}
 use Rattle.raft_safety.proofs.Configurations.{DoMeet, DoMeet-one_change, voter_changes-prefix}
 use Rattle.raft_safety.proofs.Invariants.{IsGrown, AreInvariants, log_of}
+use Rattle.raft_safety.proofs.Growth.{IsKnown-prefix}
 use Rattle.raft_safety.proofs.Safety.CommittedChain.{IsComplete, AreComplete, IsKnown-alike}
 use Rattle.raft_safety.proofs.Safety.OneBehind.{HasQuorum, HasQuorum-has_committed, DoMeet-shared_voter, HasQuorum-one_behind}
 use Rattle.raft_safety.proofs.Logs.{IsPrefix-trans, IsPrefix-compare}
 
-pub HasQuorum-of_election : (first : Configuration) (c : Cluster) → AreInvariants first c → (e : Election) → In e c.elections → HasQuorum first c e.request e.votes
+pub HasQuorum-of_election : (first : Configuration) (c : Cluster) → (i : AreInvariants first c) → (e : Election) → (its : In e c.elections) → HasQuorum first c e.request (i.elections e its).counted e.votes
 HasQuorum-of_election first c i e in_e =
     let known = i.elections e in_e in
     record {
       asked = known.asked;
       voted = known.voted;
+      counts = known.counts;
       quorum = known.quorum;
       led = λ other in_other same. inl (ap (λ (x : Election). x.votes) (i.one_election other e in_other in_e same));
     }
@@ -43,14 +45,16 @@ in_request : (first : Configuration) (c : Cluster) → AreInvariants first c →
 in_request first c i e in_e complete m in_m below =
     let q = HasQuorum-of_election first c i e in_e in
     let r : VoteRequest = e.request in
+    let counted : Log = (i.elections e in_e).counted in
     let mine = i.requests r q.asked in
     let its = i.commitments m in_m in
-    elim (IsKnown-alike first c i r.term complete r.committed m mine.known in_m below) [
-      | inr more ↦ IsPrefix-trans m.log r.committed r.log more mine.stored
+    let in_log : IsPrefix counted r.log = IsPrefix-trans counted r.committed r.log q.counts.part mine.stored in
+    elim (IsKnown-alike first c i r.term complete counted m (IsKnown-prefix c r.term counted r.committed q.counts.part mine.known) in_m below) [
+      | inr more ↦ IsPrefix-trans m.log counted r.log more in_log
       | inl less ↦ (
-          let meet = parts_meet first r.committed m.counted m.log less its.counted (HasQuorum-one_behind first c i r e.votes q complete m in_m below) its.one_change_beyond in
-          let common = DoMeet-shared_voter first r.committed m.counted meet e.votes m.servers q.quorum its.quorum in
-          HasQuorum-has_committed first c i r e.votes q complete m in_m below common.0 common.1 common.2)
+          let meet = parts_meet first counted m.counted m.log less its.counted (HasQuorum-one_behind first c i r counted e.votes q complete m in_m below) its.one_change_beyond in
+          let common = DoMeet-shared_voter first counted m.counted meet e.votes m.servers q.quorum its.quorum in
+          HasQuorum-has_committed first c i r counted e.votes q complete m in_m below common.0 common.1 common.2)
     ]
 
 complete_next : (first : Configuration) (c : Cluster) → AreInvariants first c → (term : ℕ) → AreComplete c term → IsComplete c term

@@ -7,21 +7,23 @@ use Rattle.raft_safety.specs.Logs.{Log, IsPrefix}
 use Rattle.raft_safety.specs.Configurations.{IsQuorumAfter, voter_changes}
 use Rattle.raft_safety.specs.Cluster.{VoteRequest, Election, Commitment, Cluster, In}
 use Rattle.raft_safety.proofs.Configurations.{DoMeet, DoMeet-one_change, voter_changes-prefix, change-numbered}
-use Rattle.raft_safety.proofs.Invariants.{HasVoted, AreInvariants, log_of}
+use Rattle.raft_safety.proofs.Invariants.{MayCountBy, HasVoted, AreInvariants, log_of}
+use Rattle.raft_safety.proofs.Growth.{IsKnown-prefix}
 use Rattle.raft_safety.proofs.Safety.CommittedChain.{IsComplete, AreComplete, IsKnown-alike, IsKept-below}
 use Rattle.raft_safety.proofs.Logs.{IsPrefix-compare}
 
 -- a request that has a quorum of votes; if its term is led, these are the leader's, or the leader is complete
-pub record HasQuorum (first : Configuration) (c : Cluster) (r : VoteRequest) (votes : Ids) : Type 0 where
+pub record HasQuorum (first : Configuration) (c : Cluster) (r : VoteRequest) (counted : Log) (votes : Ids) : Type 0 where
   pub asked : In r c.requests
   pub voted : (voter : ℕ) → has votes voter ≡ true → HasVoted c r.term voter r.candidate
-  pub quorum : IsQuorumAfter first r.committed votes
+  pub counts : MayCountBy first r counted
+  pub quorum : IsQuorumAfter first counted votes
   pub led : (e : Election) → In e c.elections → e.request.term ≡ r.term → (e.votes ≡ votes) ⊎ IsComplete c r.term
 
 -- what a quorum committed that shares a voter with the votes is in the candidate's log
-pub HasQuorum-has_committed : (first : Configuration) (c : Cluster) → AreInvariants first c → (r : VoteRequest) (votes : Ids) → HasQuorum first c r votes → AreComplete c r.term
+pub HasQuorum-has_committed : (first : Configuration) (c : Cluster) → AreInvariants first c → (r : VoteRequest) (counted : Log) (votes : Ids) → HasQuorum first c r counted votes → AreComplete c r.term
     → (m : Commitment) → In m c.commitments → m.term < r.term → (voter : ℕ) → has votes voter ≡ true → has m.servers voter ≡ true → IsPrefix m.log r.log
-HasQuorum-has_committed first c i r votes q complete m in_m below voter in_votes in_servers =
+HasQuorum-has_committed first c i r counted votes q complete m in_m below voter in_votes in_servers =
     let known = i.commitments m in_m in
     i.voters_keep r voter m.term m.log q.asked (q.voted voter in_votes) (known.acknowledged voter in_servers) below known.own_term
     (IsKept-below c r.term complete m in_m)
@@ -37,14 +39,14 @@ unfolding IsQuorumAfter
 DoMeet-shared_voter first one other meet a b qa qb =
     let found = meet.forth a b (record { quorum_before = qa; quorum_after = qb }) in (found.0, found.1.in_first, found.1.in_second)
 
-pub HasQuorum-one_behind : (first : Configuration) (c : Cluster) → AreInvariants first c → (r : VoteRequest) (votes : Ids) → HasQuorum first c r votes → AreComplete c r.term
-    → (m : Commitment) → In m c.commitments → m.term < r.term → voter_changes first m.log ≤ voter_changes first r.committed + 1
-HasQuorum-one_behind first c i r votes q complete m in_m below = elim (cases_lt (voter_changes first r.committed + 1) (voter_changes first m.log)) [
+pub HasQuorum-one_behind : (first : Configuration) (c : Cluster) → AreInvariants first c → (r : VoteRequest) (counted : Log) (votes : Ids) → HasQuorum first c r counted votes → AreComplete c r.term
+    → (m : Commitment) → In m c.commitments → m.term < r.term → voter_changes first m.log ≤ voter_changes first counted + 1
+HasQuorum-one_behind first c i r counted votes q complete m in_m below = elim (cases_lt (voter_changes first counted + 1) (voter_changes first m.log)) [
   | inr few ↦ few
   | inl many ↦ absurd (
-      let j = change-numbered first (voter_changes first r.committed + 1) m.log many in
-      let e0 : voter_changes first (j.0 ∷ j.1) ≡ voter_changes first r.committed + 1 + 1 = j.3 in
-      let e1 : voter_changes first j.1 ≡ voter_changes first r.committed + 1 = j.4 in
+      let j = change-numbered first (voter_changes first counted + 1) m.log many in
+      let e0 : voter_changes first (j.0 ∷ j.1) ≡ voter_changes first counted + 1 + 1 = j.3 in
+      let e1 : voter_changes first j.1 ≡ voter_changes first counted + 1 = j.4 in
       let found = i.counted_before m j.0 j.1 in_m j.2 in
       let n : Commitment = found.0 in
       let order : n.term ≤ m.term = found.2 in
@@ -54,18 +56,18 @@ HasQuorum-one_behind first c i r votes q complete m in_m below = elim (cases_lt 
       let s2 : voter_changes first (j.0 ∷ j.1) ≤ voter_changes first n.log = voter_changes-prefix first (j.0 ∷ j.1) n.log found.4 in
       let s3 : voter_changes first n.log ≤ voter_changes first n.counted + 1 = its.one_change_beyond in
       let below_n : n.term < r.term = omega arith in
-      let before : IsPrefix r.committed n.log = elim (IsKnown-alike first c i r.term complete r.committed n mine.known found.1 below_n) [
+      let before : IsPrefix counted n.log = elim (IsKnown-alike first c i r.term complete counted n (IsKnown-prefix c r.term counted r.committed q.counts.part mine.known) found.1 below_n) [
         | inl p ↦ p
-        | inr p ↦ (let s4 : voter_changes first n.log ≤ voter_changes first r.committed = voter_changes-prefix first n.log r.committed p in absurd (omega arith))
+        | inr p ↦ (let s4 : voter_changes first n.log ≤ voter_changes first counted = voter_changes-prefix first n.log counted p in absurd (omega arith))
       ] in
-      let less : IsPrefix r.committed n.counted = elim (IsPrefix-compare r.committed n.counted n.log before its.counted) [
+      let less : IsPrefix counted n.counted = elim (IsPrefix-compare counted n.counted n.log before its.counted) [
         | inl p ↦ p
-        | inr p ↦ (let s4 : voter_changes first n.counted ≤ voter_changes first r.committed = voter_changes-prefix first n.counted r.committed p in absurd (omega arith))
+        | inr p ↦ (let s4 : voter_changes first n.counted ≤ voter_changes first counted = voter_changes-prefix first n.counted counted p in absurd (omega arith))
       ] in
-      let meet = DoMeet-one_change first r.committed n.counted less (omega arith) in
-      let common = DoMeet-shared_voter first r.committed n.counted meet votes n.servers q.quorum its.quorum in
-      let has_it : IsPrefix n.log r.log = HasQuorum-has_committed first c i r votes q complete n found.1 below_n common.0 common.1 common.2 in
+      let meet = DoMeet-one_change first counted n.counted less (omega arith) in
+      let common = DoMeet-shared_voter first counted n.counted meet votes n.servers q.quorum its.quorum in
+      let has_it : IsPrefix n.log r.log = HasQuorum-has_committed first c i r counted votes q complete n found.1 below_n common.0 common.1 common.2 in
       let s5 : voter_changes first n.log ≤ voter_changes first r.log = voter_changes-prefix first n.log r.log has_it in
-      let s6 : voter_changes first r.log ≤ voter_changes first r.committed + 1 = mine.one_change_beyond in
+      let s6 : voter_changes first r.log ≤ voter_changes first counted + 1 = q.counts.one_change_beyond in
       omega arith)
 ]

@@ -1,10 +1,11 @@
 -- The step BecomeLeader keeps the invariants.
-use Rattle.std.proofs.Common.{◌≡◌, ℕ, ◌+◌, ◌∷◌, refl, sym, ap, subst, ◌∙◌, inl, inr, arith, []}
-use Rattle.quorum_sets.specs.Ids.{Ids}
+use Rattle.std.proofs.Common.{◌≡◌, ℕ, ◌+◌, ◌∷◌, true, refl, sym, ap, subst, ◌∙◌, inl, inr, arith, []}
+use Rattle.quorum_sets.specs.Ids.{has, Ids}
 use Rattle.conf_change.specs.Configuration.{Configuration}
 use Rattle.raft_safety.specs.Logs.{Log, IsPrefix}
-use Rattle.raft_safety.specs.Cluster.{VoteRequest, Election, Cluster, Leads, Leadership, with_value}
-use Rattle.raft_safety.proofs.Invariants.{IsGrown, AreInvariants, log_of, IsElectedWith, IsElected}
+use Rattle.raft_safety.specs.Configurations.{IsQuorumAfter}
+use Rattle.raft_safety.specs.Cluster.{VoteRequest, Election, Cluster, In, Leads, Leadership, with_value}
+use Rattle.raft_safety.proofs.Invariants.{IsGrown, MayCountBy, HasVoted, AreInvariants, log_of, IsElectedWith, IsElected}
 use Rattle.raft_safety.specs.Steps.{BecomeLeader, MayBecomeLeader, after_action}
 use Rattle.raft_safety.proofs.Updates.{with_value-here, with_value-there}
 use Rattle.raft_safety.proofs.Growth.{Follows, IsKnown-follows, IsServer-later, IsRequest-later, IsElectedWith-later, IsVote-later, IsCommitment-later, IsAcknowledged-later, voters_keep-later}
@@ -16,15 +17,24 @@ grown_refl : (term : ℕ) (log : Log) → IsGrown term log log
 grown_refl term [] = refl
 grown_refl term (entry ∷ log) = inl refl
 
-pub become_leader-keeps : (first : Configuration) (c : Cluster) (r : VoteRequest) (votes : Ids) → MayBecomeLeader first c r votes → AreInvariants first c → AreInvariants first (after_action c (BecomeLeader r votes))
-become_leader-keeps first c r votes may i =
+-- a candidate may count by any part of what it knew to be committed that has all changes of the voters but the last
+pub record MayBecomeLeaderBy (first : Configuration) (c : Cluster) (r : VoteRequest) (counted : Log) (votes : Ids) : Type 0 where
+  pub asked : In r c.requests
+  pub not_yet : ¬ Leads c r.term r.candidate
+  pub voted : (voter : ℕ) → has votes voter ≡ true → HasVoted c r.term voter r.candidate
+  pub counts : MayCountBy first r counted
+  pub quorum : IsQuorumAfter first counted votes
+
+pub become_leader_by-keeps : (first : Configuration) (c : Cluster) (r : VoteRequest) (counted : Log) (votes : Ids) → MayBecomeLeaderBy first c r counted votes → AreInvariants first c
+    → AreInvariants first (after_action c (BecomeLeader r votes))
+become_leader_by-keeps first c r counted votes may i =
     let new : Leadership = record { log = r.log; committed = r.committed } in
     let e0 : Election = record { request = r; votes = votes } in
     let d : Cluster = after_action c (BecomeLeader r votes) in
     let inner : ℕ → Leadership = with_value (c.leaderships r.term) r.candidate new in
     let asked = i.requests r may.asked in
     let not_led : (leader : ℕ) → Leads c r.term leader → ⊥ = λ leader l.
-    may.not_yet (l.0, l.1, l.2, wins-alone first c i l.0 l.1 r votes may.asked may.voted may.quorum l.2) in
+    may.not_yet (l.0, l.1, l.2, wins-alone first c i l.0 l.1 r counted votes may.asked may.voted may.counts may.quorum l.2) in
     let stays : (t s : ℕ) → Leads c t s → c.leaderships t s ≡ d.leaderships t s = λ t s l.
     ap (λ (g : ℕ → Leadership). g s) (sym (with_value-there c.leaderships r.term inner t (λ same. not_led s (subst (λ (q : ℕ). Leads c q s) same l)))) in
     let new_is : d.leaderships r.term r.candidate ≡ new =
@@ -49,6 +59,8 @@ become_leader-keeps first c r votes may i =
           asked = may.asked;
           grown = grown_refl r.term r.log;
           voted = may.voted;
+          counted = counted;
+          counts = may.counts;
           quorum = may.quorum;
           stored = asked.stored;
           known = IsKnown-follows c d f r.term (r.term + 1) (omega arith) r.committed asked.known;
@@ -73,3 +85,15 @@ become_leader-keeps first c r votes may i =
       commitments = λ m x. IsCommitment-later first c d f m (i.commitments m x);
       counted_before = i.counted_before;
     }
+
+pub become_leader-keeps : (first : Configuration) (c : Cluster) (r : VoteRequest) (votes : Ids) → MayBecomeLeader first c r votes → AreInvariants first c → AreInvariants first (after_action c (BecomeLeader r votes))
+become_leader-keeps first c r votes may i =
+    become_leader_by-keeps first c r r.committed votes
+    (record {
+      asked = may.asked;
+      not_yet = may.not_yet;
+      voted = may.voted;
+      counts = record { part = IsPrefix-refl r.committed; one_change_beyond = (i.requests r may.asked).one_change_beyond };
+      quorum = may.quorum;
+    })
+    i

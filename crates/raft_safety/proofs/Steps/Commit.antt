@@ -66,6 +66,8 @@ commit-keeps first c leader m may i =
             asked = it.asked;
             grown = it.grown;
             voted = it.voted;
+            counted = it.counted;
+            counts = it.counts;
             quorum = it.quorum;
             stored = may.in_log;
             known = inr (m, inl refl, (let g : e.request.term ≡ m.term = same_t in omega arith), IsPrefix-refl m.log);
