@@ -26,6 +26,7 @@ type member struct {
 	cancels              bool        // each change that it applies
 	handed               []pb.Entry  // what it was handed and has not applied
 	ready                *raft.Ready // what it has saved and sent, and Advance was not called for
+	received             bool        // it was sent something since it saved last
 }
 
 // What a crash leaves of the hard states that were saved: the last one that was synced with what was saved after it, and the
@@ -169,6 +170,7 @@ func (m *member) take() raft.Ready {
 // accept saves what is ready, and hands the committed entries to the application.
 func (m *member) accept(ready raft.Ready) {
 	m.save(ready)
+	m.received = false
 	m.handed = append(m.handed, ready.CommittedEntries...)
 	m.ready = &ready
 }
@@ -215,6 +217,27 @@ func (m *member) hasPendingChange() bool {
 		}
 	}
 	return false
+}
+
+// hasLooked says whether a member has applied all changes of its log but one at most, whatever it knows to be committed. The
+// log has to be saved for that.
+func (m *member) hasLooked() bool {
+	if m.received && m.raw.HasReady() {
+		return false
+	}
+	last, _ := m.storage.LastIndex()
+	applied := m.raw.BasicStatus().Applied
+	if applied == last {
+		return true
+	}
+	entries, _ := m.storage.Entries(applied+1, last+1, math.MaxUint64)
+	count := 0
+	for _, entry := range entries {
+		if changeOf(entry) != nil {
+			count++
+		}
+	}
+	return count <= 1
 }
 
 // changeOf reads the change of an entry, or returns nil if the entry has none.

@@ -21,6 +21,7 @@ type observer struct {
 	lastChange uint64          // the last index of a change that was applied
 	leader     uint64          // the greatest term that had a leader
 	seen       map[string]int  // how often each kind of thing happened
+	anyCommit  bool            // the second invariant may be broken
 }
 
 func newObserver(t reporter, first pb.ConfState) *observer {
@@ -65,7 +66,7 @@ func (o *observer) sees(m *member, ready raft.Ready) {
 	status := m.raw.BasicStatus()
 	stored, _, _ := m.storage.InitialState()
 	last, _ := m.storage.LastIndex()
-	if count := o.changes(m.storage, stored.Commit, last); count > 1 {
+	if count := o.changes(m.storage, stored.Commit, last); count > 1 && !o.anyCommit {
 		o.t.Fatalf("%d has stored %d changes after %d, up to which it knows its log to be committed", status.ID, count, stored.Commit)
 	}
 	if status.RaftState != raft.StateLeader {

@@ -37,6 +37,7 @@ const (
 type trial struct {
 	leftOut       []rule
 	waits         bool // a change waits until each member has applied the one before, and restarts do not undo that
+	looks         bool // a member campaigns only when it has applied all changes of its log but one
 	chance        *rand.Rand
 	network       *network
 	disks         map[uint64]*raft.MemoryStorage
@@ -245,6 +246,7 @@ func (t *trial) receive(message pb.Message) {
 		return
 	}
 	t.report(message, raft.SnapshotFinish)
+	to.received = true
 	to.raw.Step(message) // an error says that the message is out of date
 	if to.leads() {
 		t.observer.seesLeader(to)
@@ -252,6 +254,10 @@ func (t *trial) receive(message pb.Message) {
 }
 
 func (t *trial) mayStep(m *member, kind pb.MessageType) bool {
+	if t.looks && kind == pb.MsgTimeoutNow && !m.hasLooked() {
+		t.observer.seen["MsgTimeoutNow is kept off"]++
+		return false
+	}
 	if kind == pb.MsgTimeoutNow && !t.leavesOut(transferRule) || kind == pb.MsgSnap && !t.leavesOut(snapshotRule) {
 		return t.mayPass(m, kind.String())
 	}

@@ -153,6 +153,13 @@ func (t *trial) campaign(id uint64) {
 	if m.leads() || !t.leavesOut(campaignRule) && !t.mayPass(m, "a campaign") {
 		return
 	}
+	if t.looks && !m.hasLooked() {
+		t.observer.seen["a campaign is kept off"]++
+		return
+	}
+	if !hasAppliedChanges(m.raw, m.storage) {
+		t.observer.seen["a campaign before changes"]++
+	}
 	m.raw.Campaign()
 	if m.leads() {
 		t.observer.seesLeader(m)

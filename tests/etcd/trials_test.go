@@ -39,6 +39,18 @@ func TestWait(t *testing.T) {
 	t.Run("each kind occurs", func(t *testing.T) { compareSeen(t, seen, kindsOfTrials) })
 }
 
+// TestLook leaves out four rules. Instead a member campaigns only when it has applied all changes of its log but one. So nothing
+// goes wrong, although members do not know what is committed of their logs.
+func TestLook(t *testing.T) {
+	seen := runTrials(t, 500, func(seed int64) *trial {
+		trial := newTrial(seed, campaignRule, transferRule, hardStateRule, syncRule)
+		trial.looks, trial.observer.anyCommit = true, true
+		return trial
+	})
+	kinds := append([]string{"a campaign is kept off", "MsgTimeoutNow is kept off", "a campaign before changes"}, kindsOfTrials...)
+	t.Run("each kind occurs", func(t *testing.T) { compareSeen(t, seen, kinds) })
+}
+
 // runTrials runs `count` trials, one a seed, and returns how often each kind of thing happened. None may end with a
 // contradiction.
 func runTrials(t *testing.T, count int, begin func(seed int64) *trial) map[string]int {

@@ -1,5 +1,6 @@
 -- Small runs and configurations, worked out by computing. What the rules allow is in AddedVoter and JointChange, with messages
--- in EtcdMessages, where memory and disk are apart in SavedFirst, and where changes wait for the members in WaitedFor.
+-- in EtcdMessages, where memory and disk are apart in SavedFirst, where servers look before they campaign in LookedFirst, and where
+-- changes wait for the members in WaitedFor.
 --
 -- A file Without.. shows what a rule is for. It leaves out one field of one guard in Steps.antt: each action of its run is
 -- allowed, but for one, of whose guard all but that field holds; and then a claim of Claims.antt is false. So each of these
@@ -24,7 +25,7 @@
 -- does not lead takes to be committed goes nowhere (`leads` of Learn).
 --
 -- By etcd's rules are WithoutOneChangeAtATime (`one_at_a_time` of a proposal, for which Steps.antt has `one_change_beyond` of
--- campaigns and commitments), WithoutAllApplied (`all_applied`) and WithoutMatchingAppends (`matches`). Where memory and disk are
+-- campaigns and commitments), WithoutAllApplied (`ready`) and WithoutMatchingAppends (`matches`). Where memory and disk are
 -- apart, WithoutSavedVotes leaves out `saved` of Say, WithoutSavedEntries `own_saved` of Use, WithoutAKeptCommitIndex
 -- `commit_kept` of Save, and WithoutTheConfigurationOfApplied `configuration_of_applied` of Crash.
 pub mod SmallRuns
@@ -33,6 +34,7 @@ pub mod CountedChanges
 pub mod EtcdMessages
 pub mod JointChange
 pub mod SavedFirst
+pub mod LookedFirst
 pub mod WaitedFor
 -- where the runs begin
 pub mod FirstElection

@@ -1,6 +1,6 @@
 -- The state of a cluster where memory and disk are apart: the cluster of EtcdCluster.antt, and what that leaves out, which is
 -- what servers have done and not saved, what they said, and what applications were given.
-use Rattle.std.specs.Prelude.{ℕ, List, []}
+use Rattle.std.specs.Prelude.{ℕ, Bool, List, []}
 use Rattle.raft_safety.specs.Logs.{Log}
 use Rattle.raft_safety.specs.Cluster.{Vote, VoteRequest, Acknowledgement, Commitment, Server}
 use Rattle.raft_safety.specs.EtcdCluster.{EtcdCluster, new_etcd_cluster}
@@ -45,10 +45,10 @@ memory d server = after_etcd_actions d.disk (d.unsaved server)
 abbrev pub in_memory : DiskCluster → ℕ → Server
 in_memory d server = (memory d server).cluster.servers server
 
--- before anything happens
-abbrev pub new_disk_cluster : DiskCluster
-new_disk_cluster = record {
-  disk = new_etcd_cluster;
+-- before anything happens, where these servers look at their own log before they campaign
+abbrev pub new_disk_cluster : (ℕ → Bool) → DiskCluster
+new_disk_cluster looks = record {
+  disk = new_etcd_cluster looks;
   unsaved = λ server. [];
   said = [];
   raised = [];

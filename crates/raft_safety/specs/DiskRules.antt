@@ -11,7 +11,7 @@
 -- - a leader works in memory: Lead, Propose, Send, Raise and Use do not wait for its own disk. Its server takes what it sends
 --   as any other does. A candidate leads here once its own vote is saved too; before that it may send nothing as a leader
 -- - a restart: Crash, whether or not the server was down. A leader that has crashed may go on here, which allows more
-use Rattle.std.specs.Prelude.{◌≡◌, ℕ, ◌<◌, true, List, ◌++◌, length}
+use Rattle.std.specs.Prelude.{◌≡◌, ℕ, ◌<◌, true, false, List, ◌++◌, length}
 use Rattle.quorum_sets.specs.Ids.{Ids, has}
 use Rattle.conf_change.specs.Configuration.{Configuration}
 use Rattle.raft_safety.specs.Logs.{Entry, Log, IsPrefix, last_term}
@@ -77,8 +77,9 @@ pub record MaySave (first : Configuration) (d : DiskCluster) (server : ℕ) (sav
   pub in_order : d.unsaved server ≡ saved ++ rest
   -- the commit index on disk is one that the server has
   pub committed : IsPrefix commit ((after_etcd_actions d.disk saved).cluster.servers server).committed
-  -- and it is not older than the entries on disk allow: at most one change of the voters is beyond it
-  pub commit_kept : IsOneChangeBeyond first ((after_etcd_actions d.disk saved).cluster.servers server).log commit
+  -- and it is not older than the entries on disk allow: at most one change of the voters is beyond it. Of a server that looks
+  -- at its own log before it campaigns, it may be any
+  pub commit_kept : d.disk.looks server ≡ false → IsOneChangeBeyond first ((after_etcd_actions d.disk saved).cluster.servers server).log commit
 
 -- a server may say something
 pub record MaySay (d : DiskCluster) (message : Message) : Type 0 where

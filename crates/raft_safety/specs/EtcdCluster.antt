@@ -1,6 +1,6 @@
 -- The state of a cluster whose servers keep etcd's rules: the cluster of Cluster.antt, and what that leaves out, which is
 -- the messages with entries, what is applied, and how much of each commit index is durable.
-use Rattle.std.specs.Prelude.{ℕ, List, []}
+use Rattle.std.specs.Prelude.{ℕ, Bool, List, []}
 use Rattle.raft_safety.specs.Logs.{Log}
 use Rattle.raft_safety.specs.Cluster.{VoteRequest, Cluster, new_cluster, with_value}
 
@@ -20,22 +20,25 @@ pub record Candidacy : Type 0 where
 
 -- the cluster; for each server the part of its committed log that it still knows to be committed after a restart, its
 -- durable commit index; for each leader, by term and server, the log up to which it has applied, whose configuration is
--- the one in force there; each candidacy; and each append that was ever sent
+-- the one in force there; each candidacy; and each append that was ever sent. Which servers look at their own log before they
+-- campaign stays as it is
 pub record EtcdCluster : Type 0 where
   pub cluster : Cluster
   pub durable : ℕ → Log
   pub applied : ℕ → ℕ → Log
   pub candidacies : List Candidacy
   pub appends : List Append
+  pub looks : ℕ → Bool
 
--- before anything happens
-abbrev pub new_etcd_cluster : EtcdCluster
-new_etcd_cluster = record {
+-- before anything happens, where these servers look
+abbrev pub new_etcd_cluster : (ℕ → Bool) → EtcdCluster
+new_etcd_cluster looks = record {
   cluster = new_cluster;
   durable = λ server. [];
   applied = λ term leader. [];
   candidacies = [];
   appends = [];
+  looks = looks;
 }
 
 -- the cluster after the leader has applied up to the log

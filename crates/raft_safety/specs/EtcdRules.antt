@@ -14,12 +14,12 @@
 -- - ApplyConfChange at a leader: Apply. At any other server what is applied only matters when it campaigns
 -- - a restart, which applies entries again from a snapshot on: Restart; and what is applied again, when it campaigns
 -- - PreVote, CheckQuorum, reads, a leader that steps down: nothing; a transfer of leadership: Campaign of its target
-use Rattle.std.specs.Prelude.{◌≡◌, ℕ, ◌<◌, ◌≤◌, ◌⊎◌, true, ◌∷◌, ◌++◌, length}
+use Rattle.std.specs.Prelude.{◌≡◌, ℕ, ◌<◌, ◌≤◌, ◌⊎◌, Bool, true, false, ◌∷◌, ◌++◌, length}
 use Rattle.quorum_sets.specs.Ids.{Ids, has}
 use Rattle.conf_change.specs.Configuration.{Configuration}
 use Rattle.raft_safety.specs.Logs.{Entry, Log, IsPrefix, last_term}
-use Rattle.raft_safety.specs.Configurations.{IsQuorumAfter, voter_changes}
-use Rattle.raft_safety.specs.Cluster.{VoteRequest, In, Leads}
+use Rattle.raft_safety.specs.Configurations.{IsQuorumAfter, IsOneChangeBeyond, voter_changes}
+use Rattle.raft_safety.specs.Cluster.{Server, VoteRequest, In, Leads}
 use Rattle.raft_safety.specs.Steps.{MaySeeTerm, MayGrantVote}
 use Rattle.raft_safety.specs.Appending.{term_at}
 use Rattle.raft_safety.specs.EtcdCluster.{Append, Candidacy, EtcdCluster}
@@ -39,14 +39,19 @@ pub data EtcdAction : Type 0 where
   Apply : (term leader : ℕ) → (log : Log) → EtcdAction
   Restart : (server : ℕ) → (known : Log) → EtcdAction
 
+-- a server is ready to campaign: if it looks at its own log, no more than one change of voters there is not applied; if it
+-- does not, no committed one is not applied
+abbrev pub IsReady : Configuration → Bool → Server → Log → Type 0
+IsReady first true state applied = IsOneChangeBeyond first state.log applied
+IsReady first false state applied = voter_changes first applied ≡ voter_changes first state.committed
+
 -- a server may campaign
 pub record MayCampaignApplied (first : Configuration) (e : EtcdCluster) (server term : ℕ) (applied : Log) : Type 0 where
   -- a campaign is in a later term
   pub later : (e.cluster.servers server).term < term
   -- what is applied is committed
   pub committed : IsPrefix applied (e.cluster.servers server).committed
-  -- no campaign while a committed change of voters is not applied
-  pub all_applied : voter_changes first applied ≡ voter_changes first (e.cluster.servers server).committed
+  pub ready : IsReady first (e.looks server) (e.cluster.servers server) applied
 
 -- a candidate may become leader
 pub record MayBecomeLeaderApplied (first : Configuration) (e : EtcdCluster) (candidacy : Candidacy) (votes : Ids) : Type 0 where
@@ -125,8 +130,8 @@ pub record MayApply (e : EtcdCluster) (term leader : ℕ) (log : Log) : Type 0 w
 
 -- a server may restart. Its term, its votes and its log are durable, and no other server has its id before or after
 pub record MayRestartDurable (e : EtcdCluster) (server : ℕ) (known : Log) : Type 0 where
-  -- of its commit index it may lose what was not durable yet
-  pub at_least : IsPrefix (e.durable server) known
+  -- of its commit index it may lose what was not durable yet, and all if it looks at its log before it campaigns
+  pub at_least : e.looks server ≡ false → IsPrefix (e.durable server) known
   pub at_most : IsPrefix known (e.cluster.servers server).committed
 
 -- the rules allow the action. For a later term, and for votes (one a term, to a log that is up to date), they are those of

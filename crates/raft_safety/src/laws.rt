@@ -1,6 +1,6 @@
 //! What is true of every cluster whose servers keep the rules of `specs/Steps.antt`. Each law is the contract of a
 //! function that does nothing.
-ghost use Rattle.std.specs.Prelude.{◌≡◌, ◌≤◌, ℕ, List, ◌++◌, false, true};
+ghost use Rattle.std.specs.Prelude.{◌≡◌, ◌≤◌, ℕ, Bool, List, ◌++◌, false, true};
 ghost use Rattle.quorum_sets.specs.Ids.{no_ids, is_empty};
 ghost use Rattle.quorum_sets.specs.Committed.{Acks, acked_index, joint_committed_index};
 ghost use Rattle.quorum_sets.specs.Votes.{Votes, is_yes, joint_vote_result};
@@ -52,73 +52,75 @@ pub fn no_leader_without_voters()
 {}
 
 /// The same holds of servers that keep the rules as etcd's raft means them (`specs/EtcdRules.antt`): with appends,
-/// heartbeats and restarts, and votes and acknowledgements counted by the configuration that is applied. A term has one
+/// heartbeats and restarts, and votes and acknowledgements counted by the configuration that is applied. Any of them may look
+/// at their own log before they campaign, in place of applying and keeping what they know to be committed. A term has one
 /// leader, a leader has what was committed in earlier terms, no two servers commit different entries at an index, and
 /// no two that lead or campaign have applied different ones.
 pub fn servers_that_keep_etcds_rules_commit_the_same()
-    ensures election_safety { (first : Configuration) (actions : List EtcdAction)
-        → AreAllowedByEtcd first new_etcd_cluster actions
-        → ElectionSafety (after_etcd_actions new_etcd_cluster actions).cluster }
-    ensures leader_completeness { (first : Configuration) (actions : List EtcdAction)
-        → AreAllowedByEtcd first new_etcd_cluster actions
-        → LeaderCompleteness (after_etcd_actions new_etcd_cluster actions).cluster }
-    ensures log_matching { (first : Configuration) (actions : List EtcdAction)
-        → AreAllowedByEtcd first new_etcd_cluster actions
-        → LogMatching (after_etcd_actions new_etcd_cluster actions).cluster }
-    ensures stored { (first : Configuration) (actions : List EtcdAction)
-        → AreAllowedByEtcd first new_etcd_cluster actions
-        → CommittedIsStored (after_etcd_actions new_etcd_cluster actions).cluster }
-    ensures state_machine_safety { (first : Configuration) (early late : List EtcdAction)
-        → AreAllowedByEtcd first new_etcd_cluster (early ++ late)
-        → StateMachineSafety (after_etcd_actions new_etcd_cluster early).cluster (after_etcd_actions new_etcd_cluster (early ++ late)).cluster }
-    ensures one_log { (first : Configuration) (early late : List EtcdAction)
-        → AreAllowedByEtcd first new_etcd_cluster (early ++ late)
-        → CommitOneLog (after_etcd_actions new_etcd_cluster early).cluster (after_etcd_actions new_etcd_cluster (early
+    ensures election_safety { (first : Configuration) (looks : ℕ → Bool) (actions : List EtcdAction)
+        → AreAllowedByEtcd first (new_etcd_cluster looks) actions
+        → ElectionSafety (after_etcd_actions (new_etcd_cluster looks) actions).cluster }
+    ensures leader_completeness { (first : Configuration) (looks : ℕ → Bool) (actions : List EtcdAction)
+        → AreAllowedByEtcd first (new_etcd_cluster looks) actions
+        → LeaderCompleteness (after_etcd_actions (new_etcd_cluster looks) actions).cluster }
+    ensures log_matching { (first : Configuration) (looks : ℕ → Bool) (actions : List EtcdAction)
+        → AreAllowedByEtcd first (new_etcd_cluster looks) actions
+        → LogMatching (after_etcd_actions (new_etcd_cluster looks) actions).cluster }
+    ensures stored { (first : Configuration) (looks : ℕ → Bool) (actions : List EtcdAction)
+        → AreAllowedByEtcd first (new_etcd_cluster looks) actions
+        → CommittedIsStored (after_etcd_actions (new_etcd_cluster looks) actions).cluster }
+    ensures state_machine_safety { (first : Configuration) (looks : ℕ → Bool) (early late : List EtcdAction)
+        → AreAllowedByEtcd first (new_etcd_cluster looks) (early ++ late)
+        → StateMachineSafety (after_etcd_actions (new_etcd_cluster looks) early).cluster (after_etcd_actions (new_etcd_cluster looks) (early ++ late)).cluster }
+    ensures one_log { (first : Configuration) (looks : ℕ → Bool) (early late : List EtcdAction)
+        → AreAllowedByEtcd first (new_etcd_cluster looks) (early ++ late)
+        → CommitOneLog (after_etcd_actions (new_etcd_cluster looks) early).cluster (after_etcd_actions (new_etcd_cluster looks) (early
         ++ late)).cluster }
-    ensures applied { (first : Configuration) (actions : List EtcdAction)
-        → AreAllowedByEtcd first new_etcd_cluster actions
-        → AppliedIsCommitted (after_etcd_actions new_etcd_cluster actions) }
-    ensures one_applied_log { (first : Configuration) (early late : List EtcdAction)
-        → AreAllowedByEtcd first new_etcd_cluster (early ++ late)
-        → ApplyOneLog (after_etcd_actions new_etcd_cluster early)
-        (after_etcd_actions new_etcd_cluster (early ++ late)) }
+    ensures applied { (first : Configuration) (looks : ℕ → Bool) (actions : List EtcdAction)
+        → AreAllowedByEtcd first (new_etcd_cluster looks) actions
+        → AppliedIsCommitted (after_etcd_actions (new_etcd_cluster looks) actions) }
+    ensures one_applied_log { (first : Configuration) (looks : ℕ → Bool) (early late : List EtcdAction)
+        → AreAllowedByEtcd first (new_etcd_cluster looks) (early ++ late)
+        → ApplyOneLog (after_etcd_actions (new_etcd_cluster looks) early)
+        (after_etcd_actions (new_etcd_cluster looks) (early ++ late)) }
 {}
 
 /// The same holds where memory and disk are apart (`specs/DiskRules.antt`): a server works in memory, saves the oldest of
 /// what it did as one, and loses the rest in a crash; a leader counts its own server at once. It says a vote or an
 /// acknowledgement only when that is saved, uses a commit index for which its own server was counted only when that has
 /// saved the entries, keeps a commit index on disk with at most one change of the voters after it, and restarts with the
-/// configuration of what it has applied. Then the claims hold of disks and leaders; servers know one log to be committed,
+/// configuration of what it has applied. If it looks at its own log before it campaigns, the commit index on disk may be any.
+/// Then the claims hold of disks and leaders; servers know one log to be committed,
 /// also in memory; and no application is given other entries than another, or than itself before a crash.
 pub fn servers_that_save_before_they_say_commit_the_same()
-    ensures election_safety { (first : Configuration) (actions : List DiskAction)
-        → AreAllowedOnDisk first new_disk_cluster actions
-        → ElectionSafety (after_disk_actions new_disk_cluster actions).disk.cluster }
-    ensures leader_completeness { (first : Configuration) (actions : List DiskAction)
-        → AreAllowedOnDisk first new_disk_cluster actions
-        → LeaderCompleteness (after_disk_actions new_disk_cluster actions).disk.cluster }
-    ensures log_matching { (first : Configuration) (actions : List DiskAction)
-        → AreAllowedOnDisk first new_disk_cluster actions
-        → LogMatching (after_disk_actions new_disk_cluster actions).disk.cluster }
-    ensures stored { (first : Configuration) (actions : List DiskAction)
-        → AreAllowedOnDisk first new_disk_cluster actions
-        → CommittedIsStored (after_disk_actions new_disk_cluster actions).disk.cluster }
-    ensures state_machine_safety { (first : Configuration) (early late : List DiskAction)
-        → AreAllowedOnDisk first new_disk_cluster (early ++ late)
-        → StateMachineSafety (after_disk_actions new_disk_cluster early).disk.cluster (after_disk_actions new_disk_cluster (early
+    ensures election_safety { (first : Configuration) (looks : ℕ → Bool) (actions : List DiskAction)
+        → AreAllowedOnDisk first (new_disk_cluster looks) actions
+        → ElectionSafety (after_disk_actions (new_disk_cluster looks) actions).disk.cluster }
+    ensures leader_completeness { (first : Configuration) (looks : ℕ → Bool) (actions : List DiskAction)
+        → AreAllowedOnDisk first (new_disk_cluster looks) actions
+        → LeaderCompleteness (after_disk_actions (new_disk_cluster looks) actions).disk.cluster }
+    ensures log_matching { (first : Configuration) (looks : ℕ → Bool) (actions : List DiskAction)
+        → AreAllowedOnDisk first (new_disk_cluster looks) actions
+        → LogMatching (after_disk_actions (new_disk_cluster looks) actions).disk.cluster }
+    ensures stored { (first : Configuration) (looks : ℕ → Bool) (actions : List DiskAction)
+        → AreAllowedOnDisk first (new_disk_cluster looks) actions
+        → CommittedIsStored (after_disk_actions (new_disk_cluster looks) actions).disk.cluster }
+    ensures state_machine_safety { (first : Configuration) (looks : ℕ → Bool) (early late : List DiskAction)
+        → AreAllowedOnDisk first (new_disk_cluster looks) (early ++ late)
+        → StateMachineSafety (after_disk_actions (new_disk_cluster looks) early).disk.cluster (after_disk_actions (new_disk_cluster looks) (early
         ++ late)).disk.cluster }
-    ensures one_log { (first : Configuration) (early late : List DiskAction)
-        → AreAllowedOnDisk first new_disk_cluster (early ++ late)
-        → CommitOneLog (after_disk_actions new_disk_cluster early).disk.cluster (after_disk_actions new_disk_cluster (early
+    ensures one_log { (first : Configuration) (looks : ℕ → Bool) (early late : List DiskAction)
+        → AreAllowedOnDisk first (new_disk_cluster looks) (early ++ late)
+        → CommitOneLog (after_disk_actions (new_disk_cluster looks) early).disk.cluster (after_disk_actions (new_disk_cluster looks) (early
         ++ late)).disk.cluster }
-    ensures one_given_log { (first : Configuration) (early late : List DiskAction)
-        → AreAllowedOnDisk first new_disk_cluster (early ++ late)
-        → AreGivenOneLog (after_disk_actions new_disk_cluster early)
-        (after_disk_actions new_disk_cluster (early ++ late)) }
-    ensures one_known_log { (first : Configuration) (early late : List DiskAction)
-        → AreAllowedOnDisk first new_disk_cluster (early ++ late)
-        → KnowOneLog (after_disk_actions new_disk_cluster early)
-        (after_disk_actions new_disk_cluster (early ++ late)) }
+    ensures one_given_log { (first : Configuration) (looks : ℕ → Bool) (early late : List DiskAction)
+        → AreAllowedOnDisk first (new_disk_cluster looks) (early ++ late)
+        → AreGivenOneLog (after_disk_actions (new_disk_cluster looks) early)
+        (after_disk_actions (new_disk_cluster looks) (early ++ late)) }
+    ensures one_known_log { (first : Configuration) (looks : ℕ → Bool) (early late : List DiskAction)
+        → AreAllowedOnDisk first (new_disk_cluster looks) (early ++ late)
+        → KnowOneLog (after_disk_actions (new_disk_cluster looks) early)
+        (after_disk_actions (new_disk_cluster looks) (early ++ late)) }
 {}
 
 /// Waiting is enough (`specs/Waiting.antt`): if a change of the voters is proposed only when each member has applied the ones

@@ -72,6 +72,9 @@
 //! applied all earlier ones, a server campaigns only once it has applied those that it knows to be committed, each append
 //! has the leader's commit index, and where an append changes a log, that index is durable with it.
 //!
+//! Or it looks into its log after all, before it campaigns: if at most one change there is not applied, it may forget what is
+//! committed, and need not have applied what it knows of that (`IsReady`).
+//!
 //! The third law takes memory and disk apart (`DiskCluster`, `DiskRules`, `DiskRuns`): a server works in memory, and a
 //! crash loses what is not saved. It says what has to be saved before it is said, sent or applied, and what need not be.
 //!

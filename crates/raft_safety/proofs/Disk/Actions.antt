@@ -1,5 +1,6 @@
 -- Each action keeps the invariants, and leaves more on disk and with leaders.
-use Rattle.std.proofs.Common.{◌≡◌, ℕ, ◌+◌, ◌≤◌, true, List, [], ◌∷◌, ◌++◌, refl, sym, ap, subst, inl, inr, arith}
+use Rattle.std.proofs.Common.{◌≡◌, ℕ, ◌+◌, ◌≤◌, true, false, List, [], ◌∷◌, ◌++◌, refl, sym, ap, subst, inl, inr, arith}
+use Rattle.std.specs.Prelude.{Bool}
 use Rattle.std.proofs.lemmas.Bool.{cases_eq}
 use Rattle.quorum_sets.specs.Ids.{Ids, has}
 use Rattle.conf_change.specs.Configuration.{Configuration}
@@ -27,7 +28,7 @@ use Rattle.raft_safety.proofs.Etcd.ServerActions.{restart-keeps_etcd}
 use Rattle.raft_safety.proofs.Etcd.LeaderActions.{become_leader-keeps_etcd, propose-keeps_etcd, send-keeps, commitment-keeps, apply-keeps}
 use Rattle.raft_safety.proofs.Etcd.Theorem.{actions_keep}
 use Rattle.raft_safety.proofs.Disk.Memory.{GoesOn, GoesOn-refl, GoesOn-durable, AreOwn, all_allowed_later, all_beside}
-use Rattle.raft_safety.proofs.Disk.Invariants.{IsRaised, AreDiskInvariants, Grows, Grows-refl, leaders_stay, all_own_grow, known_on_disk, IsSaved-later, IsRaised-later, IsKnown-later}
+use Rattle.raft_safety.proofs.Disk.Invariants.{IsRaised, AreDiskInvariants, Grows, Grows-refl, leaders_stay, all_own_grow, known_on_disk, looks-stay, IsSaved-later, IsRaised-later, IsKnown-later}
 
 -- ---- lists of actions
 own_both : (server : ℕ) (one other : List EtcdAction) → AreOwn server one → AreOwn server other → AreOwn server (one ++ other)
@@ -88,6 +89,7 @@ led_on : (e : EtcdCluster) (d : Cluster) (applied : ℕ → ℕ → Log) → d.s
     → DoLeadersGrow e.cluster d → (k : ℕ) → GoesOn k e (record e { cluster = d; applied = applied })
 led_on e d applied servers votes requests acknowledgements g k = record {
   same = ap (λ (h : ℕ → Server). h k) servers;
+  looks = refl;
   own_votes = λ v x o. subst (In v) votes x;
   requests = λ r x. subst (In r) (sym requests) x;
   appends = λ a x. x;
@@ -122,12 +124,12 @@ campaign-keeps_disk first d server term may i =
 -- ---- on disk
 -- a commit index is durable if at most one change of the log is beyond it
 durable-keeps : (first : Configuration) (e : EtcdCluster) (server : ℕ) (commit : Log) → AreEtcdInvariants first e → IsPrefix commit (e.cluster.servers server).committed
-    → IsOneChangeBeyond first (e.cluster.servers server).log commit → AreEtcdInvariants first (record e { durable = with_value e.durable server commit })
+    → (e.looks server ≡ false → IsOneChangeBeyond first (e.cluster.servers server).log commit) → AreEtcdInvariants first (record e { durable = with_value e.durable server commit })
 durable-keeps first e server commit i committed few = record {
   core = i.core;
-  durable = λ k. with_value-each (IsDurable first (e.cluster.servers k).log (e.cluster.servers k).committed) e.durable server commit k
-      (λ same. subst (λ (q : ℕ). IsDurable first (e.cluster.servers q).log (e.cluster.servers q).committed commit) (sym same) (record { committed = committed; one_change_beyond = few }))
-      (λ other. i.durable k);
+  durable = λ k not. with_value-each (IsDurable first (e.cluster.servers k).log (e.cluster.servers k).committed) e.durable server commit k
+      (λ same. subst (λ (q : ℕ). IsDurable first (e.cluster.servers q).log (e.cluster.servers q).committed commit) (sym same) (record { committed = committed; one_change_beyond = few (subst (λ (q : ℕ). e.looks q ≡ false) same not) }))
+      (λ other. i.durable k not);
   applied = i.applied;
   candidacies = i.candidacies;
   appends = i.appends;
@@ -147,7 +149,7 @@ save-keeps first d server saved rest commit may i =
     let grown : Grows d.disk.cluster after.cluster = all_own_grow server d.disk saved own_saved in
     let g : Grows d.disk.cluster f.cluster = record { leaders = grown.leaders; requests = grown.requests; votes = grown.votes; acknowledgements = grown.acknowledgements; commitments = grown.commitments } in
     let durable : ℕ → Log = with_value after.durable server commit in (
-      goes_over_at first d f server rest i (durable-keeps first after server commit kept may.committed may.commit_kept) g own_left
+      goes_over_at first d f server rest i (durable-keeps first after server commit kept may.committed (λ not. may.commit_kept (subst (λ (h : ℕ → Bool). h server ≡ false) (looks-stay d.disk saved) not))) g own_left
           (all_allowed_later first server after f (GoesOn-durable server after after durable (GoesOn-refl server after)) rest own_left (allowed_rest first d.disk saved rest allowed))
           (λ k other. GoesOn-durable k d.disk after durable (all_beside server k other d.disk saved own_saved)),
       g,
@@ -198,6 +200,7 @@ send-keeps_disk first d term leader before entries may i =
       goes_over first d f i (send-keeps first e term leader before entries may i.disk) (Grows-refl e.cluster)
           (λ k. record {
             same = refl;
+            looks = refl;
             own_votes = λ v x o. x;
             requests = λ r x. x;
             appends = λ a x. inr x;
@@ -325,6 +328,7 @@ crash-keeps first d server known applied configured may i =
     let over : AreDiskInvariants first (record d { disk = f; unsaved = with_value d.unsaved server [] }) =
     goes_over_at first d f server [] i (restart-keeps_etcd first e server known may.restarts i.disk) g tt tt (λ k other. record {
       same = with_value-there c.servers server (record (c.servers server) { committed = known }) k other;
+      looks = refl;
       own_votes = λ v x o. x;
       requests = λ r x. x;
       appends = λ a x. x;

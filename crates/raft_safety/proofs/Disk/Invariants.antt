@@ -1,5 +1,5 @@
 -- The invariants where memory and disk are apart, and what they need to go over from one state of the disks to a later one.
-use Rattle.std.proofs.Common.{◌≡◌, ℕ, true, List, [], ◌∷◌, refl, sym, subst, inl, inr}
+use Rattle.std.proofs.Common.{◌≡◌, ℕ, true, List, [], ◌∷◌, refl, sym, subst, ◌∙◌, inl, inr}
 use Rattle.quorum_sets.specs.Ids.{has}
 use Rattle.conf_change.specs.Configuration.{Configuration}
 use Rattle.raft_safety.specs.Logs.{Log, IsPrefix, last_term}
@@ -125,6 +125,25 @@ all_commit_nothing server e (action ∷ actions) own m x = commits_nothing serve
 pub known_on_disk : (server : ℕ) (e : EtcdCluster) (actions : List EtcdAction) → AreOwn server actions → (bound : ℕ) (log : Log) → IsKnown (after_etcd_actions e actions).cluster bound log → IsKnown e.cluster bound log
 known_on_disk server e actions own bound log (inl none) = inl none
 known_on_disk server e actions own bound log (inr m) = inr (m.0, all_commit_nothing server e actions own m.0 m.1, m.2, m.3)
+
+-- who looks stays as it is
+looks-after : (e : EtcdCluster) (action : EtcdAction) → (after_etcd_action e action).looks ≡ e.looks
+looks-after e (Campaign s term applied) = refl
+looks-after e (SeeTerm s term) = refl
+looks-after e (GrantVote s request) = refl
+looks-after e (BecomeLeader candidacy votes) = refl
+looks-after e (Propose term leader entry) = refl
+looks-after e (Send term leader before entries) = refl
+looks-after e (Receive s append) = refl
+looks-after e (Answer s term leader) = refl
+looks-after e (Heartbeat s term leader known) = refl
+looks-after e (Commit term leader log servers) = refl
+looks-after e (Apply term leader log) = refl
+looks-after e (Restart s known) = refl
+
+pub looks-stay : (e : EtcdCluster) (actions : List EtcdAction) → (after_etcd_actions e actions).looks ≡ e.looks
+looks-stay e [] = refl
+looks-stay e (action ∷ actions) = looks-stay (after_etcd_action e action) actions ∙ looks-after e action
 
 -- ---- what goes over
 pub IsSaved-later : (e f : EtcdCluster) → Grows e.cluster f.cluster → (message : Message) → IsSaved e message → IsSaved f message

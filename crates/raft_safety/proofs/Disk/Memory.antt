@@ -1,13 +1,13 @@
 -- What a server does in memory stays allowed, and leaves it in the same state, while others go on: it hangs on the server
 -- itself, on its own votes, and on what only grows.
 use Rattle.std.proofs.Common.{◌≡◌, ℕ, ◌<◌, ◌≤◌, List, [], ◌∷◌, refl, sym, ap, subst, ◌∙◌, inl, inr}
+use Rattle.std.specs.Prelude.{Bool}
 use Rattle.conf_change.specs.Configuration.{Configuration}
 use Rattle.raft_safety.specs.Logs.{Log, IsPrefix, IsUpToDate, longer}
-use Rattle.raft_safety.specs.Configurations.{voter_changes}
 use Rattle.raft_safety.specs.Cluster.{Server, Vote, VoteRequest, Acknowledgement, In, Leads, with_value}
 use Rattle.raft_safety.specs.Appending.{upto, term_at}
 use Rattle.raft_safety.specs.EtcdCluster.{Append, EtcdCluster}
-use Rattle.raft_safety.specs.EtcdRules.{EtcdAction, Campaign, SeeTerm, GrantVote, BecomeLeader, Propose, Send, Receive, Answer, Heartbeat, Commit, Apply, Restart, IsAllowedByEtcd}
+use Rattle.raft_safety.specs.EtcdRules.{IsReady, EtcdAction, Campaign, SeeTerm, GrantVote, BecomeLeader, Propose, Send, Receive, Answer, Heartbeat, Commit, Apply, Restart, IsAllowedByEtcd}
 use Rattle.raft_safety.specs.EtcdRuns.{last_index, after_append, after_etcd_action, after_etcd_actions, AreAllowedByEtcd}
 use Rattle.raft_safety.specs.DiskRules.{IsOwn}
 use Rattle.raft_safety.proofs.Logs.{IsPrefix-refl, IsPrefix-trans}
@@ -16,6 +16,7 @@ use Rattle.raft_safety.proofs.Updates.{with_value-here, with_value-there}
 -- the server is as it was, has no more votes, and all else has grown
 pub record GoesOn (server : ℕ) (e f : EtcdCluster) : Type 0 where
   pub same : f.cluster.servers server ≡ e.cluster.servers server
+  pub looks : f.looks server ≡ e.looks server
   pub own_votes : (vote : Vote) → In vote f.cluster.votes → vote.voter ≡ server → In vote e.cluster.votes
   pub requests : (r : VoteRequest) → In r e.cluster.requests → In r f.cluster.requests
   pub appends : (a : Append) → In a e.appends → In a f.appends
@@ -26,6 +27,7 @@ pub record GoesOn (server : ℕ) (e f : EtcdCluster) : Type 0 where
 pub GoesOn-refl : (server : ℕ) (e : EtcdCluster) → GoesOn server e e
 GoesOn-refl server e = record {
   same = refl;
+  looks = refl;
   own_votes = λ v x o. x;
   requests = λ r x. x;
   appends = λ a x. x;
@@ -37,6 +39,7 @@ GoesOn-refl server e = record {
 pub GoesOn-trans : (server : ℕ) (e f h : EtcdCluster) → GoesOn server e f → GoesOn server f h → GoesOn server e h
 GoesOn-trans server e f h g k = record {
   same = k.same ∙ g.same;
+  looks = k.looks ∙ g.looks;
   own_votes = λ v x o. g.own_votes v (k.own_votes v x o) o;
   requests = λ r x. k.requests r (g.requests r x);
   appends = λ a x. k.appends a (g.appends a x);
@@ -49,6 +52,7 @@ GoesOn-trans server e f h g k = record {
 pub GoesOn-durable : (server : ℕ) (e f : EtcdCluster) (durable : ℕ → Log) → GoesOn server e f → GoesOn server e (record f { durable = durable })
 GoesOn-durable server e f durable g = record {
   same = g.same;
+  looks = g.looks;
   own_votes = g.own_votes;
   requests = g.requests;
   appends = g.appends;
@@ -67,7 +71,8 @@ allowed_later first server e f g (Campaign s term applied) own may =
     record {
       later = subst (λ (x : Server). x.term < term) (sym at) may.later;
       committed = subst (λ (x : Server). IsPrefix applied x.committed) (sym at) may.committed;
-      all_applied = subst (λ (x : Server). voter_changes first applied ≡ voter_changes first x.committed) (sym at) may.all_applied;
+      ready = subst (λ (b : Bool). IsReady first b (f.cluster.servers s) applied) (sym (subst (λ (q : ℕ). f.looks q ≡ e.looks q) (sym own) g.looks))
+          (subst (λ (x : Server). IsReady first (e.looks s) x applied) (sym at) may.ready);
     }
 allowed_later first server e f g (SeeTerm s term) own may =
     record { higher = subst (λ (x : Server). x.term < term) (sym (server_at server s e f g own)) may.higher }
@@ -118,6 +123,7 @@ after_later server e f g (Campaign s term applied) own =
     record {
       same = same_after e.cluster.servers f.cluster.servers s server (record (f.cluster.servers s) { term = term }) (record (e.cluster.servers s) { term = term }) own
           (ap (λ (x : Server). record x { term = term }) at);
+      looks = g.looks;
       own_votes = λ v x o. elim x [ inl is ↦ inl is | inr in_f ↦ inr (g.own_votes v in_f o) ];
       requests = λ r x. elim x [
         | inl is ↦ inl (is ∙ ap (λ (y : Server). record { term = term; candidate = s; log = y.log; committed = y.committed }) (sym at))
@@ -133,6 +139,7 @@ after_later server e f g (SeeTerm s term) own =
     record {
       same = same_after e.cluster.servers f.cluster.servers s server (record (f.cluster.servers s) { term = term }) (record (e.cluster.servers s) { term = term }) own
           (ap (λ (x : Server). record x { term = term }) at);
+      looks = g.looks;
       own_votes = g.own_votes;
       requests = g.requests;
       appends = g.appends;
@@ -145,6 +152,7 @@ after_later server e f g (GrantVote s request) own =
     record {
       same = same_after e.cluster.servers f.cluster.servers s server (record (f.cluster.servers s) { term = request.term }) (record (e.cluster.servers s) { term = request.term }) own
           (ap (λ (x : Server). record x { term = request.term }) at);
+      looks = g.looks;
       own_votes = λ v x o. elim x [ inl is ↦ inl is | inr in_f ↦ inr (g.own_votes v in_f o) ];
       requests = g.requests;
       appends = g.appends;
@@ -157,6 +165,7 @@ after_later server e f g (Receive s append) own =
     record {
       same = same_after e.cluster.servers f.cluster.servers s server (after_append (f.cluster.servers s) append) (after_append (e.cluster.servers s) append) own
           (ap (λ (x : Server). after_append x append) at);
+      looks = g.looks;
       own_votes = g.own_votes;
       requests = g.requests;
       appends = g.appends;
@@ -172,6 +181,7 @@ after_later server e f g (Answer s term leader) own =
     record {
       same = same_after e.cluster.servers f.cluster.servers s server (record (f.cluster.servers s) { term = term }) (record (e.cluster.servers s) { term = term }) own
           (ap (λ (x : Server). record x { term = term }) at);
+      looks = g.looks;
       own_votes = g.own_votes;
       requests = g.requests;
       appends = g.appends;
@@ -189,6 +199,7 @@ after_later server e f g (Heartbeat s term leader known) own =
           (record (f.cluster.servers s) { term = term; committed = longer (f.cluster.servers s).committed known })
           (record (e.cluster.servers s) { term = term; committed = longer (e.cluster.servers s).committed known }) own
           (ap (λ (x : Server). record x { term = term; committed = longer x.committed known }) at);
+      looks = g.looks;
       own_votes = g.own_votes;
       requests = g.requests;
       appends = g.appends;
@@ -209,6 +220,7 @@ beside server k other e (Campaign s term applied) own =
     let apart : k ≡ s → ⊥ = λ is. other (is ∙ own) in
     record {
       same = with_value-there e.cluster.servers s (record (e.cluster.servers s) { term = term }) k apart;
+      looks = refl;
       own_votes = λ v x o. elim x [ inl is ↦ absurd (apart (sym o ∙ ap (λ (y : Vote). y.voter) is)) | inr in_e ↦ in_e ];
       requests = λ r x. inr x;
       appends = λ a x. x;
@@ -219,6 +231,7 @@ beside server k other e (Campaign s term applied) own =
 beside server k other e (SeeTerm s term) own =
     record {
       same = with_value-there e.cluster.servers s (record (e.cluster.servers s) { term = term }) k (λ is. other (is ∙ own));
+      looks = refl;
       own_votes = λ v x o. x;
       requests = λ r x. x;
       appends = λ a x. x;
@@ -230,6 +243,7 @@ beside server k other e (GrantVote s request) own =
     let apart : k ≡ s → ⊥ = λ is. other (is ∙ own) in
     record {
       same = with_value-there e.cluster.servers s (record (e.cluster.servers s) { term = request.term }) k apart;
+      looks = refl;
       own_votes = λ v x o. elim x [ inl is ↦ absurd (apart (sym o ∙ ap (λ (y : Vote). y.voter) is)) | inr in_e ↦ in_e ];
       requests = λ r x. x;
       appends = λ a x. x;
@@ -240,6 +254,7 @@ beside server k other e (GrantVote s request) own =
 beside server k other e (Receive s append) own =
     record {
       same = with_value-there e.cluster.servers s (after_append (e.cluster.servers s) append) k (λ is. other (is ∙ own));
+      looks = refl;
       own_votes = λ v x o. x;
       requests = λ r x. x;
       appends = λ a x. x;
@@ -250,6 +265,7 @@ beside server k other e (Receive s append) own =
 beside server k other e (Answer s term leader) own =
     record {
       same = with_value-there e.cluster.servers s (record (e.cluster.servers s) { term = term }) k (λ is. other (is ∙ own));
+      looks = refl;
       own_votes = λ v x o. x;
       requests = λ r x. x;
       appends = λ a x. x;
@@ -260,6 +276,7 @@ beside server k other e (Answer s term leader) own =
 beside server k other e (Heartbeat s term leader known) own =
     record {
       same = with_value-there e.cluster.servers s (record (e.cluster.servers s) { term = term; committed = longer (e.cluster.servers s).committed known }) k (λ is. other (is ∙ own));
+      looks = refl;
       own_votes = λ v x o. x;
       requests = λ r x. x;
       appends = λ a x. x;

@@ -1,6 +1,7 @@
 -- The theorem where memory and disk are apart: the invariants hold before anything happens, each action keeps them, and the
 -- claims follow.
-use Rattle.std.proofs.Common.{◌≡◌, ◌+◌, List, [], ◌∷◌, ◌++◌, refl, sym, subst, inr}
+use Rattle.std.proofs.Common.{◌≡◌, ℕ, ◌+◌, List, [], ◌∷◌, ◌++◌, refl, sym, subst, inr}
+use Rattle.std.specs.Prelude.{Bool}
 use Rattle.conf_change.specs.Configuration.{Configuration}
 use Rattle.raft_safety.specs.Cluster.{Cluster, In}
 use Rattle.raft_safety.specs.Claims.{ElectionSafety, LeaderCompleteness, CommittedIsStored, LogMatching, StateMachineSafety, CommitOneLog}
@@ -14,9 +15,9 @@ use Rattle.raft_safety.proofs.Etcd.Theorem.{new_holds}
 use Rattle.raft_safety.proofs.Disk.Invariants.{AreDiskInvariants, Grows, Grows-refl, Grows-trans}
 use Rattle.raft_safety.proofs.Disk.Actions.{disk_action_keeps, known_in_memory}
 
-new_holds_disk : (first : Configuration) → AreDiskInvariants first new_disk_cluster
-new_holds_disk first = record {
-  disk = new_holds first;
+new_holds_disk : (first : Configuration) (looks : ℕ → Bool) → AreDiskInvariants first (new_disk_cluster looks)
+new_holds_disk first looks = record {
+  disk = new_holds first looks;
   own = λ server. tt;
   allowed = λ server. tt;
   said = λ m x. absurd x;
@@ -36,8 +37,8 @@ disks_grow first d (action ∷ actions) allowed i =
     Grows-trans d.disk.cluster (after_disk_action d action).disk.cluster (after_disk_actions (after_disk_action d action) actions).disk.cluster
     step.1 (disks_grow first (after_disk_action d action) actions allowed.1 step.0)
 
-reached_disk : (first : Configuration) (actions : List DiskAction) → AreAllowedOnDisk first new_disk_cluster actions → AreDiskInvariants first (after_disk_actions new_disk_cluster actions)
-reached_disk first actions allowed = disk_actions_keep first new_disk_cluster actions allowed (new_holds_disk first)
+reached_disk : (first : Configuration) (looks : ℕ → Bool) (actions : List DiskAction) → AreAllowedOnDisk first (new_disk_cluster looks) actions → AreDiskInvariants first (after_disk_actions (new_disk_cluster looks) actions)
+reached_disk first looks actions allowed = disk_actions_keep first (new_disk_cluster looks) actions allowed (new_holds_disk first looks)
 
 -- ---- two moments
 after_both : (d : DiskCluster) (early late : List DiskAction) → after_disk_actions d (early ++ late) ≡ after_disk_actions (after_disk_actions d early) late
@@ -52,12 +53,12 @@ allowed_then : (first : Configuration) (d : DiskCluster) (early late : List Disk
 allowed_then first d [] late allowed = allowed
 allowed_then first d (action ∷ early) late allowed = allowed_then first (after_disk_action d action) early late allowed.1
 
-commitments_kept : (first : Configuration) (early late : List DiskAction) → AreAllowedOnDisk first new_disk_cluster (early ++ late)
-    → AreCommitmentsKept (after_disk_actions new_disk_cluster early).disk.cluster (after_disk_actions new_disk_cluster (early ++ late)).disk.cluster
-commitments_kept first early late allowed m x =
-    let mid : DiskCluster = after_disk_actions new_disk_cluster early in
-    subst (λ (d : DiskCluster). In m d.disk.cluster.commitments) (sym (after_both new_disk_cluster early late))
-    ((disks_grow first mid late (allowed_then first new_disk_cluster early late allowed) (reached_disk first early (allowed_first first new_disk_cluster early late allowed))).commitments m x)
+commitments_kept : (first : Configuration) (looks : ℕ → Bool) (early late : List DiskAction) → AreAllowedOnDisk first (new_disk_cluster looks) (early ++ late)
+    → AreCommitmentsKept (after_disk_actions (new_disk_cluster looks) early).disk.cluster (after_disk_actions (new_disk_cluster looks) (early ++ late)).disk.cluster
+commitments_kept first looks early late allowed m x =
+    let mid : DiskCluster = after_disk_actions (new_disk_cluster looks) early in
+    subst (λ (d : DiskCluster). In m d.disk.cluster.commitments) (sym (after_both (new_disk_cluster looks) early late))
+    ((disks_grow first mid late (allowed_then first (new_disk_cluster looks) early late allowed) (reached_disk first looks early (allowed_first first (new_disk_cluster looks) early late allowed))).commitments m x)
 
 -- what was given stays given
 given_after : (d : DiskCluster) (action : DiskAction) (v : Given) → In v d.given → In v (after_disk_action d action).given
@@ -79,47 +80,47 @@ given_stays d [] v x = x
 given_stays d (action ∷ actions) v x = given_stays (after_disk_action d action) actions v (given_after d action v x)
 
 -- ---- the claims
-pub ElectionSafety-reached_disk : (first : Configuration) (actions : List DiskAction) → AreAllowedOnDisk first new_disk_cluster actions → ElectionSafety (after_disk_actions new_disk_cluster actions).disk.cluster
-ElectionSafety-reached_disk first actions allowed = ElectionSafety-from_invariants first (after_disk_actions new_disk_cluster actions).disk.cluster (reached_disk first actions allowed).disk.core
+pub ElectionSafety-reached_disk : (first : Configuration) (looks : ℕ → Bool) (actions : List DiskAction) → AreAllowedOnDisk first (new_disk_cluster looks) actions → ElectionSafety (after_disk_actions (new_disk_cluster looks) actions).disk.cluster
+ElectionSafety-reached_disk first looks actions allowed = ElectionSafety-from_invariants first (after_disk_actions (new_disk_cluster looks) actions).disk.cluster (reached_disk first looks actions allowed).disk.core
 
-pub LeaderCompleteness-reached_disk : (first : Configuration) (actions : List DiskAction) → AreAllowedOnDisk first new_disk_cluster actions → LeaderCompleteness (after_disk_actions new_disk_cluster actions).disk.cluster
-LeaderCompleteness-reached_disk first actions allowed = LeaderCompleteness-from_invariants first (after_disk_actions new_disk_cluster actions).disk.cluster (reached_disk first actions allowed).disk.core
+pub LeaderCompleteness-reached_disk : (first : Configuration) (looks : ℕ → Bool) (actions : List DiskAction) → AreAllowedOnDisk first (new_disk_cluster looks) actions → LeaderCompleteness (after_disk_actions (new_disk_cluster looks) actions).disk.cluster
+LeaderCompleteness-reached_disk first looks actions allowed = LeaderCompleteness-from_invariants first (after_disk_actions (new_disk_cluster looks) actions).disk.cluster (reached_disk first looks actions allowed).disk.core
 
-pub LogMatching-reached_disk : (first : Configuration) (actions : List DiskAction) → AreAllowedOnDisk first new_disk_cluster actions → LogMatching (after_disk_actions new_disk_cluster actions).disk.cluster
-LogMatching-reached_disk first actions allowed = LogMatching-from_invariants first (after_disk_actions new_disk_cluster actions).disk.cluster (reached_disk first actions allowed).disk.core
+pub LogMatching-reached_disk : (first : Configuration) (looks : ℕ → Bool) (actions : List DiskAction) → AreAllowedOnDisk first (new_disk_cluster looks) actions → LogMatching (after_disk_actions (new_disk_cluster looks) actions).disk.cluster
+LogMatching-reached_disk first looks actions allowed = LogMatching-from_invariants first (after_disk_actions (new_disk_cluster looks) actions).disk.cluster (reached_disk first looks actions allowed).disk.core
 
-pub CommittedIsStored-reached_disk : (first : Configuration) (actions : List DiskAction) → AreAllowedOnDisk first new_disk_cluster actions → CommittedIsStored (after_disk_actions new_disk_cluster actions).disk.cluster
-CommittedIsStored-reached_disk first actions allowed = CommittedIsStored-from_invariants first (after_disk_actions new_disk_cluster actions).disk.cluster (reached_disk first actions allowed).disk.core
+pub CommittedIsStored-reached_disk : (first : Configuration) (looks : ℕ → Bool) (actions : List DiskAction) → AreAllowedOnDisk first (new_disk_cluster looks) actions → CommittedIsStored (after_disk_actions (new_disk_cluster looks) actions).disk.cluster
+CommittedIsStored-reached_disk first looks actions allowed = CommittedIsStored-from_invariants first (after_disk_actions (new_disk_cluster looks) actions).disk.cluster (reached_disk first looks actions allowed).disk.core
 
-pub CommitOneLog-reached_disk : (first : Configuration) (early late : List DiskAction) → AreAllowedOnDisk first new_disk_cluster (early ++ late)
-    → CommitOneLog (after_disk_actions new_disk_cluster early).disk.cluster (after_disk_actions new_disk_cluster (early ++ late)).disk.cluster
-CommitOneLog-reached_disk first early late allowed =
-    CommitOneLog-from_invariants first (after_disk_actions new_disk_cluster early).disk.cluster (after_disk_actions new_disk_cluster (early ++ late)).disk.cluster
-    (reached_disk first early (allowed_first first new_disk_cluster early late allowed)).disk.core (reached_disk first (early ++ late) allowed).disk.core (commitments_kept first early late allowed)
+pub CommitOneLog-reached_disk : (first : Configuration) (looks : ℕ → Bool) (early late : List DiskAction) → AreAllowedOnDisk first (new_disk_cluster looks) (early ++ late)
+    → CommitOneLog (after_disk_actions (new_disk_cluster looks) early).disk.cluster (after_disk_actions (new_disk_cluster looks) (early ++ late)).disk.cluster
+CommitOneLog-reached_disk first looks early late allowed =
+    CommitOneLog-from_invariants first (after_disk_actions (new_disk_cluster looks) early).disk.cluster (after_disk_actions (new_disk_cluster looks) (early ++ late)).disk.cluster
+    (reached_disk first looks early (allowed_first first (new_disk_cluster looks) early late allowed)).disk.core (reached_disk first looks (early ++ late) allowed).disk.core (commitments_kept first looks early late allowed)
 
-pub StateMachineSafety-reached_disk : (first : Configuration) (early late : List DiskAction) → AreAllowedOnDisk first new_disk_cluster (early ++ late)
-    → StateMachineSafety (after_disk_actions new_disk_cluster early).disk.cluster (after_disk_actions new_disk_cluster (early ++ late)).disk.cluster
-StateMachineSafety-reached_disk first early late allowed =
-    StateMachineSafety-from_invariants first (after_disk_actions new_disk_cluster early).disk.cluster (after_disk_actions new_disk_cluster (early ++ late)).disk.cluster
-    (reached_disk first early (allowed_first first new_disk_cluster early late allowed)).disk.core (reached_disk first (early ++ late) allowed).disk.core (commitments_kept first early late allowed)
+pub StateMachineSafety-reached_disk : (first : Configuration) (looks : ℕ → Bool) (early late : List DiskAction) → AreAllowedOnDisk first (new_disk_cluster looks) (early ++ late)
+    → StateMachineSafety (after_disk_actions (new_disk_cluster looks) early).disk.cluster (after_disk_actions (new_disk_cluster looks) (early ++ late)).disk.cluster
+StateMachineSafety-reached_disk first looks early late allowed =
+    StateMachineSafety-from_invariants first (after_disk_actions (new_disk_cluster looks) early).disk.cluster (after_disk_actions (new_disk_cluster looks) (early ++ late)).disk.cluster
+    (reached_disk first looks early (allowed_first first (new_disk_cluster looks) early late allowed)).disk.core (reached_disk first looks (early ++ late) allowed).disk.core (commitments_kept first looks early late allowed)
 
-pub AreGivenOneLog-reached_disk : (first : Configuration) (early late : List DiskAction) → AreAllowedOnDisk first new_disk_cluster (early ++ late)
-    → AreGivenOneLog (after_disk_actions new_disk_cluster early) (after_disk_actions new_disk_cluster (early ++ late))
-AreGivenOneLog-reached_disk first early late allowed one other in_early in_late =
-    let c : Cluster = (after_disk_actions new_disk_cluster (early ++ late)).disk.cluster in
-    let i : AreDiskInvariants first (after_disk_actions new_disk_cluster (early ++ late)) = reached_disk first (early ++ late) allowed in
-    let still : In one (after_disk_actions new_disk_cluster (early ++ late)).given = subst (λ (d : DiskCluster). In one d.given) (sym (after_both new_disk_cluster early late))
-    (given_stays (after_disk_actions new_disk_cluster early) late one in_early) in
+pub AreGivenOneLog-reached_disk : (first : Configuration) (looks : ℕ → Bool) (early late : List DiskAction) → AreAllowedOnDisk first (new_disk_cluster looks) (early ++ late)
+    → AreGivenOneLog (after_disk_actions (new_disk_cluster looks) early) (after_disk_actions (new_disk_cluster looks) (early ++ late))
+AreGivenOneLog-reached_disk first looks early late allowed one other in_early in_late =
+    let c : Cluster = (after_disk_actions (new_disk_cluster looks) (early ++ late)).disk.cluster in
+    let i : AreDiskInvariants first (after_disk_actions (new_disk_cluster looks) (early ++ late)) = reached_disk first looks (early ++ late) allowed in
+    let still : In one (after_disk_actions (new_disk_cluster looks) (early ++ late)).given = subst (λ (d : DiskCluster). In one d.given) (sym (after_both (new_disk_cluster looks) early late))
+    (given_stays (after_disk_actions (new_disk_cluster looks) early) late one in_early) in
     let a = i.given one still in
     let b = i.given other in_late in
     IsKnown-two_states first c c i.disk.core (λ m x. x) a.0 b.0 one.log other.log a.1 b.1
 
-pub KnowOneLog-reached_disk : (first : Configuration) (early late : List DiskAction) → AreAllowedOnDisk first new_disk_cluster (early ++ late)
-    → KnowOneLog (after_disk_actions new_disk_cluster early) (after_disk_actions new_disk_cluster (early ++ late))
-KnowOneLog-reached_disk first early late allowed one other =
-    let d : DiskCluster = after_disk_actions new_disk_cluster early in
-    let f : DiskCluster = after_disk_actions new_disk_cluster (early ++ late) in
-    let i : AreDiskInvariants first d = reached_disk first early (allowed_first first new_disk_cluster early late allowed) in
-    let j : AreDiskInvariants first f = reached_disk first (early ++ late) allowed in
-    IsKnown-two_states first d.disk.cluster f.disk.cluster j.disk.core (commitments_kept first early late allowed) ((in_memory d one).term + 1) ((in_memory f other).term + 1)
+pub KnowOneLog-reached_disk : (first : Configuration) (looks : ℕ → Bool) (early late : List DiskAction) → AreAllowedOnDisk first (new_disk_cluster looks) (early ++ late)
+    → KnowOneLog (after_disk_actions (new_disk_cluster looks) early) (after_disk_actions (new_disk_cluster looks) (early ++ late))
+KnowOneLog-reached_disk first looks early late allowed one other =
+    let d : DiskCluster = after_disk_actions (new_disk_cluster looks) early in
+    let f : DiskCluster = after_disk_actions (new_disk_cluster looks) (early ++ late) in
+    let i : AreDiskInvariants first d = reached_disk first looks early (allowed_first first (new_disk_cluster looks) early late allowed) in
+    let j : AreDiskInvariants first f = reached_disk first looks (early ++ late) allowed in
+    IsKnown-two_states first d.disk.cluster f.disk.cluster j.disk.core (commitments_kept first looks early late allowed) ((in_memory d one).term + 1) ((in_memory f other).term + 1)
     (in_memory d one).committed (in_memory f other).committed (known_in_memory first d i one) (known_in_memory first f j other)

@@ -1,49 +1,40 @@
 -- Each action of etcd's servers is one of Steps.antt: what etcd asks is no less, as far as the invariants hold.
 use Rattle.std.proofs.Common.{◌≡◌, ℕ, ◌+◌, ◌≤◌, ◌<◌, min, [], ◌∷◌, ◌++◌, length, refl, sym, ap, subst, ◌∙◌, inl, inr, arith, length-append}
-use Rattle.std.specs.Prelude.{IsTrue, nat_lt}
+use Rattle.std.specs.Prelude.{Bool, nat_lt}
 use Rattle.std.proofs.Math.Nat.{min-eq_left, min-eq_right}
-use Rattle.std.proofs.lemmas.Bool.{cases_lt, cond-false}
+use Rattle.std.proofs.lemmas.Bool.{cases_Bool, cases_lt, cond-false}
 use Rattle.std.proofs.lemmas.Bool.Decides.{nat_tests}
 use Rattle.quorum_sets.specs.Ids.{Ids}
-use Rattle.quorum_sets.specs.Voters.{Voters, is_quorum}
 use Rattle.conf_change.specs.Configuration.{Configuration}
 use Rattle.raft_safety.specs.Logs.{Log, IsPrefix, last_term, longer}
-use Rattle.raft_safety.specs.Configurations.{voters_after, voter_changes, IsQuorumAfter, IsOneChangeBeyond}
+use Rattle.raft_safety.specs.Configurations.{voter_changes, IsOneChangeBeyond}
 use Rattle.raft_safety.specs.Cluster.{Server, Leadership, Cluster, Leads}
-use Rattle.raft_safety.specs.Steps.{MayCampaign, MayBecomeLeader, MayReceive, MayCommit, IsLogAfter}
+use Rattle.raft_safety.specs.Steps.{MayCampaign, MayReceive, MayCommit, IsLogAfter}
 use Rattle.raft_safety.specs.Appending.{upto, term_at, with_entries}
 use Rattle.raft_safety.specs.EtcdCluster.{Append, Candidacy, EtcdCluster}
-use Rattle.raft_safety.specs.EtcdRules.{MayBecomeLeaderApplied, MayTake, MayAnswer, MayTakeHeartbeat, MayCommitApplied, MayCampaignApplied}
+use Rattle.raft_safety.specs.EtcdRules.{IsReady, MayBecomeLeaderApplied, MayTake, MayAnswer, MayTakeHeartbeat, MayCommitApplied, MayCampaignApplied}
 use Rattle.raft_safety.specs.EtcdRuns.{last_index, known_by, commitment_of}
 use Rattle.raft_safety.proofs.Logs.{IsPrefix-refl, IsPrefix-trans, IsPrefix-empty, shorter-prefix}
-use Rattle.raft_safety.proofs.Configurations.{voter_changes-prefix, voters_after-same}
+use Rattle.raft_safety.proofs.Configurations.{voter_changes-prefix}
 use Rattle.raft_safety.proofs.Invariants.{AreInvariants, IsElectedWith-leads, IsKept, log_of}
 use Rattle.raft_safety.proofs.Safety.LedTerms.{led_terms-positive}
 use Rattle.raft_safety.proofs.Safety.KnownCommitted.{IsKnown-in_leader}
 use Rattle.raft_safety.proofs.FromLeaders.{IsFromLeaders-led, logs-match}
 use Rattle.raft_safety.proofs.Appending.{entry-found, entries-taken, upto-prefix}
+use Rattle.raft_safety.proofs.Steps.BecomeLeader.{MayBecomeLeaderBy}
 use Rattle.raft_safety.proofs.Etcd.Invariants.{IsAppend, AreEtcdInvariants}
-
-quorum_same : (first : Configuration) (a b : Log) (ids : Ids) → voters_after first a ≡ voters_after first b → IsQuorumAfter first a ids → IsQuorumAfter first b ids
-unfolding IsQuorumAfter
-quorum_same first a b ids same quorum = subst (λ (x : Voters). IsTrue (is_quorum x ids)) same quorum
 
 suffix : (entries start : Log) → IsPrefix start (entries ++ start)
 suffix [] start = IsPrefix-refl start
 suffix (entry ∷ entries) start = inr (suffix entries start)
 
 -- ---- actions that ask more than those of Steps.antt
--- a candidate that has applied what it knows to be committed counts by the configuration after that
-pub MayBecomeLeader-applied : (first : Configuration) (e : EtcdCluster) (candidacy : Candidacy) (votes : Ids) → AreEtcdInvariants first e → MayBecomeLeaderApplied first e candidacy votes → MayBecomeLeader first e.cluster candidacy.request votes
+-- a candidate counts by what it has applied
+pub MayBecomeLeader-applied : (first : Configuration) (e : EtcdCluster) (candidacy : Candidacy) (votes : Ids) → AreEtcdInvariants first e → MayBecomeLeaderApplied first e candidacy votes
+    → MayBecomeLeaderBy first e.cluster candidacy.request candidacy.applied votes
 MayBecomeLeader-applied first e candidacy votes i may =
     let its = i.candidacies candidacy may.asked in
-    let same : voter_changes first candidacy.applied ≡ voter_changes first candidacy.request.committed = its.all_applied in
-    record {
-      asked = its.asked;
-      not_yet = may.not_yet;
-      voted = may.voted;
-      quorum = quorum_same first candidacy.applied candidacy.request.committed votes (sym (voters_after-same first candidacy.applied candidacy.request.committed its.committed (omega arith))) may.quorum;
-    }
+    record { asked = its.asked; not_yet = may.not_yet; voted = may.voted; counts = its.counts; quorum = may.quorum }
 
 pub MayCommit-applied : (first : Configuration) (e : EtcdCluster) (term leader : ℕ) (log : Log) (servers : Ids) → AreEtcdInvariants first e → MayCommitApplied first e term leader log servers
     → MayCommit first e.cluster leader (commitment_of e term leader log servers)
@@ -62,14 +53,27 @@ MayCommit-applied first e term leader log servers i may =
       quorum = may.quorum;
     }
 
--- a candidate counts by all that it knows to be committed: beyond what is durable of that is at most one change
+-- who campaigns has applied all changes of its log but the last: it looks, or that is so of what is durable of its commit index
+pub applied-all_but_one : (first : Configuration) (e : EtcdCluster) (server term : ℕ) (applied : Log) → AreEtcdInvariants first e → MayCampaignApplied first e server term applied
+    → IsOneChangeBeyond first (e.cluster.servers server).log applied
+applied-all_but_one first e server term applied i may =
+    let old : Server = e.cluster.servers server in
+    elim (cases_Bool (e.looks server)) [
+      | inl looks ↦ subst (λ (b : Bool). IsReady first b old applied) looks may.ready
+      | inr not ↦ (
+          let was = i.durable server not in
+          let few : voter_changes first old.log ≤ voter_changes first (e.durable server) + 1 = was.one_change_beyond in
+          let s : voter_changes first (e.durable server) ≤ voter_changes first old.committed = voter_changes-prefix first (e.durable server) old.committed was.committed in
+          let all : voter_changes first applied ≡ voter_changes first old.committed = subst (λ (b : Bool). IsReady first b old applied) not may.ready in
+          omega arith)
+    ]
+
 pub MayCampaign-applied : (first : Configuration) (e : EtcdCluster) (server term : ℕ) (applied : Log) → AreEtcdInvariants first e → MayCampaignApplied first e server term applied
     → MayCampaign first e.cluster server term (e.cluster.servers server).committed
 MayCampaign-applied first e server term applied i may =
     let old : Server = e.cluster.servers server in
-    let was = i.durable server in
-    let few : voter_changes first old.log ≤ voter_changes first (e.durable server) + 1 = was.one_change_beyond in
-    let s : voter_changes first (e.durable server) ≤ voter_changes first old.committed = voter_changes-prefix first (e.durable server) old.committed was.committed in
+    let few : voter_changes first old.log ≤ voter_changes first applied + 1 = applied-all_but_one first e server term applied i may in
+    let s : voter_changes first applied ≤ voter_changes first old.committed = voter_changes-prefix first applied old.committed may.committed in
     record { later = may.later; committed = IsPrefix-refl old.committed; one_change_beyond = omega arith }
 
 -- ---- a heartbeat: the server has what it acknowledged

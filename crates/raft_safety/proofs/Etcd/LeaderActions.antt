@@ -13,7 +13,7 @@ use Rattle.raft_safety.specs.EtcdRuns.{commitment_of, after_etcd_action}
 use Rattle.raft_safety.proofs.Logs.{IsPrefix-refl, IsPrefix-trans}
 use Rattle.raft_safety.proofs.Configurations.{voter_changes-prefix, voter_changes-entry}
 use Rattle.raft_safety.proofs.Invariants.{IsElectedWith-leads, log_of}
-use Rattle.raft_safety.proofs.Steps.BecomeLeader.{become_leader-keeps}
+use Rattle.raft_safety.proofs.Steps.BecomeLeader.{become_leader_by-keeps}
 use Rattle.raft_safety.proofs.Steps.Propose.{propose-keeps}
 use Rattle.raft_safety.proofs.Steps.Commit.{commit-rises, commit-keeps}
 use Rattle.raft_safety.proofs.Etcd.Invariants.{IsApplied, IsAppend, AreEtcdInvariants}
@@ -27,14 +27,11 @@ become_leader-keeps_etcd first e k votes may i =
     let new : Leadership = record { log = r.log; committed = r.committed } in
     let d : Cluster = after_action c (core.BecomeLeader r votes) in
     let its = i.candidacies k may.asked in
-    let asked = i.core.requests r its.asked in
-    let few : voter_changes first r.log ≤ voter_changes first r.committed + 1 = asked.one_change_beyond in
-    let same_steps : voter_changes first k.applied ≡ voter_changes first r.committed = its.all_applied in
-    let new_applied : IsApplied first new.log new.committed k.applied = record { committed = its.committed; one_change_beyond = omega arith } in
+    let new_applied : IsApplied first new.log new.committed k.applied = record { committed = its.counts.part; one_change_beyond = its.counts.one_change_beyond } in
     let g : DoLeadersGrow c d = become_leader-grows c r votes may.not_yet in
     let now : ℕ → ℕ → Log = with_value e.applied r.term (with_value (e.applied r.term) r.candidate k.applied) in
     record {
-      core = become_leader-keeps first c r votes (MayBecomeLeader-applied first e k votes i may) i.core;
+      core = become_leader_by-keeps first c r k.applied votes (MayBecomeLeader-applied first e k votes i may) i.core;
       durable = i.durable;
       applied = λ t s l. with_value-pair (λ (q : Leadership). IsApplied first q.log q.committed (now t s)) c.leaderships r.term r.candidate new t s
           (λ same_t same_s. with_value-pair (IsApplied first new.log new.committed) e.applied r.term r.candidate k.applied t s (λ a b. new_applied) (λ other. absurd (other same_t same_s)))

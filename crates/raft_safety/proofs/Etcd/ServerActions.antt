@@ -1,5 +1,5 @@
 -- Each action of a server keeps the invariants.
-use Rattle.std.proofs.Common.{◌≡◌, ℕ, ◌+◌, ◌≤◌, true, List, [], ◌∷◌, length, refl, sym, ap, subst, ◌∙◌, inl, inr, arith, if◌then◌else◌}
+use Rattle.std.proofs.Common.{◌≡◌, ℕ, ◌+◌, ◌≤◌, true, false, List, [], ◌∷◌, length, refl, sym, ap, subst, ◌∙◌, inl, inr, arith, if◌then◌else◌}
 use Rattle.std.specs.Prelude.{nat_eq}
 use Rattle.std.proofs.lemmas.Bool.{cond-true, cond_both, and_parts}
 use Rattle.conf_change.specs.Configuration.{Configuration}
@@ -23,14 +23,14 @@ use Rattle.raft_safety.proofs.Steps.OneServer.{with_server-keeps, see_term-keeps
 use Rattle.raft_safety.proofs.Steps.GrantVote.{grant_vote-keeps}
 use Rattle.raft_safety.proofs.Steps.Receive.{receive-keeps}
 use Rattle.raft_safety.proofs.Etcd.Invariants.{IsDurable, IsCandidacy, IsAppend, AreEtcdInvariants}
-use Rattle.raft_safety.proofs.Etcd.CoreSteps.{MayCampaign-applied, MayReceive-heartbeat, MayReceive-append, MayReceive-answer}
+use Rattle.raft_safety.proofs.Etcd.CoreSteps.{applied-all_but_one, MayCampaign-applied, MayReceive-heartbeat, MayReceive-append, MayReceive-answer}
 use Rattle.raft_safety.proofs.Etcd.Growth.{with_value-both, DoLeadersGrow, IsAppend-later}
 
 -- leaders stay as they are, and so does what holds of them, and of appends
 servers_kept : (first : Configuration) (e : EtcdCluster) → AreEtcdInvariants first e → (server : ℕ) (new : Server) (votes : List Vote) (requests : List VoteRequest)
     (acknowledgements : List Acknowledgement) (durable : ℕ → Log) (candidacies : List Candidacy)
     → let d = record (with_server e.cluster server new) { votes = votes; requests = requests; acknowledgements = acknowledgements } in
-    AreInvariants first d → ((k : ℕ) → IsDurable first (d.servers k).log (d.servers k).committed (durable k)) → ((k : Candidacy) → In k candidacies → IsCandidacy first requests k)
+    AreInvariants first d → ((k : ℕ) → e.looks k ≡ false → IsDurable first (d.servers k).log (d.servers k).committed (durable k)) → ((k : Candidacy) → In k candidacies → IsCandidacy first requests k)
     → AreEtcdInvariants first (record e { cluster = d; durable = durable; candidacies = candidacies })
 servers_kept first e i server new votes requests acknowledgements durable candidacies core durable_are candidacies_are =
     let d : Cluster = record (with_server e.cluster server new) { votes = votes; requests = requests; acknowledgements = acknowledgements } in
@@ -50,17 +50,17 @@ servers_kept first e i server new votes requests acknowledgements durable candid
 -- where no request is new
 server_kept : (first : Configuration) (e : EtcdCluster) → AreEtcdInvariants first e → (server : ℕ) (new : Server) (votes : List Vote) (acknowledgements : List Acknowledgement) (durable : ℕ → Log)
     → let d = record (with_server e.cluster server new) { votes = votes; acknowledgements = acknowledgements } in
-    AreInvariants first d → ((k : ℕ) → IsDurable first (d.servers k).log (d.servers k).committed (durable k))
+    AreInvariants first d → ((k : ℕ) → e.looks k ≡ false → IsDurable first (d.servers k).log (d.servers k).committed (durable k))
     → AreEtcdInvariants first (record e { cluster = d; durable = durable })
 server_kept first e i server new votes acknowledgements durable core durable_are =
     servers_kept first e i server new votes e.cluster.requests acknowledgements durable e.candidacies core durable_are i.candidacies
 
 -- where nothing more is durable
-durable_kept : (first : Configuration) (e : EtcdCluster) → AreEtcdInvariants first e → (server : ℕ) (new : Server) → IsDurable first new.log new.committed (e.durable server)
-    → (k : ℕ) → IsDurable first (with_value e.cluster.servers server new k).log (with_value e.cluster.servers server new k).committed (e.durable k)
-durable_kept first e i server new is k =
+durable_kept : (first : Configuration) (e : EtcdCluster) → AreEtcdInvariants first e → (server : ℕ) (new : Server) → (e.looks server ≡ false → IsDurable first new.log new.committed (e.durable server))
+    → (k : ℕ) → e.looks k ≡ false → IsDurable first (with_value e.cluster.servers server new k).log (with_value e.cluster.servers server new k).committed (e.durable k)
+durable_kept first e i server new is k not =
     with_value-each (λ (x : Server). IsDurable first x.log x.committed (e.durable k)) e.cluster.servers server new k
-    (λ same. subst (λ (q : ℕ). IsDurable first new.log new.committed (e.durable q)) (sym same) is) (λ other. i.durable k)
+    (λ same. subst (λ (q : ℕ). IsDurable first new.log new.committed (e.durable q)) (sym same) (is (subst (λ (q : ℕ). e.looks q ≡ false) same not))) (λ other. i.durable k not)
 
 pub campaign-keeps_etcd : (first : Configuration) (e : EtcdCluster) (server term : ℕ) (applied : Log) → MayCampaignApplied first e server term applied → AreEtcdInvariants first e
     → AreEtcdInvariants first (after_etcd_action e (Campaign server term applied))
@@ -73,8 +73,8 @@ campaign-keeps_etcd first e server term applied may i =
     (campaign-keeps first e.cluster server term old.committed (MayCampaign-applied first e server term applied i may) i.core)
     (durable_kept first e i server new (i.durable server))
     (λ k x. elim x [
-      | inl is ↦ subst (IsCandidacy first (r ∷ e.cluster.requests)) (sym is) (record { asked = inl refl; committed = may.committed; all_applied = may.all_applied })
-      | inr in_e ↦ (let its = i.candidacies k in_e in record { asked = inr its.asked; committed = its.committed; all_applied = its.all_applied })
+      | inl is ↦ subst (IsCandidacy first (r ∷ e.cluster.requests)) (sym is) (record { asked = inl refl; counts = record { part = may.committed; one_change_beyond = applied-all_but_one first e server term applied i may } })
+      | inr in_e ↦ (let its = i.candidacies k in_e in record { asked = inr its.asked; counts = its.counts })
     ])
 
 pub see_term-keeps_etcd : (first : Configuration) (e : EtcdCluster) (server term : ℕ) → MaySeeTerm e.cluster server term → AreEtcdInvariants first e → AreEtcdInvariants first (after_etcd_action e (SeeTerm server term))
@@ -96,7 +96,7 @@ restart-keeps_etcd first e server known may i =
     let old : Server = e.cluster.servers server in
     let new : Server = record old { committed = known } in
     server_kept first e i server new e.cluster.votes e.cluster.acknowledgements e.durable (restart-keeps first e.cluster server known (record { known_of = may.at_most }) i.core)
-    (durable_kept first e i server new (record { committed = may.at_least; one_change_beyond = (i.durable server).one_change_beyond }))
+    (durable_kept first e i server new (λ not. record { committed = may.at_least not; one_change_beyond = (i.durable server not).one_change_beyond }))
 
 pub answer-keeps : (first : Configuration) (e : EtcdCluster) (server term leader : ℕ) → MayAnswer e server term leader → AreEtcdInvariants first e
     → AreEtcdInvariants first (after_etcd_action e (Answer server term leader))
@@ -148,11 +148,10 @@ heartbeat-keeps first e server term leader known may i =
     let old : Server = e.cluster.servers server in
     let new : Server = record { term = term; log = old.log; committed = longer old.committed known } in
     let found = MayReceive-heartbeat first e server term leader known i.core may in
-    let was = i.durable server in
     server_kept first e i server new e.cluster.votes e.cluster.acknowledgements e.durable (learn_keeps first e.cluster server term leader known found.0 found.1 i.core)
-    (durable_kept first e i server new (record {
-      committed = IsPrefix-trans (e.durable server) old.committed new.committed was.committed (committed_grows first e.cluster i.core server term leader known known old.log found.0);
-      one_change_beyond = was.one_change_beyond;
+    (durable_kept first e i server new (λ not. record {
+      committed = IsPrefix-trans (e.durable server) old.committed new.committed (i.durable server not).committed (committed_grows first e.cluster i.core server term leader known known old.log found.0);
+      one_change_beyond = (i.durable server not).one_change_beyond;
     }))
 
 -- a log that has the entries already stays as it is
@@ -175,19 +174,19 @@ take-keeps first e server a may i =
     let d : Cluster = after_action e.cluster (core.Receive server a.term its.leader sent known new.log) in
     let kept : AreInvariants first d = receive-keeps first e.cluster server a.term its.leader sent known new.log received i.core in
     let new_is : IsServer d new = subst (IsServer d) (with_value-here e.cluster.servers server new) (kept.servers server) in
-    let was = i.durable server in
     let durable : Log = e.durable server in
-    let few : voter_changes first old.log ≤ voter_changes first durable + 1 = was.one_change_beyond in
     let few_sent : voter_changes first sent ≤ voter_changes first known + 1 = found.1 in
     let L : Log = log_of e.cluster a.term its.leader in
     let order : old.term ≤ a.term = may.not_past in
     let old_in : IsPrefix old.committed L = IsKnown-in_leader first e.cluster i.core a.term its.leader (old.term + 1) old.committed its.leads (i.core.servers server).known (omega arith) in
-    let durable_in : IsPrefix durable L = IsPrefix-trans durable old.committed L was.committed old_in in
     let known_in : IsPrefix known L = IsPrefix-trans known sent L received.known_of received.sent_of in
     let grows : IsPrefix old.committed new.committed = committed_grows first e.cluster i.core server a.term its.leader sent known new.log received in
     let known_new : IsPrefix known new.committed = longer-each (IsPrefix known) old.committed known (λ less. IsPrefix-refl known) (λ not_less. shorter-prefix known old.committed L known_in old_in not_less) in
     let written : Log = if has_entries old.log a.index a.entries then durable else longer durable known in
-    let new_durable : IsDurable first new.log new.committed written =
+    let new_durable : e.looks server ≡ false → IsDurable first new.log new.committed written = λ not.
+    let was = i.durable server not in
+    let few : voter_changes first old.log ≤ voter_changes first durable + 1 = was.one_change_beyond in
+    let durable_in : IsPrefix durable L = IsPrefix-trans durable old.committed L was.committed old_in in
     cond_both (has_entries old.log a.index a.entries) durable (longer durable known) (IsDurable first new.log new.committed)
     (λ yes. record {
       committed = IsPrefix-trans durable old.committed new.committed was.committed grows;
@@ -209,4 +208,5 @@ take-keeps first e server a may i =
       ];
     }) in
     server_kept first e i server new e.cluster.votes (record { term = a.term; server = server; log = sent } ∷ e.cluster.acknowledgements) (with_value e.durable server written) kept
-    (λ k. with_value-both (λ (x : Server) (y : Log). IsDurable first x.log x.committed y) e.cluster.servers e.durable server new written k (λ same. new_durable) (λ other. i.durable k))
+    (λ k not. with_value-both (λ (x : Server) (y : Log). IsDurable first x.log x.committed y) e.cluster.servers e.durable server new written k
+    (λ same. new_durable (subst (λ (q : ℕ). e.looks q ≡ false) same not)) (λ other. i.durable k not))

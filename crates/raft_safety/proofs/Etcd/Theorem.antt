@@ -1,5 +1,6 @@
 -- The theorem for etcd's rules: the invariants hold before anything happens, each action keeps them, and the claims follow.
 use Rattle.std.proofs.Common.{◌≡◌, ℕ, ◌+◌, List, [], ◌∷◌, ◌++◌, refl, sym, subst, inl, inr, arith}
+use Rattle.std.specs.Prelude.{Bool}
 use Rattle.conf_change.specs.Configuration.{Configuration}
 use Rattle.raft_safety.specs.Logs.{Log}
 use Rattle.raft_safety.specs.Cluster.{Commitment, In, Leads}
@@ -18,10 +19,10 @@ use Rattle.raft_safety.proofs.Etcd.ServerActions.{campaign-keeps_etcd, see_term-
 use Rattle.raft_safety.proofs.Etcd.LeaderActions.{become_leader-keeps_etcd, propose-keeps_etcd, send-keeps, commit-keeps_etcd, apply-keeps}
 
 -- ---- every state that is reached
-pub new_holds : (first : Configuration) → AreEtcdInvariants first new_etcd_cluster
-new_holds first = record {
+pub new_holds : (first : Configuration) (looks : ℕ → Bool) → AreEtcdInvariants first (new_etcd_cluster looks)
+new_holds first looks = record {
   core = AreInvariants-new first;
-  durable = λ server. record { committed = refl; one_change_beyond = omega arith };
+  durable = λ server not. record { committed = refl; one_change_beyond = omega arith };
   applied = λ term leader l. absurd l.1;
   candidacies = λ k x. absurd x;
   appends = λ a x. absurd x;
@@ -45,8 +46,8 @@ pub actions_keep : (first : Configuration) (e : EtcdCluster) (actions : List Etc
 actions_keep first e [] allowed i = i
 actions_keep first e (action ∷ actions) allowed i = actions_keep first (after_etcd_action e action) actions allowed.1 (action_keeps first e action allowed.0 i)
 
-reached : (first : Configuration) (actions : List EtcdAction) → AreAllowedByEtcd first new_etcd_cluster actions → AreEtcdInvariants first (after_etcd_actions new_etcd_cluster actions)
-reached first actions allowed = actions_keep first new_etcd_cluster actions allowed (new_holds first)
+reached : (first : Configuration) (looks : ℕ → Bool) (actions : List EtcdAction) → AreAllowedByEtcd first (new_etcd_cluster looks) actions → AreEtcdInvariants first (after_etcd_actions (new_etcd_cluster looks) actions)
+reached first looks actions allowed = actions_keep first (new_etcd_cluster looks) actions allowed (new_holds first looks)
 
 -- ---- two moments
 commitments_after : (e : EtcdCluster) (action : EtcdAction) (m : Commitment) → In m e.cluster.commitments → In m (after_etcd_action e action).cluster.commitments
@@ -75,38 +76,38 @@ allowed_first : (first : Configuration) (e : EtcdCluster) (early late : List Etc
 allowed_first first e [] late allowed = tt
 allowed_first first e (action ∷ early) late allowed = (allowed.0, allowed_first first (after_etcd_action e action) early late allowed.1)
 
-commitments_kept : (early late : List EtcdAction) → AreCommitmentsKept (after_etcd_actions new_etcd_cluster early).cluster (after_etcd_actions new_etcd_cluster (early ++ late)).cluster
-commitments_kept early late m x =
-    subst (λ (e : EtcdCluster). In m e.cluster.commitments) (sym (after_both new_etcd_cluster early late)) (commitments_stay (after_etcd_actions new_etcd_cluster early) late m x)
+commitments_kept : (looks : ℕ → Bool) (early late : List EtcdAction) → AreCommitmentsKept (after_etcd_actions (new_etcd_cluster looks) early).cluster (after_etcd_actions (new_etcd_cluster looks) (early ++ late)).cluster
+commitments_kept looks early late m x =
+    subst (λ (e : EtcdCluster). In m e.cluster.commitments) (sym (after_both (new_etcd_cluster looks) early late)) (commitments_stay (after_etcd_actions (new_etcd_cluster looks) early) late m x)
 
 -- ---- the claims
-pub ElectionSafety-reached_etcd : (first : Configuration) (actions : List EtcdAction) → AreAllowedByEtcd first new_etcd_cluster actions → ElectionSafety (after_etcd_actions new_etcd_cluster actions).cluster
-ElectionSafety-reached_etcd first actions allowed = ElectionSafety-from_invariants first (after_etcd_actions new_etcd_cluster actions).cluster (reached first actions allowed).core
+pub ElectionSafety-reached_etcd : (first : Configuration) (looks : ℕ → Bool) (actions : List EtcdAction) → AreAllowedByEtcd first (new_etcd_cluster looks) actions → ElectionSafety (after_etcd_actions (new_etcd_cluster looks) actions).cluster
+ElectionSafety-reached_etcd first looks actions allowed = ElectionSafety-from_invariants first (after_etcd_actions (new_etcd_cluster looks) actions).cluster (reached first looks actions allowed).core
 
-pub LeaderCompleteness-reached_etcd : (first : Configuration) (actions : List EtcdAction) → AreAllowedByEtcd first new_etcd_cluster actions → LeaderCompleteness (after_etcd_actions new_etcd_cluster actions).cluster
-LeaderCompleteness-reached_etcd first actions allowed = LeaderCompleteness-from_invariants first (after_etcd_actions new_etcd_cluster actions).cluster (reached first actions allowed).core
+pub LeaderCompleteness-reached_etcd : (first : Configuration) (looks : ℕ → Bool) (actions : List EtcdAction) → AreAllowedByEtcd first (new_etcd_cluster looks) actions → LeaderCompleteness (after_etcd_actions (new_etcd_cluster looks) actions).cluster
+LeaderCompleteness-reached_etcd first looks actions allowed = LeaderCompleteness-from_invariants first (after_etcd_actions (new_etcd_cluster looks) actions).cluster (reached first looks actions allowed).core
 
-pub LogMatching-reached_etcd : (first : Configuration) (actions : List EtcdAction) → AreAllowedByEtcd first new_etcd_cluster actions → LogMatching (after_etcd_actions new_etcd_cluster actions).cluster
-LogMatching-reached_etcd first actions allowed = LogMatching-from_invariants first (after_etcd_actions new_etcd_cluster actions).cluster (reached first actions allowed).core
+pub LogMatching-reached_etcd : (first : Configuration) (looks : ℕ → Bool) (actions : List EtcdAction) → AreAllowedByEtcd first (new_etcd_cluster looks) actions → LogMatching (after_etcd_actions (new_etcd_cluster looks) actions).cluster
+LogMatching-reached_etcd first looks actions allowed = LogMatching-from_invariants first (after_etcd_actions (new_etcd_cluster looks) actions).cluster (reached first looks actions allowed).core
 
-pub CommittedIsStored-reached_etcd : (first : Configuration) (actions : List EtcdAction) → AreAllowedByEtcd first new_etcd_cluster actions → CommittedIsStored (after_etcd_actions new_etcd_cluster actions).cluster
-CommittedIsStored-reached_etcd first actions allowed = CommittedIsStored-from_invariants first (after_etcd_actions new_etcd_cluster actions).cluster (reached first actions allowed).core
+pub CommittedIsStored-reached_etcd : (first : Configuration) (looks : ℕ → Bool) (actions : List EtcdAction) → AreAllowedByEtcd first (new_etcd_cluster looks) actions → CommittedIsStored (after_etcd_actions (new_etcd_cluster looks) actions).cluster
+CommittedIsStored-reached_etcd first looks actions allowed = CommittedIsStored-from_invariants first (after_etcd_actions (new_etcd_cluster looks) actions).cluster (reached first looks actions allowed).core
 
-pub CommitOneLog-reached_etcd : (first : Configuration) (early late : List EtcdAction) → AreAllowedByEtcd first new_etcd_cluster (early ++ late)
-    → CommitOneLog (after_etcd_actions new_etcd_cluster early).cluster (after_etcd_actions new_etcd_cluster (early ++ late)).cluster
-CommitOneLog-reached_etcd first early late allowed =
-    CommitOneLog-from_invariants first (after_etcd_actions new_etcd_cluster early).cluster (after_etcd_actions new_etcd_cluster (early ++ late)).cluster
-    (reached first early (allowed_first first new_etcd_cluster early late allowed)).core (reached first (early ++ late) allowed).core (commitments_kept early late)
+pub CommitOneLog-reached_etcd : (first : Configuration) (looks : ℕ → Bool) (early late : List EtcdAction) → AreAllowedByEtcd first (new_etcd_cluster looks) (early ++ late)
+    → CommitOneLog (after_etcd_actions (new_etcd_cluster looks) early).cluster (after_etcd_actions (new_etcd_cluster looks) (early ++ late)).cluster
+CommitOneLog-reached_etcd first looks early late allowed =
+    CommitOneLog-from_invariants first (after_etcd_actions (new_etcd_cluster looks) early).cluster (after_etcd_actions (new_etcd_cluster looks) (early ++ late)).cluster
+    (reached first looks early (allowed_first first (new_etcd_cluster looks) early late allowed)).core (reached first looks (early ++ late) allowed).core (commitments_kept looks early late)
 
-pub StateMachineSafety-reached_etcd : (first : Configuration) (early late : List EtcdAction) → AreAllowedByEtcd first new_etcd_cluster (early ++ late)
-    → StateMachineSafety (after_etcd_actions new_etcd_cluster early).cluster (after_etcd_actions new_etcd_cluster (early ++ late)).cluster
-StateMachineSafety-reached_etcd first early late allowed =
-    StateMachineSafety-from_invariants first (after_etcd_actions new_etcd_cluster early).cluster (after_etcd_actions new_etcd_cluster (early ++ late)).cluster
-    (reached first early (allowed_first first new_etcd_cluster early late allowed)).core (reached first (early ++ late) allowed).core (commitments_kept early late)
+pub StateMachineSafety-reached_etcd : (first : Configuration) (looks : ℕ → Bool) (early late : List EtcdAction) → AreAllowedByEtcd first (new_etcd_cluster looks) (early ++ late)
+    → StateMachineSafety (after_etcd_actions (new_etcd_cluster looks) early).cluster (after_etcd_actions (new_etcd_cluster looks) (early ++ late)).cluster
+StateMachineSafety-reached_etcd first looks early late allowed =
+    StateMachineSafety-from_invariants first (after_etcd_actions (new_etcd_cluster looks) early).cluster (after_etcd_actions (new_etcd_cluster looks) (early ++ late)).cluster
+    (reached first looks early (allowed_first first (new_etcd_cluster looks) early late allowed)).core (reached first looks (early ++ late) allowed).core (commitments_kept looks early late)
 
 -- ---- what is applied
-pub AppliedIsCommitted-reached_etcd : (first : Configuration) (actions : List EtcdAction) → AreAllowedByEtcd first new_etcd_cluster actions → AppliedIsCommitted (after_etcd_actions new_etcd_cluster actions)
-AppliedIsCommitted-reached_etcd first actions allowed term leader leads = ((reached first actions allowed).applied term leader leads).committed
+pub AppliedIsCommitted-reached_etcd : (first : Configuration) (looks : ℕ → Bool) (actions : List EtcdAction) → AreAllowedByEtcd first (new_etcd_cluster looks) actions → AppliedIsCommitted (after_etcd_actions (new_etcd_cluster looks) actions)
+AppliedIsCommitted-reached_etcd first looks actions allowed term leader leads = ((reached first looks actions allowed).applied term leader leads).committed
 
 -- what is applied was committed by a leader
 known_applied : (first : Configuration) (e : EtcdCluster) → AreEtcdInvariants first e → (log : Log) → IsAppliedIn e log → (bound : ℕ) × IsKnown e.cluster bound log
@@ -122,13 +123,13 @@ known_applied first e i log (inr at) =
     let its = i.candidacies k at.1 in (
       k.request.term,
       subst (IsKnown e.cluster k.request.term) (sym at.2)
-          (IsKnown-prefix e.cluster k.request.term k.applied k.request.committed its.committed (i.core.requests k.request its.asked).known),
+          (IsKnown-prefix e.cluster k.request.term k.applied k.request.committed its.counts.part (i.core.requests k.request its.asked).known),
     )
 
-pub ApplyOneLog-reached_etcd : (first : Configuration) (early late : List EtcdAction) → AreAllowedByEtcd first new_etcd_cluster (early ++ late)
-    → ApplyOneLog (after_etcd_actions new_etcd_cluster early) (after_etcd_actions new_etcd_cluster (early ++ late))
-ApplyOneLog-reached_etcd first early late allowed one other at_one at_other =
-    let a = known_applied first (after_etcd_actions new_etcd_cluster early) (reached first early (allowed_first first new_etcd_cluster early late allowed)) one at_one in
-    let b = known_applied first (after_etcd_actions new_etcd_cluster (early ++ late)) (reached first (early ++ late) allowed) other at_other in
-    IsKnown-two_states first (after_etcd_actions new_etcd_cluster early).cluster (after_etcd_actions new_etcd_cluster (early ++ late)).cluster (reached first (early ++ late) allowed).core
-    (commitments_kept early late) a.0 b.0 one other a.1 b.1
+pub ApplyOneLog-reached_etcd : (first : Configuration) (looks : ℕ → Bool) (early late : List EtcdAction) → AreAllowedByEtcd first (new_etcd_cluster looks) (early ++ late)
+    → ApplyOneLog (after_etcd_actions (new_etcd_cluster looks) early) (after_etcd_actions (new_etcd_cluster looks) (early ++ late))
+ApplyOneLog-reached_etcd first looks early late allowed one other at_one at_other =
+    let a = known_applied first (after_etcd_actions (new_etcd_cluster looks) early) (reached first looks early (allowed_first first (new_etcd_cluster looks) early late allowed)) one at_one in
+    let b = known_applied first (after_etcd_actions (new_etcd_cluster looks) (early ++ late)) (reached first looks (early ++ late) allowed) other at_other in
+    IsKnown-two_states first (after_etcd_actions (new_etcd_cluster looks) early).cluster (after_etcd_actions (new_etcd_cluster looks) (early ++ late)).cluster (reached first looks (early ++ late) allowed).core
+    (commitments_kept looks early late) a.0 b.0 one other a.1 b.1

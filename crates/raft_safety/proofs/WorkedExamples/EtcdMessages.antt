@@ -10,7 +10,7 @@ use Rattle.raft_safety.specs.Appending.{with_entries}
 use Rattle.raft_safety.specs.EtcdCluster.{Append, Candidacy, EtcdCluster, new_etcd_cluster}
 use Rattle.raft_safety.specs.EtcdRules.{EtcdAction, Campaign, SeeTerm, GrantVote, BecomeLeader, Propose, Send, Receive, Answer, Heartbeat, Commit, Apply, Restart, MayCampaignApplied, MayBecomeLeaderApplied, MayProposeApplied, MaySend, MayTake, MayAnswer, MayTakeHeartbeat, MayCommitApplied, MayApply, MayRestartDurable}
 use Rattle.raft_safety.specs.EtcdRuns.{AreAllowedByEtcd, after_etcd_actions}
-use Rattle.raft_safety.proofs.WorkedExamples.SmallRuns.{command, IsQuorumAfter-of, OfEach-has, once-from_votes, not_yet-from_elections}
+use Rattle.raft_safety.proofs.WorkedExamples.SmallRuns.{nobody, command, IsQuorumAfter-of, OfEach-has, once-from_votes, not_yet-from_elections}
 use Rattle.raft_safety.proofs.WorkedExamples.AddedVoter.{three, four, add, added, used, first_request, second_request, first_election, configuration_after-nothing, configuration_after-add_4, voter_changes-used}
 
 -- ---- the run
@@ -43,7 +43,7 @@ run =
 
 -- the cluster after so many actions of the run
 abbrev state : ℕ → EtcdCluster
-state n = after_etcd_actions new_etcd_cluster (take n run)
+state n = after_etcd_actions (new_etcd_cluster nobody) (take n run)
 
 -- the appends are those that the leader sent
 sent_appends : (state 24).appends ≡ all ∷ next ∷ change ∷ []
@@ -61,7 +61,7 @@ fourth_leads = ((record { request = second_request; votes = ids_of (1 ∷ 3 ∷ 
 
 -- ---- each action is allowed
 campaigns_1 : MayCampaignApplied three (state 0) 1 1 []
-campaigns_1 = record { later = omega arith; committed = refl; all_applied = refl }
+campaigns_1 = record { later = omega arith; committed = refl; ready = refl }
 
 votes_2 : MayGrantVote (state 1).cluster 2 first_request
 votes_2 = record { asked = inl refl; not_past = omega arith; once = once-from_votes (state 1).cluster 1 2 1 refl; up_to_date = inr (refl, omega arith) }
@@ -137,14 +137,14 @@ answers_2 : MayAnswer (state 17) 2 1 1
 answers_2 = record { leads = (first_election, inl refl, refl, refl); not_past = omega arith }
 
 restarts_4 : MayRestartDurable (state 18) 4 added
-restarts_4 = record { at_least = inl refl; at_most = inr (inl refl) }
+restarts_4 = record { at_least = λ not. inl refl; at_most = inr (inl refl) }
 
 -- the second election
 sees_3 : MaySeeTerm (state 19).cluster 3 2
 sees_3 = record { higher = omega arith }
 
 campaigns_4 : MayCampaignApplied three (state 20) 4 2 added
-campaigns_4 = record { later = omega arith; committed = inl refl; all_applied = refl }
+campaigns_4 = record { later = omega arith; committed = inl refl; ready = refl }
 
 votes_1 : MayGrantVote (state 21).cluster 1 second_request
 votes_1 = record { asked = inl refl; not_past = omega arith; once = once-from_votes (state 21).cluster 2 1 4 refl; up_to_date = inr (refl, omega arith) }
@@ -160,7 +160,7 @@ leads_4 = record {
   quorum = IsQuorumAfter-of three added four (ids_of (1 ∷ 3 ∷ 4 ∷ [])) configuration_after-add_4 (simp written_out refl);
 }
 
-run_is_allowed : AreAllowedByEtcd three new_etcd_cluster run
+run_is_allowed : AreAllowedByEtcd three (new_etcd_cluster nobody) run
 run_is_allowed = (campaigns_1, (votes_2, (leads_1, (adds_4, (sends_change, (takes_change_1, (takes_change_2, (commits_change, (applies_change, (proposes_command, (sends_command, (sends_all, (takes_command_1, (takes_command_2, (takes_all_4, (commits_command, (hears_4, (answers_2, (restarts_4, (sees_3, (campaigns_4, (votes_1, (votes_3, (leads_4, tt))))))))))))))))))))))))
 
 -- ---- how entries are taken

@@ -84,7 +84,7 @@ takes_first_1 : (kept : Log) → MayTakeInMemory one (state kept 2) 1 (etcd.Rece
 takes_first_1 kept = record { own = refl; heard = tt; allowed = record { sent = inl refl; not_past = omega arith; matches = refl } }
 
 saves_first_1 : (kept : Log) → MaySave one (state kept 3) 1 (etcd.Receive 1 first_append ∷ []) [] []
-saves_first_1 kept = record { in_order = refl; committed = refl; commit_kept = voter_changes-entry one add [] }
+saves_first_1 kept = record { in_order = refl; committed = refl; commit_kept = λ not. voter_changes-entry one add [] }
 
 raises_added : (kept : Log) → MayRaise one (state kept 4) 1 1 added (ids_of (1 ∷ []))
 raises_added kept = record {
@@ -119,7 +119,7 @@ until_both kept =
 
 -- ---- from where server 1 has saved them to where server 2 leads
 saves_both_2 : (kept : Log) → MaySave one (state kept 12) 2 (etcd.Receive 2 both_append ∷ []) [] added
-saves_both_2 kept = record { in_order = refl; committed = inl refl; commit_kept = voter_changes-entry one remove added }
+saves_both_2 kept = record { in_order = refl; committed = inl refl; commit_kept = λ not. voter_changes-entry one remove added }
 
 acknowledges_2 : (kept : Log) → MaySay (state kept 13) (Acknowledge acknowledgement)
 acknowledges_2 kept = record { saved = inl refl }
@@ -146,10 +146,10 @@ applies_2 : (kept : Log) → MayApplyInMemory (state kept 18) 2 moved
 applies_2 kept = record { committed = inl refl }
 
 campaigns_2 : (kept : Log) → MayCampaignApplied one (memory (state kept 19) 2) 2 2 moved
-campaigns_2 kept = record { later = omega arith; committed = inl refl; all_applied = refl }
+campaigns_2 kept = record { later = omega arith; committed = inl refl; ready = refl }
 
 saves_vote_2 : (kept : Log) → MaySave one (state kept 20) 2 (etcd.Receive 2 last_append ∷ etcd.Campaign 2 2 moved ∷ []) [] moved
-saves_vote_2 kept = record { in_order = refl; committed = inl refl; commit_kept = omega arith }
+saves_vote_2 kept = record { in_order = refl; committed = inl refl; commit_kept = λ not. omega arith }
 
 votes_2 : (kept : Log) → MaySay (state kept 21) (vote_for 2 2)
 votes_2 kept = record { saved = inl refl }
@@ -188,7 +188,7 @@ until_2_leads kept = (
 
 -- ---- after the crash
 pub campaigns_again : (kept : Log) → IsPrefix kept kept → MayCampaignApplied one (memory (state kept 24) 1) 1 2 kept
-campaigns_again kept all = record { later = omega arith; committed = all; all_applied = refl }
+campaigns_again kept all = record { later = omega arith; committed = all; ready = refl }
 
 votes_again : (kept : Log) → MaySay (state kept 26) (vote_for 2 1)
 votes_again kept = record { saved = inl refl }

@@ -13,7 +13,7 @@ use Rattle.raft_safety.specs.DiskCluster.{Ask, Grant, Raised, DiskCluster, memor
 use Rattle.raft_safety.specs.DiskRules.{DiskAction, Campaign, Take, Save, Say, Lead, Propose, Send, Raise, Use, ApplyAsLeader, Apply, Crash, MayTakeInMemory, MaySave, MaySay, MayLead, MayRaise, MayUse, MayApplyInMemory, MayCrash}
 use Rattle.raft_safety.specs.DiskRuns.{after_disk_actions, AreAllowedOnDisk}
 use Rattle.raft_safety.proofs.Configurations.{voter_changes-entry}
-use Rattle.raft_safety.proofs.WorkedExamples.SmallRuns.{command, IsQuorumAfter-of, OfEach-has, not_yet-from_elections}
+use Rattle.raft_safety.proofs.WorkedExamples.SmallRuns.{nobody, command, IsQuorumAfter-of, OfEach-has, not_yet-from_elections}
 use Rattle.raft_safety.proofs.WorkedExamples.TwoServers.{one, configuration_after-first}
 
 -- ---- the run
@@ -54,14 +54,14 @@ run =
 
 -- the cluster after so many actions of the run
 abbrev pub state : ℕ → DiskCluster
-state n = after_disk_actions new_disk_cluster (take n run)
+state n = after_disk_actions (new_disk_cluster nobody) (take n run)
 
 -- ---- each action is allowed
 campaigns_1 : MayCampaignApplied one (memory (state 0) 1) 1 1 []
-campaigns_1 = record { later = omega arith; committed = refl; all_applied = refl }
+campaigns_1 = record { later = omega arith; committed = refl; ready = refl }
 
 saves_vote_1 : MaySave one (state 1) 1 (etcd.Campaign 1 1 [] ∷ []) [] []
-saves_vote_1 = record { in_order = refl; committed = refl; commit_kept = omega arith }
+saves_vote_1 = record { in_order = refl; committed = refl; commit_kept = λ not. omega arith }
 
 votes_1 : MaySay (state 2) (Grant own_vote)
 votes_1 = record { saved = inl refl }
@@ -97,7 +97,7 @@ pub not_yet_used : MayUse (state 8) rose → ⊥
 not_yet_used may = let found = may.own_saved (simp written_out refl) in absurd found.1
 
 saves_x_1 : MaySave one (state 8) 1 (etcd.Receive 1 early ∷ []) [] []
-saves_x_1 = record { in_order = refl; committed = refl; commit_kept = voter_changes-entry one x [] }
+saves_x_1 = record { in_order = refl; committed = refl; commit_kept = λ not. voter_changes-entry one x [] }
 
 uses_1 : MayUse (state 9) rose
 uses_1 = record { rose = inl refl; rises = omega arith; own_saved = λ counts. (with_x, inl refl, inl refl) }
@@ -115,13 +115,13 @@ applies_2 : MayApplyInMemory (state 13) 2 with_x
 applies_2 = record { committed = inl refl }
 
 crashes_2 : MayCrash (state 14) 2 [] [] []
-crashes_2 = record { restarts = record { at_least = refl; at_most = refl }; configuration_of_applied = refl }
+crashes_2 = record { restarts = record { at_least = λ not. refl; at_most = refl }; configuration_of_applied = refl }
 
 asks_1 : MaySay (state 15) (Ask first_request)
 asks_1 = record { saved = inl refl }
 
-pub until_it_rose : AreAllowedOnDisk one new_disk_cluster (take 8 run)
+pub until_it_rose : AreAllowedOnDisk one (new_disk_cluster nobody) (take 8 run)
 until_it_rose = (campaigns_1, (saves_vote_1, (votes_1, (leads_1, (proposes_x, (sends_x, (takes_x_1, (raises_1, tt))))))))
 
-pub run_is_allowed : AreAllowedOnDisk one new_disk_cluster run
+pub run_is_allowed : AreAllowedOnDisk one (new_disk_cluster nobody) run
 run_is_allowed = (campaigns_1, (saves_vote_1, (votes_1, (leads_1, (proposes_x, (sends_x, (takes_x_1, (raises_1, (saves_x_1, (uses_1, (applies_1, (sends_again, (takes_x_2, (applies_2, (crashes_2, (asks_1, tt))))))))))))))))

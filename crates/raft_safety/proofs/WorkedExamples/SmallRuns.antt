@@ -38,6 +38,14 @@ abbrev pub first_byte : Log → ℕ
 first_byte [] = 0
 first_byte (entry ∷ log) = byte_of entry.payload
 
+-- ---- servers
+-- of those that look at their own log before they campaign: none, or all
+abbrev pub nobody : ℕ → Bool
+nobody = λ server. false
+
+abbrev pub everybody : ℕ → Bool
+everybody = λ server. true
+
 -- ---- quorums
 -- the ids are a quorum of this configuration, which is that after the log
 pub IsQuorumAfter-of : (first : Configuration) (log : Log) (c : Configuration) (ids : Ids) → configuration_after first log ≡ c → is_quorum (voters_of c) ids ≡ true

@@ -1,7 +1,7 @@
 -- Without the rule that at most one change of the voters on disk is beyond the commit index there. Server 1 saves two changes, and
 -- no commit index. After a crash it does not know that the first is committed, and is elected by itself; so is server 2. Two saves of
 -- server 1 are not allowed, by this rule alone, and term 2 has two leaders.
-use Rattle.std.proofs.Common.{◌≡◌, ℕ, ◌+◌, ◌≤◌, List, [], ◌∷◌, ◌++◌, refl, inr, arith}
+use Rattle.std.proofs.Common.{◌≡◌, ℕ, ◌+◌, ◌≤◌, false, List, [], ◌∷◌, ◌++◌, refl, inr, arith}
 use Rattle.std.specs.Prelude.{take, drop}
 use Rattle.conf_change.specs.Configuration.{Configuration}
 use Rattle.raft_safety.specs.Logs.{Log, IsPrefix}
@@ -24,7 +24,7 @@ record MaySaveAnyIndex (first : Configuration) (d : DiskCluster) (server : ℕ) 
 
 -- with the field that is left out, it is the guard
 with_the_rule : (first : Configuration) (d : DiskCluster) (server : ℕ) (saved rest : List EtcdAction) (commit : Log) → MaySaveAnyIndex first d server saved rest commit
-    → IsOneChangeBeyond first ((after_etcd_actions d.disk saved).cluster.servers server).log commit → MaySave first d server saved rest commit
+    → (d.disk.looks server ≡ false → IsOneChangeBeyond first ((after_etcd_actions d.disk saved).cluster.servers server).log commit) → MaySave first d server saved rest commit
 with_the_rule first d server saved rest commit may commit_kept = record { in_order = may.in_order; committed = may.committed; commit_kept = commit_kept }
 
 saves_both : MaySaveAnyIndex one (state [] 11) 1 (etcd.Receive 1 both_append ∷ []) [] []
@@ -32,13 +32,13 @@ saves_both = record { in_order = refl; committed = inr refl }
 
 is_refused : MaySave one (state [] 11) 1 (etcd.Receive 1 both_append ∷ []) [] [] → ⊥
 is_refused may =
-    let beyond : voter_changes one moved ≤ voter_changes one [] + 1 = may.commit_kept in
+    let beyond : voter_changes one moved ≤ voter_changes one [] + 1 = may.commit_kept refl in
     let two = voter_changes-moved in
     let none = voter_changes-first in
     omega arith
 
 crashes : MayCrash (state [] 23) 1 [] [] []
-crashes = record { restarts = record { at_least = refl; at_most = inr refl }; configuration_of_applied = refl }
+crashes = record { restarts = record { at_least = λ not. refl; at_most = inr refl }; configuration_of_applied = refl }
 
 saves_vote : MaySaveAnyIndex one (state [] 25) 1 (etcd.Campaign 1 2 [] ∷ []) [] []
 saves_vote = record { in_order = refl; committed = refl }

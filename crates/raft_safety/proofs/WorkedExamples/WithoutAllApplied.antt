@@ -12,9 +12,9 @@ use Rattle.raft_safety.specs.Configurations.{voter_changes}
 use Rattle.raft_safety.specs.Cluster.{Election}
 use Rattle.raft_safety.specs.Claims.{ElectionSafety}
 use Rattle.raft_safety.specs.EtcdCluster.{Append, Candidacy, EtcdCluster, new_etcd_cluster}
-use Rattle.raft_safety.specs.EtcdRules.{EtcdAction, Campaign, BecomeLeader, Propose, Send, Receive, Heartbeat, Commit, Apply, MayCampaignApplied, MayBecomeLeaderApplied, MayProposeApplied, MaySend, MayTake, MayTakeHeartbeat, MayCommitApplied, MayApply}
+use Rattle.raft_safety.specs.EtcdRules.{IsReady, EtcdAction, Campaign, BecomeLeader, Propose, Send, Receive, Heartbeat, Commit, Apply, MayCampaignApplied, MayBecomeLeaderApplied, MayProposeApplied, MaySend, MayTake, MayTakeHeartbeat, MayCommitApplied, MayApply}
 use Rattle.raft_safety.specs.EtcdRuns.{AreAllowedByEtcd, after_etcd_actions}
-use Rattle.raft_safety.proofs.WorkedExamples.SmallRuns.{IsQuorumAfter-of, OfEach-has, not_yet-from_elections}
+use Rattle.raft_safety.proofs.WorkedExamples.SmallRuns.{nobody, IsQuorumAfter-of, OfEach-has, not_yet-from_elections}
 use Rattle.raft_safety.proofs.WorkedExamples.TwoServers.{one, both, second, add, remove, added, moved, configuration_after-first, configuration_after-added, configuration_after-moved, voter_changes-first, voter_changes-added}
 
 -- ---- the run
@@ -43,7 +43,7 @@ run =
 
 -- the cluster after so many actions of the run
 abbrev state : ℕ → EtcdCluster
-state n = after_etcd_actions new_etcd_cluster (take n run)
+state n = after_etcd_actions (new_etcd_cluster nobody) (take n run)
 
 abbrev first_election : Election
 first_election = record { request = first_candidacy.request; votes = ids_of (1 ∷ []) }
@@ -56,7 +56,7 @@ second_election = record { request = second_candidacy.request; votes = ids_of (2
 
 -- ---- each action but one is allowed
 campaigns_1 : MayCampaignApplied one (state 0) 1 1 []
-campaigns_1 = record { later = omega arith; committed = refl; all_applied = refl }
+campaigns_1 = record { later = omega arith; committed = refl; ready = refl }
 
 leads_1 : MayBecomeLeaderApplied one (state 1) first_candidacy (ids_of (1 ∷ []))
 leads_1 = record {
@@ -114,7 +114,7 @@ hears_2 : MayTakeHeartbeat (state 12) 2 1 1 moved
 hears_2 = record { leads = (first_election, inl refl, refl, refl); not_past = omega arith; committed = inl refl; acknowledged = (moved, inl refl, inl refl) }
 
 campaigns_2 : MayCampaignApplied one (state 13) 2 2 moved
-campaigns_2 = record { later = omega arith; committed = inl refl; all_applied = refl }
+campaigns_2 = record { later = omega arith; committed = inl refl; ready = refl }
 
 leads_2 : MayBecomeLeaderApplied one (state 14) second_candidacy (ids_of (2 ∷ []))
 leads_2 = record {
@@ -133,26 +133,26 @@ leads_again_1 = record {
 }
 
 -- ---- the one that is not
--- what is asked of a campaign, but that all committed changes of voters are applied
+-- what is asked of a campaign, but that the server is ready: that all committed changes of voters are applied
 record MayCampaignUnapplied (e : EtcdCluster) (server term : ℕ) (applied : Log) : Type 0 where
   later : (e.cluster.servers server).term < term
   committed : IsPrefix applied (e.cluster.servers server).committed
 
 -- with the field that is left out, it is the guard
 with_the_rule : (first : Configuration) (e : EtcdCluster) (server term : ℕ) (applied : Log) → MayCampaignUnapplied e server term applied
-    → voter_changes first applied ≡ voter_changes first (e.cluster.servers server).committed → MayCampaignApplied first e server term applied
-with_the_rule first e server term applied may all_applied = record { later = may.later; committed = may.committed; all_applied = all_applied }
+    → IsReady first (e.looks server) (e.cluster.servers server) applied → MayCampaignApplied first e server term applied
+with_the_rule first e server term applied may ready = record { later = may.later; committed = may.committed; ready = ready }
 
 campaigns_unapplied_1 : MayCampaignUnapplied (state 15) 1 2 []
 campaigns_unapplied_1 = record { later = omega arith; committed = inr refl }
 
 is_refused : MayCampaignApplied one (state 15) 1 2 [] → ⊥
 is_refused may =
-    let applied : voter_changes one [] ≡ voter_changes one added = may.all_applied in
+    let applied : voter_changes one [] ≡ voter_changes one added = may.ready in
     let one_change = voter_changes-added in let none = voter_changes-first in
     omega arith
 
-all_but_one : (AreAllowedByEtcd one new_etcd_cluster (take 15 run))
+all_but_one : (AreAllowedByEtcd one (new_etcd_cluster nobody) (take 15 run))
     × MayCampaignUnapplied (state 15) 1 2 []
     × (AreAllowedByEtcd one (state 16) (drop 16 run))
 all_but_one = ((campaigns_1, (leads_1, (proposes_added, (sends_added, (takes_added, (commits_added, (applies_added, (proposes_moved, (sends_moved, (takes_moved_1, (takes_moved_2, (commits_moved, (hears_2, (campaigns_2, (leads_2, tt))))))))))))))), campaigns_unapplied_1, (leads_again_1, tt))

@@ -16,7 +16,7 @@ use Rattle.raft_safety.specs.EtcdCluster.{Append, Candidacy, EtcdCluster, new_et
 use Rattle.raft_safety.specs.EtcdRules.{EtcdAction, Campaign, GrantVote, BecomeLeader, Propose, Send, Receive, MayCampaignApplied, MayBecomeLeaderApplied, MayProposeApplied, MaySend, MayTake}
 use Rattle.raft_safety.specs.EtcdRuns.{AreAllowedByEtcd, after_etcd_actions}
 use Rattle.raft_safety.proofs.Configurations.{voter_changes-none}
-use Rattle.raft_safety.proofs.WorkedExamples.SmallRuns.{command, IsQuorumAfter-of, OfEach-has, once-from_votes, not_yet-from_elections}
+use Rattle.raft_safety.proofs.WorkedExamples.SmallRuns.{nobody, command, IsQuorumAfter-of, OfEach-has, once-from_votes, not_yet-from_elections}
 use Rattle.raft_safety.proofs.WorkedExamples.AddedVoter.{three, configuration_after-nothing}
 
 -- ---- the run
@@ -69,7 +69,7 @@ run =
 
 -- the cluster after so many actions of the run
 abbrev state : ℕ → EtcdCluster
-state n = after_etcd_actions new_etcd_cluster (take n run)
+state n = after_etcd_actions (new_etcd_cluster nobody) (take n run)
 
 abbrev third_election : Election
 third_election = record { request = third_request; votes = ids_of (2 ∷ 3 ∷ []) }
@@ -84,7 +84,7 @@ unfolding voters_after configuration_after
 no_change = voter_changes-none three b with_a refl
 
 campaigns_3 : MayCampaignApplied three (state 0) 3 1 []
-campaigns_3 = record { later = omega arith; committed = refl; all_applied = refl }
+campaigns_3 = record { later = omega arith; committed = refl; ready = refl }
 
 votes_for_3 : MayGrantVote (state 1).cluster 2 third_request
 votes_for_3 = record { asked = inl refl; not_past = omega arith; once = once-from_votes (state 1).cluster 1 2 3 refl; up_to_date = inr (refl, omega arith) }
@@ -107,7 +107,7 @@ takes_y_3 : MayTake (state 5) 3 append_y
 takes_y_3 = record { sent = inl refl; not_past = omega arith; matches = refl }
 
 campaigns_1 : MayCampaignApplied three (state 6) 1 2 []
-campaigns_1 = record { later = omega arith; committed = refl; all_applied = refl }
+campaigns_1 = record { later = omega arith; committed = refl; ready = refl }
 
 votes_for_1 : MayGrantVote (state 7).cluster 2 first_request
 votes_for_1 = record { asked = inl refl; not_past = omega arith; once = once-from_votes (state 7).cluster 2 2 1 refl; up_to_date = inr (refl, omega arith) }
@@ -152,7 +152,7 @@ takes_b_3 = record { sent = inl refl; not_past = omega arith }
 is_refused : MayTake (state 12) 3 append_b → ⊥
 is_refused may = let terms = may.matches in cc
 
-all_but_one : (AreAllowedByEtcd three new_etcd_cluster (take 12 run)) × MayTakeUnmatched (state 12) 3 append_b × (AreAllowedByEtcd three (state 13) (drop 13 run))
+all_but_one : (AreAllowedByEtcd three (new_etcd_cluster nobody) (take 12 run)) × MayTakeUnmatched (state 12) 3 append_b × (AreAllowedByEtcd three (state 13) (drop 13 run))
 all_but_one =
     ((campaigns_3, (votes_for_3, (leads_3, (proposes_y, (sends_y, (takes_y_3, (campaigns_1, (votes_for_1, (leads_1, (proposes_a, (proposes_b, (sends_b, tt)))))))))))), takes_b_3, (sends_both, (takes_both_1, tt)))
 

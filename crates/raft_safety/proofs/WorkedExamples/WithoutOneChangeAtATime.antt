@@ -14,7 +14,7 @@ use Rattle.raft_safety.specs.Claims.{ElectionSafety}
 use Rattle.raft_safety.specs.EtcdCluster.{Append, Candidacy, EtcdCluster, new_etcd_cluster}
 use Rattle.raft_safety.specs.EtcdRules.{EtcdAction, Campaign, BecomeLeader, Propose, Send, Receive, Heartbeat, Commit, MayCampaignApplied, MayBecomeLeaderApplied, MayProposeApplied, MaySend, MayTake, MayTakeHeartbeat, MayCommitApplied}
 use Rattle.raft_safety.specs.EtcdRuns.{AreAllowedByEtcd, after_etcd_actions}
-use Rattle.raft_safety.proofs.WorkedExamples.SmallRuns.{IsQuorumAfter-of, OfEach-has, not_yet-from_elections}
+use Rattle.raft_safety.proofs.WorkedExamples.SmallRuns.{nobody, IsQuorumAfter-of, OfEach-has, not_yet-from_elections}
 use Rattle.raft_safety.proofs.WorkedExamples.TwoServers.{one, second, add, remove, added, moved, configuration_after-first, configuration_after-moved, voter_changes-first, voter_changes-added, voter_changes-moved}
 
 -- ---- the run
@@ -38,7 +38,7 @@ run =
 
 -- the cluster after so many actions of the run
 abbrev state : ℕ → EtcdCluster
-state n = after_etcd_actions new_etcd_cluster (take n run)
+state n = after_etcd_actions (new_etcd_cluster nobody) (take n run)
 
 abbrev first_election : Election
 first_election = record { request = first_candidacy.request; votes = ids_of (1 ∷ []) }
@@ -51,7 +51,7 @@ second_election = record { request = second_candidacy.request; votes = ids_of (2
 
 -- ---- each action but one is allowed
 campaigns_1 : MayCampaignApplied one (state 0) 1 1 []
-campaigns_1 = record { later = omega arith; committed = refl; all_applied = refl }
+campaigns_1 = record { later = omega arith; committed = refl; ready = refl }
 
 leads_1 : MayBecomeLeaderApplied one (state 1) first_candidacy (ids_of (1 ∷ []))
 leads_1 = record {
@@ -87,7 +87,7 @@ hears_2 : MayTakeHeartbeat (state 8) 2 1 1 moved
 hears_2 = record { leads = (first_election, inl refl, refl, refl); not_past = omega arith; committed = inl refl; acknowledged = (moved, inl refl, inl refl) }
 
 campaigns_2 : MayCampaignApplied one (state 9) 2 2 moved
-campaigns_2 = record { later = omega arith; committed = inl refl; all_applied = refl }
+campaigns_2 = record { later = omega arith; committed = inl refl; ready = refl }
 
 leads_2 : MayBecomeLeaderApplied one (state 10) second_candidacy (ids_of (2 ∷ []))
 leads_2 = record {
@@ -98,7 +98,7 @@ leads_2 = record {
 }
 
 campaigns_again_1 : MayCampaignApplied one (state 11) 1 2 []
-campaigns_again_1 = record { later = omega arith; committed = refl; all_applied = refl }
+campaigns_again_1 = record { later = omega arith; committed = refl; ready = refl }
 
 leads_again_1 : MayBecomeLeaderApplied one (state 12) old_candidacy (ids_of (1 ∷ []))
 leads_again_1 = record {
@@ -132,7 +132,7 @@ is_refused may =
       | inr applied ↦ (omega arith)
     ]
 
-all_but_one : (AreAllowedByEtcd one new_etcd_cluster (take 3 run))
+all_but_one : (AreAllowedByEtcd one (new_etcd_cluster nobody) (take 3 run))
     × MayProposeTwo (state 3) 1 1 remove
     × (AreAllowedByEtcd one (state 4) (drop 4 run))
 all_but_one = ((campaigns_1, (leads_1, (proposes_added, tt))), proposes_moved, (sends, (takes_1, (takes_2, (commits_moved, (hears_2, (campaigns_2, (leads_2, (campaigns_again_1, (leads_again_1, tt))))))))))

@@ -15,7 +15,7 @@ use Rattle.raft_safety.specs.DiskRules.{DiskAction, Campaign, Take, Save, Say, L
 use Rattle.raft_safety.specs.DiskRuns.{after_disk_actions, AreAllowedOnDisk}
 use Rattle.raft_safety.specs.DiskClaims.{AreGivenOneLog}
 use Rattle.raft_safety.proofs.Configurations.{voter_changes-entry}
-use Rattle.raft_safety.proofs.WorkedExamples.SmallRuns.{command, first_byte, IsQuorumAfter-of, OfEach-has, not_yet-from_elections}
+use Rattle.raft_safety.proofs.WorkedExamples.SmallRuns.{nobody, command, first_byte, IsQuorumAfter-of, OfEach-has, not_yet-from_elections}
 use Rattle.raft_safety.proofs.WorkedExamples.TwoServers.{one, configuration_after-first}
 use Rattle.raft_safety.proofs.WorkedExamples.SavedFirst.{first_election, with_x, rose, until_it_rose, not_yet_used}
 use Rattle.raft_safety.proofs.WorkedExamples.SavedFirst as first
@@ -61,13 +61,13 @@ applies_x : MayApply (state 1).disk 1 1 with_x
 applies_x = record { leads = (first_election, inl refl, refl, refl); more = inr refl; committed = inl refl }
 
 crashes : MayCrash (state 2) 1 [] [] []
-crashes = record { restarts = record { at_least = refl; at_most = refl }; configuration_of_applied = refl }
+crashes = record { restarts = record { at_least = λ not. refl; at_most = refl }; configuration_of_applied = refl }
 
 campaigns : MayCampaignApplied one (memory (state 3) 1) 1 2 []
-campaigns = record { later = omega arith; committed = refl; all_applied = refl }
+campaigns = record { later = omega arith; committed = refl; ready = refl }
 
 saves_vote : MaySave one (state 4) 1 (etcd.Campaign 1 2 [] ∷ []) [] []
-saves_vote = record { in_order = refl; committed = refl; commit_kept = omega arith }
+saves_vote = record { in_order = refl; committed = refl; commit_kept = λ not. omega arith }
 
 votes : MaySay (state 5) (Grant second_vote)
 votes = record { saved = inl refl }
@@ -99,7 +99,7 @@ raises_y = record {
 }
 
 saves_y : MaySave one (state 11) 1 (etcd.Receive 1 other ∷ []) [] []
-saves_y = record { in_order = refl; committed = refl; commit_kept = voter_changes-entry one y [] }
+saves_y = record { in_order = refl; committed = refl; commit_kept = λ not. voter_changes-entry one y [] }
 
 uses_y : MayUse (state 12) rose_again
 uses_y = record { rose = inl refl; rises = omega arith; own_saved = λ counts. (with_y, inl refl, inl refl) }
@@ -126,7 +126,7 @@ uses_x = record { rose = inl refl; rises = omega arith }
 is_refused : MayUse (state 0) rose → ⊥
 is_refused = not_yet_used
 
-all_but_one : (AreAllowedOnDisk one new_disk_cluster (take 8 first.run)) × MayUseUnsaved (state 0) rose × (AreAllowedOnDisk one (state 1) (drop 1 run))
+all_but_one : (AreAllowedOnDisk one (new_disk_cluster nobody) (take 8 first.run)) × MayUseUnsaved (state 0) rose × (AreAllowedOnDisk one (state 1) (drop 1 run))
 all_but_one = (until_it_rose, uses_x, (applies_x, (crashes, (campaigns, (saves_vote, (votes, (leads, (proposes_y, (sends_y, (takes_y, (raises_y, (saves_y, (uses_y, (applies_y, tt))))))))))))))
 
 -- ---- server 1 was given x, and after the crash y, at one index

@@ -12,7 +12,7 @@ use Rattle.raft_safety.specs.EtcdRules as etcd
 use Rattle.raft_safety.specs.DiskCluster.{Ask, Grant, DiskCluster, memory, new_disk_cluster}
 use Rattle.raft_safety.specs.DiskRules.{DiskAction, Campaign, Take, Save, Say, Lead, Crash, MayTakeInMemory, MaySave, MaySay, MayLead, MayCrash}
 use Rattle.raft_safety.specs.DiskRuns.{after_disk_actions, AreAllowedOnDisk}
-use Rattle.raft_safety.proofs.WorkedExamples.SmallRuns.{IsQuorumAfter-of, OfEach-has, once-from_votes, not_yet-from_elections}
+use Rattle.raft_safety.proofs.WorkedExamples.SmallRuns.{nobody, IsQuorumAfter-of, OfEach-has, once-from_votes, not_yet-from_elections}
 use Rattle.raft_safety.proofs.WorkedExamples.AddedVoter.{three, configuration_after-nothing}
 
 -- ---- the run
@@ -42,14 +42,14 @@ run =
 
 -- the cluster after so many actions of the run
 abbrev state : ℕ → DiskCluster
-state n = after_disk_actions new_disk_cluster (take n run)
+state n = after_disk_actions (new_disk_cluster nobody) (take n run)
 
 -- ---- each action but one is allowed
 campaigns_1 : MayCampaignApplied three (memory (state 0) 1) 1 1 []
-campaigns_1 = record { later = omega arith; committed = refl; all_applied = refl }
+campaigns_1 = record { later = omega arith; committed = refl; ready = refl }
 
 saves_1 : MaySave three (state 1) 1 (etcd.Campaign 1 1 [] ∷ []) [] []
-saves_1 = record { in_order = refl; committed = refl; commit_kept = omega arith }
+saves_1 = record { in_order = refl; committed = refl; commit_kept = λ not. omega arith }
 
 asks_1 : MaySay (state 2) (Ask request_of_1)
 asks_1 = record { saved = inl refl }
@@ -73,13 +73,13 @@ leads_1 = record {
 }
 
 crashes_2 : MayCrash (state 7) 2 [] [] []
-crashes_2 = record { restarts = record { at_least = refl; at_most = refl }; configuration_of_applied = refl }
+crashes_2 = record { restarts = record { at_least = λ not. refl; at_most = refl }; configuration_of_applied = refl }
 
 campaigns_3 : MayCampaignApplied three (memory (state 8) 3) 3 1 []
-campaigns_3 = record { later = omega arith; committed = refl; all_applied = refl }
+campaigns_3 = record { later = omega arith; committed = refl; ready = refl }
 
 saves_3 : MaySave three (state 9) 3 (etcd.Campaign 3 1 [] ∷ []) [] []
-saves_3 = record { in_order = refl; committed = refl; commit_kept = omega arith }
+saves_3 = record { in_order = refl; committed = refl; commit_kept = λ not. omega arith }
 
 asks_3 : MaySay (state 10) (Ask request_of_3)
 asks_3 = record { saved = inl refl }
@@ -95,7 +95,7 @@ votes_for_3 = record {
 }
 
 saves_2 : MaySave three (state 13) 2 (etcd.GrantVote 2 request_of_3 ∷ []) [] []
-saves_2 = record { in_order = refl; committed = refl; commit_kept = omega arith }
+saves_2 = record { in_order = refl; committed = refl; commit_kept = λ not. omega arith }
 
 says_2 : MaySay (state 14) (Grant (vote 2 3))
 says_2 = record { saved = inl refl }
@@ -115,7 +115,7 @@ in_memory_only = inl refl
 is_refused : MaySay (state 5) (Grant (vote 2 1)) → ⊥
 is_refused may = elim may.saved [ inl is ↦ (let voters = ap (λ (v : Vote). v.voter) is in cc) | inr none ↦ none ]
 
-all_but_one : (AreAllowedOnDisk three new_disk_cluster (take 5 run)) × (AreAllowedOnDisk three (state 6) (drop 6 run))
+all_but_one : (AreAllowedOnDisk three (new_disk_cluster nobody) (take 5 run)) × (AreAllowedOnDisk three (state 6) (drop 6 run))
 all_but_one = ((campaigns_1, (saves_1, (asks_1, (says_1, (votes_for_1, tt))))), (leads_1, (crashes_2, (campaigns_3, (saves_3, (asks_3, (says_3, (votes_for_3, (saves_2, (says_2, (leads_3, tt)))))))))))
 
 -- ---- two leaders of a term

@@ -25,16 +25,16 @@ with_the_rule : (d : DiskCluster) (server : ℕ) (known applied configured : Log
 with_the_rule d server known applied configured may same = record { restarts = may.restarts; configuration_of_applied = same }
 
 saves_both : MaySave one (state added 11) 1 (etcd.Receive 1 both_append ∷ []) [] added
-saves_both = record { in_order = refl; committed = inl refl; commit_kept = voter_changes-entry one remove added }
+saves_both = record { in_order = refl; committed = inl refl; commit_kept = λ not. voter_changes-entry one remove added }
 
 crashes : MayCrashWithAny (state added 23) 1 added added []
-crashes = record { restarts = record { at_least = inl refl; at_most = inl refl } }
+crashes = record { restarts = record { at_least = λ not. inl refl; at_most = inl refl } }
 
 is_refused : MayCrash (state added 23) 1 added added [] → ⊥
 is_refused may = let lengths = ap (λ (log : Log). length log) may.configuration_of_applied in omega arith
 
 saves_vote : MaySave one (state added 25) 1 (etcd.Campaign 1 2 [] ∷ []) [] added
-saves_vote = record { in_order = refl; committed = inl refl; commit_kept = voter_changes-entry one remove added }
+saves_vote = record { in_order = refl; committed = inl refl; commit_kept = λ not. voter_changes-entry one remove added }
 
 all_but_one : (AreAllowedOnDisk one (first.state 4) (take 11 (run added))) × MaySave one (state added 11) 1 (etcd.Receive 1 both_append ∷ []) [] added
     × (AreAllowedOnDisk one (state added 12) (take 11 (drop 12 (run added)))) × MayCrashWithAny (state added 23) 1 added added []
