@@ -5,7 +5,8 @@
 -- The first configuration is the one that the founders begin with: what etcd's StartNode makes of its peers, or the
 -- ConfState of the snapshot that each founder starts from. What was logged before it is not in the logs here. It may be
 -- any, joint or not, valid or not. One without incoming voters has no quorum, since no majority of none is there: then
--- no leader is ever elected, and nothing is committed.
+-- no leader is ever elected, and nothing is committed. (etcd's count takes a vote of no voters for won; none of its members
+-- campaigns then.)
 use Rattle.std.specs.Prelude.{ℕ, ◌+◌, ◌≤◌, Bool, ◌&&◌, if◌then◌else◌, IsTrue, [], ◌∷◌}
 use Rattle.std.specs.Result.{result_unwrap_or}
 use Rattle.quorum_sets.specs.Ids.{Ids}

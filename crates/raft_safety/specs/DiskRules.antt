@@ -18,7 +18,7 @@ use Rattle.raft_safety.specs.Logs.{Entry, Log, IsPrefix, last_term}
 use Rattle.raft_safety.specs.Configurations.{IsQuorumAfter, IsOneChangeBeyond}
 use Rattle.raft_safety.specs.Cluster.{In, Leads}
 use Rattle.raft_safety.specs.EtcdCluster.{Candidacy, EtcdCluster}
-use Rattle.raft_safety.specs.EtcdRules.{EtcdAction, MayCampaignApplied, MayProposeApplied, MaySend, MayApply, MayRestartDurable, IsAllowedByEtcd}
+use Rattle.raft_safety.specs.EtcdRules.{EtcdAction, HasAppliedSince, MayCampaignApplied, MayProposeApplied, MaySend, MayApply, MayRestartDurable, IsAllowedByEtcd}
 use Rattle.raft_safety.specs.EtcdRules as etcd
 use Rattle.raft_safety.specs.EtcdRuns.{after_etcd_actions}
 use Rattle.raft_safety.specs.DiskCluster.{Message, Ask, Grant, Acknowledge, Raised, DiskCluster, memory, in_memory}
@@ -91,7 +91,9 @@ pub record MayLead (first : Configuration) (d : DiskCluster) (candidacy : Candid
   pub asked : In candidacy d.disk.candidacies
   pub not_yet : ¬ Leads d.disk.cluster candidacy.request.term candidacy.request.candidate
   pub voted : (voter : ℕ) → has votes voter ≡ true → In (Grant (record { term = candidacy.request.term; voter = voter; candidate = candidacy.request.candidate })) d.said
-  pub quorum : IsQuorumAfter first candidacy.applied votes
+  pub counted : Log
+  pub in_force : HasAppliedSince candidacy counted
+  pub quorum : IsQuorumAfter first counted votes
 
 -- the commit index of a leader may rise in its memory. It counts its own server as soon as that has the entries in memory
 pub record MayRaise (first : Configuration) (d : DiskCluster) (term leader : ℕ) (log : Log) (servers : Ids) : Type 0 where

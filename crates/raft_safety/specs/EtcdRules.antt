@@ -53,6 +53,12 @@ pub record MayCampaignApplied (first : Configuration) (e : EtcdCluster) (server 
   pub committed : IsPrefix applied (e.cluster.servers server).committed
   pub ready : IsReady first (e.looks server) (e.cluster.servers server) applied
 
+-- a candidate counts votes by the configuration after this log: it may apply more, but of what it knew to be committed when it
+-- campaigned, for a server that learns of more is no candidate any more
+pub record HasAppliedSince (candidacy : Candidacy) (counted : Log) : Type 0 where
+  pub at_least : IsPrefix candidacy.applied counted
+  pub at_most : IsPrefix counted candidacy.request.committed
+
 -- a candidate may become leader
 pub record MayBecomeLeaderApplied (first : Configuration) (e : EtcdCluster) (candidacy : Candidacy) (votes : Ids) : Type 0 where
   -- it campaigned
@@ -61,9 +67,10 @@ pub record MayBecomeLeaderApplied (first : Configuration) (e : EtcdCluster) (can
   pub not_yet : ¬ Leads e.cluster candidacy.request.term candidacy.request.candidate
   -- these servers voted for it in its term
   pub voted : (voter : ℕ) → has votes voter ≡ true → In (record { term = candidacy.request.term; voter = voter; candidate = candidacy.request.candidate }) e.cluster.votes
-  -- votes are counted by the configuration in force at the candidate, which is the one that it had applied when it
-  -- campaigned: a server that learns of more that is committed is no candidate any more
-  pub quorum : IsQuorumAfter first candidacy.applied votes
+  -- votes are counted by the configuration in force at the candidate
+  pub counted : Log
+  pub in_force : HasAppliedSince candidacy counted
+  pub quorum : IsQuorumAfter first counted votes
 
 -- a leader may append an entry to its log
 pub record MayProposeApplied (first : Configuration) (e : EtcdCluster) (term leader : ℕ) (entry : Entry) : Type 0 where

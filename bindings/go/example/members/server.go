@@ -181,9 +181,9 @@ func (s *server) restore(snapshot pb.Snapshot) {
 	}
 }
 
-// apply applies a committed entry. With each change of the members it takes a snapshot, since a server with an empty log is
-// sent one, which has to name it. So a restart, which is told that all up to the snapshot is applied, has the configuration
-// there.
+// apply applies a committed entry; no change is cancelled. With each change of the members it takes a snapshot, since a
+// server with an empty log is sent one, which has to name it. So a restart, which is told that all up to the snapshot is
+// applied, has the configuration there.
 func (s *server) apply(entry pb.Entry) {
 	s.applied = entry.Index
 	if entry.Type == pb.EntryNormal {

@@ -175,7 +175,7 @@ lead-keeps first d k votes may i =
     let f : EtcdCluster = after_etcd_action e (etcd.BecomeLeader k votes) in
     let leaders : DoLeadersGrow c f.cluster = become_leader-grows c k.request votes may.not_yet in
     let g : Grows c f.cluster = record { leaders = leaders; requests = λ r x. x; votes = λ v x. x; acknowledgements = λ a x. x; commitments = λ m x. x } in
-    let allowed : MayBecomeLeaderApplied first e k votes = record { asked = may.asked; not_yet = may.not_yet; voted = λ voter x. i.said _ (may.voted voter x); quorum = may.quorum } in (
+    let allowed : MayBecomeLeaderApplied first e k votes = record { asked = may.asked; not_yet = may.not_yet; voted = λ voter x. i.said _ (may.voted voter x); counted = may.counted; in_force = may.in_force; quorum = may.quorum } in (
       goes_over first d f i (become_leader-keeps_etcd first e k votes allowed i.disk) g (led_on e f.cluster f.applied refl refl refl refl leaders),
       g,
     )

@@ -29,12 +29,14 @@ suffix [] start = IsPrefix-refl start
 suffix (entry ∷ entries) start = inr (suffix entries start)
 
 -- ---- actions that ask more than those of Steps.antt
--- a candidate counts by what it has applied
-pub MayBecomeLeader-applied : (first : Configuration) (e : EtcdCluster) (candidacy : Candidacy) (votes : Ids) → AreEtcdInvariants first e → MayBecomeLeaderApplied first e candidacy votes
-    → MayBecomeLeaderBy first e.cluster candidacy.request candidacy.applied votes
+-- a candidate counts by what it has applied, which has all changes of its log but the last
+pub MayBecomeLeader-applied : (first : Configuration) (e : EtcdCluster) (candidacy : Candidacy) (votes : Ids) → AreEtcdInvariants first e
+    → (may : MayBecomeLeaderApplied first e candidacy votes) → MayBecomeLeaderBy first e.cluster candidacy.request may.counted votes
 MayBecomeLeader-applied first e candidacy votes i may =
     let its = i.candidacies candidacy may.asked in
-    record { asked = its.asked; not_yet = may.not_yet; voted = may.voted; counts = its.counts; quorum = may.quorum }
+    let few : voter_changes first candidacy.request.log ≤ voter_changes first candidacy.applied + 1 = its.counts.one_change_beyond in
+    let more : voter_changes first candidacy.applied ≤ voter_changes first may.counted = voter_changes-prefix first candidacy.applied may.counted may.in_force.at_least in
+    record { asked = its.asked; not_yet = may.not_yet; voted = may.voted; counts = record { part = may.in_force.at_most; one_change_beyond = omega arith }; quorum = may.quorum }
 
 pub MayCommit-applied : (first : Configuration) (e : EtcdCluster) (term leader : ℕ) (log : Log) (servers : Ids) → AreEtcdInvariants first e → MayCommitApplied first e term leader log servers
     → MayCommit first e.cluster leader (commitment_of e term leader log servers)

@@ -31,7 +31,7 @@ become_leader-keeps_etcd first e k votes may i =
     let g : DoLeadersGrow c d = become_leader-grows c r votes may.not_yet in
     let now : ℕ → ℕ → Log = with_value e.applied r.term (with_value (e.applied r.term) r.candidate k.applied) in
     record {
-      core = become_leader_by-keeps first c r k.applied votes (MayBecomeLeader-applied first e k votes i may) i.core;
+      core = become_leader_by-keeps first c r may.counted votes (MayBecomeLeader-applied first e k votes i may) i.core;
       durable = i.durable;
       applied = λ t s l. with_value-pair (λ (q : Leadership). IsApplied first q.log q.committed (now t s)) c.leaderships r.term r.candidate new t s
           (λ same_t same_s. with_value-pair (IsApplied first new.log new.committed) e.applied r.term r.candidate k.applied t s (λ a b. new_applied) (λ other. absurd (other same_t same_s)))

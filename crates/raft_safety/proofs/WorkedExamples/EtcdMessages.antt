@@ -71,6 +71,8 @@ leads_1 = record {
   asked = inl refl;
   not_yet = not_yet-from_elections (state 2).cluster 1 1 refl;
   voted = OfEach-has _ (1 ∷ 2 ∷ []) (inr (inl refl), (inl refl, tt));
+  counted = [];
+  in_force = record { at_least = refl; at_most = refl };
   quorum = IsQuorumAfter-of three [] three (ids_of (1 ∷ 2 ∷ [])) configuration_after-nothing (simp written_out refl);
 }
 
@@ -157,6 +159,8 @@ leads_4 = record {
   asked = inl refl;
   not_yet = not_yet-from_elections (state 23).cluster 2 4 refl;
   voted = OfEach-has _ (1 ∷ 3 ∷ 4 ∷ []) (inr (inl refl), (inl refl, (inr (inr (inl refl)), tt)));
+  counted = added;
+  in_force = record { at_least = inl refl; at_most = inl refl };
   quorum = IsQuorumAfter-of three added four (ids_of (1 ∷ 3 ∷ 4 ∷ [])) configuration_after-add_4 (simp written_out refl);
 }
 

@@ -8,6 +8,7 @@ use Rattle.std.specs.Prelude.{take, drop}
 use Rattle.quorum_sets.specs.Ids.{ids_of}
 use Rattle.quorum_sets.proofs.Offered.{written_out}
 use Rattle.raft_safety.specs.Logs.{Log, IsPrefix}
+use Rattle.raft_safety.proofs.Logs.{IsPrefix-empty}
 use Rattle.raft_safety.specs.Claims.{ElectionSafety}
 use Rattle.raft_safety.specs.Cluster.{VoteRequest, Election, Acknowledgement}
 use Rattle.raft_safety.specs.EtcdCluster.{Append, Candidacy}
@@ -159,6 +160,8 @@ leads_2 kept = record {
   asked = inl refl;
   not_yet = not_yet-from_elections (state kept 22).disk.cluster 2 2 refl;
   voted = OfEach-has _ (2 ∷ []) (inl refl, tt);
+  counted = moved;
+  in_force = record { at_least = inl refl; at_most = inl refl };
   quorum = IsQuorumAfter-of one moved second (ids_of (2 ∷ [])) configuration_after-moved (simp written_out refl);
 }
 
@@ -198,6 +201,8 @@ leads_again kept = record {
   asked = inl refl;
   not_yet = not_yet-from_elections (state kept 27).disk.cluster 2 1 refl;
   voted = OfEach-has _ (1 ∷ []) (inl refl, tt);
+  counted = [];
+  in_force = record { at_least = refl; at_most = IsPrefix-empty kept };
   quorum = IsQuorumAfter-of one [] one (ids_of (1 ∷ [])) configuration_after-first (simp written_out refl);
 }
 

@@ -71,6 +71,8 @@ leads_1 = record {
   asked = inl refl;
   not_yet = not_yet-from_elections (state 3).disk.cluster 1 1 refl;
   voted = OfEach-has _ (1 ∷ []) (inl refl, tt);
+  counted = [];
+  in_force = record { at_least = refl; at_most = refl };
   quorum = IsQuorumAfter-of one [] one (ids_of (1 ∷ [])) configuration_after-first (simp written_out refl);
 }
 

@@ -63,6 +63,8 @@ leads_1 = record {
   asked = inl refl;
   not_yet = not_yet-from_elections (state 1).cluster 1 1 refl;
   voted = OfEach-has _ (1 ∷ []) (inl refl, tt);
+  counted = [];
+  in_force = record { at_least = refl; at_most = refl };
   quorum = IsQuorumAfter-of one [] one (ids_of (1 ∷ [])) configuration_after-first (simp written_out refl);
 }
 
@@ -121,6 +123,8 @@ leads_2 = record {
   asked = inl refl;
   not_yet = not_yet-from_elections (state 14).cluster 2 2 refl;
   voted = OfEach-has _ (2 ∷ []) (inl refl, tt);
+  counted = moved;
+  in_force = record { at_least = inl refl; at_most = inl refl };
   quorum = IsQuorumAfter-of one moved second (ids_of (2 ∷ [])) configuration_after-moved (simp written_out refl);
 }
 
@@ -129,6 +133,8 @@ leads_again_1 = record {
   asked = inl refl;
   not_yet = not_yet-from_elections (state 16).cluster 2 1 refl;
   voted = OfEach-has _ (1 ∷ []) (inl refl, tt);
+  counted = [];
+  in_force = record { at_least = refl; at_most = inr refl };
   quorum = IsQuorumAfter-of one [] one (ids_of (1 ∷ [])) configuration_after-first (simp written_out refl);
 }
 

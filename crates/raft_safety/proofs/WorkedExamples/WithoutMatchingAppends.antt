@@ -94,6 +94,8 @@ leads_3 = record {
   asked = inl refl;
   not_yet = not_yet-from_elections (state 2).cluster 1 3 refl;
   voted = OfEach-has _ (2 ∷ 3 ∷ []) (inl refl, (inr (inl refl), tt));
+  counted = [];
+  in_force = record { at_least = refl; at_most = refl };
   quorum = IsQuorumAfter-of three [] three (ids_of (2 ∷ 3 ∷ [])) configuration_after-nothing (simp written_out refl);
 }
 
@@ -117,6 +119,8 @@ leads_1 = record {
   asked = inl refl;
   not_yet = not_yet-from_elections (state 8).cluster 2 1 refl;
   voted = OfEach-has _ (1 ∷ 2 ∷ []) (inr (inl refl), (inl refl, tt));
+  counted = [];
+  in_force = record { at_least = refl; at_most = refl };
   quorum = IsQuorumAfter-of three [] three (ids_of (1 ∷ 2 ∷ [])) configuration_after-nothing (simp written_out refl);
 }
 

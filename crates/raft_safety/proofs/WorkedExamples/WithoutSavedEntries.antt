@@ -77,6 +77,8 @@ leads = record {
   asked = inl refl;
   not_yet = not_yet-from_elections (state 6).disk.cluster 2 1 refl;
   voted = OfEach-has _ (1 ∷ []) (inl refl, tt);
+  counted = [];
+  in_force = record { at_least = refl; at_most = refl };
   quorum = IsQuorumAfter-of one [] one (ids_of (1 ∷ [])) configuration_after-first (simp written_out refl);
 }
 
