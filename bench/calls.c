@@ -83,6 +83,24 @@ static void stages(int row) {
     sum += confscript_stages(five, 11, target, 11, CONFSCRIPT_STRATEGY_SHORTEST, NULL, 0, out, 128).number;
 }
 
+static void stages_learners_first(int row) {
+    uint64_t target[] = {0, 5, 0, 0, 0, 0, 2, 3, 4, 5, 6 + (uint64_t)row}, out[128];
+    sum += confscript_stages(five, 11, target, 11, CONFSCRIPT_STRATEGY_LEARNERS_FIRST, NULL, 0, out, 128).number;
+}
+
+/* All members have caught up and run, and so does the new one: its addition is proposed. */
+static void next(int row) {
+    uint64_t target[] = {0, 5, 0, 0, 0, 0, 2, 3, 4, 5, 6 + (uint64_t)row}, out[128];
+    uint64_t view[CONFSCRIPT_VIEW_FIRST + 21] = {57, 1, 60, 0, 8, 5, 6, 0};
+    for (uint64_t id = 1; id <= 6; id++) {
+        uint64_t *member = view + CONFSCRIPT_VIEW_FIRST + 3 * (id - 1);
+        if (id < 6) member[0] = id, member[1] = 60, member[2] = 1;
+        view[CONFSCRIPT_VIEW_FIRST + 15 + id - 1] = id < 6 ? id : target[10];
+    }
+    sum += confscript_next(five, 11, target, 11, CONFSCRIPT_STRATEGY_LEARNERS_FIRST, NULL, 0, view, CONFSCRIPT_VIEW_FIRST + 21, out, 128).number;
+    if (out[CONFSCRIPT_ACTION_KIND] != CONFSCRIPT_ACTION_PROPOSE) exit(1);
+}
+
 static double least(void (*call)(int), int rows) {
     double best = 1e9;
     for (int round = 0; round < ROUNDS; round++) {
@@ -123,6 +141,7 @@ int main(void) {
                least(plain_committed, ROWS));
     printf("five voters: simple step %.0f, entering step %.0f, restore %.0f, stages %.0f\n", least(simple_step, FEW_ROWS),
            least(entering_step, FEW_ROWS), least(restore, FEW_ROWS), least(stages, FEW_ROWS));
+    printf("five voters, learners first: stages %.0f, next %.0f\n", least(stages_learners_first, FEW_ROWS), least(next, FEW_ROWS));
     for (size_t n = 100; n <= 10000; n *= 10) many(n);
     return 0;
 }

@@ -1,6 +1,7 @@
 //! What the table of [`next`](crate::next) looks at.
 ghost use Rattle.std.specs.Prelude.{◌≡◌, IfOk};
 ghost use Rattle.conf_change.specs.Configuration.{member_ids};
+ghost use Rattle.plan_output.specs.Stages.{configuration_after_step};
 ghost use Rattle.conf_driver.specs.IdSets.{◌∖◌};
 ghost use Rattle.conf_driver.specs.Situation as spec;
 ghost use Rattle.conf_driver.specs.View as view_spec;
@@ -8,9 +9,9 @@ ghost use Rattle.conf_driver.specs.Situation.{situation_of};
 
 use crate::sets::without;
 use crate::view::{View, heard_from, lacking, up_and_caught_up};
-use conf_change::{Config, union};
+use conf_change::{Config, Step, union};
 use conf_plan::Path;
-use plan_output::stages;
+use plan_output::Stage;
 use quorum_sets::{InlineIds, MemberSet, NoMemory, may_be_down};
 use std::alloc::Global;
 
@@ -161,11 +162,22 @@ fn after_first(
 ) -> Result<Config<InlineIds>, NoMemory>
     ensures { IfOk result (λ after. after ≡ spec.after_first now.now path.now) }
 {
-    let stages = stages(alloc, now, path)?;
-    match stages.get(1) {
-        Some(stage) => stage.config().try_clone(),
+    match path.step(0) {
+        Some(step) => after_step(alloc, now, step),
         None => now.try_clone(),
     }
+}
+
+// The configuration after a step.
+fn after_step(
+    alloc: Global,
+    now: &Config<InlineIds>,
+    step: &Step,
+) -> Result<Config<InlineIds>, NoMemory>
+    ensures { IfOk result (λ after. after ≡ configuration_after_step now.now step.now) }
+{
+    let stage = Stage::first(alloc, now)?.next(alloc, step)?;
+    stage.config().try_clone()
 }
 
 // The voters of a configuration, incoming and outgoing.
