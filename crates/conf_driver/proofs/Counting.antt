@@ -2,7 +2,7 @@
 use Rattle.std.proofs.Common.{◌≡◌, ℕ, ◌*◌, ◌≤◌, Bool, true, false, ◌||◌, refl, sym, ◌∙◌, arith, is_some, inl, inr, ◌⊎◌}
 use Rattle.std.specs.Prelude.{Option, Some, None}
 use Rattle.std.proofs.lemmas.Bool.{and_parts, both_ways, cases_Bool, le-ltb, not-true}
-use Rattle.quorum_sets.specs.Ids.{Ids, ascending, count_of, has, majority_passes, size}
+use Rattle.quorum_sets.specs.Ids.{Ids, ascending, count_of, has, is_empty, majority_passes, size}
 use Rattle.quorum_sets.specs.Tolerance.{IsMostDown, Tolerates, commits_without, may_be_down}
 use Rattle.quorum_sets.specs.Voters.{Voters, is_quorum}
 use Rattle.quorum_sets.proofs.Offered.{count_by-none, has-ascending, has-union, is_quorum-without}
@@ -10,7 +10,7 @@ use Rattle.conf_change.specs.Configuration.{Configuration, is_joint, voters_of}
 use Rattle.conf_plan.specs.OnTheWay.{IsAsTolerant}
 use Rattle.conf_driver.specs.IdSets.{◌∖◌}
 use Rattle.conf_driver.specs.Situation.{is_less, tolerance, voter_ids}
-use Rattle.conf_driver.proofs.IdsByMember.{has-without}
+use Rattle.conf_driver.proofs.IdsByMember.{has-without, in-without, up-unless_down}
 
 -- ---- what is said of counting
 abbrev pub Fits : Type 0
@@ -102,3 +102,13 @@ no_majority test ids none =
 
 pub quorum-has_voter : (c : Configuration) (ids : Ids) → is_quorum (voters_of c) ids ≡ true → ((x : ℕ) → has c.incoming x ≡ true → has ids x ≡ false) → ⊥
 quorum-has_voter c ids quorum none = both_ways _ (no_majority (has ids) c.incoming none) (and_parts _ _ quorum).0
+
+-- where nobody but those that are down lacks something, a quorum that is not down is up
+pub quorum-grows : Fits → Commits → FewerTolerateMore → (c : Configuration) (down up : Ids) → is_empty (voter_ids c ∖ down ∖ up) ≡ true → is_quorum (voters_of c) (voter_ids c ∖ down) ≡ true
+    → is_quorum (voters_of c) up ≡ true
+quorum-grows fits commits fewer c down up none quorum =
+    is_quorum-up c up ∙ commits-from_Tolerates fits commits (voters_of c) (voter_ids c ∖ up)
+    (fewer (voters_of c) (voter_ids c ∖ up) down 0 (λ id voter here. elim (cases_Bool (has down id)) [
+      | inl is_down ↦ is_down
+      | inr not_down ↦ absurd (both_ways _ (in-without (voter_ids c) up id here).1 (up-unless_down (voter_ids c) down up id none (has-union c.incoming c.outgoing id ∙ voter) not_down))
+    ]) (Tolerates-from_commits fits commits (voters_of c) down (sym (is_quorum-not_down c down) ∙ quorum)))

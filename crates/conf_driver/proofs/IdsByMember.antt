@@ -19,6 +19,9 @@ without-without a b = has-same_ids _ _ (λ q. grind (arith, has-without a (a ∖
 pub in-without : (a b : Ids) (q : ℕ) → has (a ∖ b) q ≡ true → (has a q ≡ true) × (has b q ≡ false)
 in-without a b q here = let parts = and_parts _ _ (sym (has-without a b q) ∙ here) in (parts.0, not-true _ parts.1)
 
+pub in-common : (a b : Ids) (q : ℕ) → has (a ∩ b) q ≡ true → (has a q ≡ true) × (has b q ≡ true)
+in-common a b q here = and_parts _ _ (sym (has-common a b q) ∙ here)
+
 -- nobody of the first set is not in the second
 pub in-second : (a b : Ids) (q : ℕ) → is_empty (a ∖ b) ≡ true → has a q ≡ true → has b q ≡ true
 in-second a b q none here = grind (arith, has-none_in_empty (a ∖ b) none q, here, has-without a b q)

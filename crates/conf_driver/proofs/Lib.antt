@@ -9,5 +9,6 @@ pub mod RowAnswers
 pub mod RowsPassed
 pub mod ServersAnswered
 pub mod Transfers
+pub mod Waiting
 pub mod WhoIsUp
 mod WorkedExamples

@@ -55,3 +55,6 @@ pub silent-passed : (s : Situation) → row.voter_is_silent s ≡ None → (is_j
 silent-passed s is worse =
     let silent = s.voters_after ∖ s.down ∖ s.heard in
     if_any-none silent (Wait Unheard) (none-if (is_joint s.after || is_less (tolerance s.after s.up) (tolerance s.before s.up)) (if_any silent (Wait Unheard)) is worse)
+
+pub has_step-passed : (s : Situation) → row.at_target s ≡ None → s.has_step ≡ true
+has_step-passed s is = not-false _ (when-none (not s.has_step) _ is)

@@ -7,3 +7,5 @@ pub mod Proposals
 pub mod Leadership
 pub mod Servers
 pub mod AtTarget
+pub mod Waits
+pub mod WayToTarget

@@ -1,11 +1,16 @@
 //! Laws of what [`next`](crate::next) answers, whatever it knows. Each is the contract of a function that does nothing.
-ghost use Rattle.std.specs.Prelude.{◌≡◌, ◌≢◌, ◌↔◌, ℕ, true};
-ghost use Rattle.quorum_sets.specs.Ids.{Ids, has};
-ghost use Rattle.conf_change.specs.Configuration.{Configuration};
+ghost use Rattle.std.specs.Prelude.{◌≡◌, ◌≢◌, ◌+◌, ◌<◌, ◌≤◌, ◌↔◌, ◌⊎◌, ℕ, true, false, List, length};
+ghost use Rattle.quorum_sets.specs.Ids.{Ids, has, is_empty};
+ghost use Rattle.conf_change.specs.Configuration.{Configuration, is_member};
 ghost use Rattle.conf_change.specs.declared.step.Step.{Step};
-ghost use Rattle.conf_plan.specs.Run.{Gives};
+ghost use Rattle.conf_plan.specs.OneChangeEach.{one_change_each};
+ghost use Rattle.conf_plan.specs.PathBy.{has_path, path_by};
+ghost use Rattle.conf_plan.specs.Run.{Gives, IsValidWithVoter};
 ghost use Rattle.conf_plan.specs.declared.strategy.Strategy.{Strategy};
-ghost use Rattle.conf_driver.specs.declared.action.Action.TheVariants.{Start, Stop, Transfer, Propose, Done};
+ghost use Rattle.conf_driver.specs.declared.action.Action.TheVariants.{Start, Stop, Transfer, Propose, Wait, Done};
+ghost use Rattle.conf_driver.specs.declared.action.WaitReason.{WaitReason};
+ghost use Rattle.conf_driver.specs.declared.action.WaitReason.TheVariants.{Behind, Unheard};
+ghost use Rattle.conf_driver.specs.declared.view.MemberView.{MemberView};
 ghost use Rattle.conf_driver.specs.AtTarget.{IsDone};
 ghost use Rattle.conf_driver.specs.IdSets.{◌∪◌, ◌∖◌};
 ghost use Rattle.conf_driver.specs.Leadership.{LeaderStays, MayTakeOver, after_first_step};
@@ -13,8 +18,12 @@ ghost use Rattle.conf_driver.specs.Next.{next_of};
 ghost use Rattle.conf_driver.specs.Proposals.{CanAnswer, IsFirstOfPath, KeepsQuorum};
 ghost use Rattle.conf_driver.specs.Servers.{MayStart, MayStop};
 ghost use Rattle.conf_driver.specs.View.{ViewState, heard_from, up_and_caught_up};
+ghost use Rattle.conf_driver.specs.Waits.{HasCome, LacksWhatIsNamed};
+ghost use Rattle.conf_driver.specs.WayToTarget.{IsWay};
 
-use conf_plan::laws::{fewer_uncounted_tolerate_more, one_change_each_leads, paths_keep_promises};
+use conf_plan::laws::{
+    fewer_uncounted_tolerate_more, next_path_is_shorter, one_change_each_leads, paths_keep_promises,
+};
 use quorum_sets::laws::most_down_by_counting;
 use raft_json::laws::{etcd_carries_out_the_step, proposed_step_leads_alike};
 
@@ -87,6 +96,47 @@ pub fn steps_keep_quorums()
         (after : Configuration) → CanAnswer strategy target view → next_of strategy target down view ≡ Propose step
         → Gives view.conf_state step after
         → KeepsQuorum down (heard_from view) (up_and_caught_up down view) view.conf_state target after }
+{
+    fewer_uncounted_tolerate_more();
+    most_down_by_counting();
+    one_change_each_leads();
+    paths_keep_promises();
+}
+
+/// After a step that is proposed the path has fewer steps. So while the same ids are down, the steps that are proposed,
+/// and those by which raft leaves a joint configuration by itself on the way, are with those that are left at most as
+/// many as the first path has.
+pub fn plans_end()
+    ensures shorter { (strategy : Strategy) (target : Configuration) (down : Ids) (view : ViewState) (step : Step)
+        (after : Configuration) → CanAnswer strategy target view → next_of strategy target down view ≡ Propose step
+        → Gives view.conf_state step after → length (one_change_each (path_by strategy down after target))
+        < length (one_change_each (path_by strategy down view.conf_state target)) }
+    ensures at_most { (strategy : Strategy) (target : Configuration) (down : Ids) (now after : Configuration)
+        (steps : List Step) → IsValidWithVoter now → IsValidWithVoter target → has_path strategy now target ≡ true
+        → IsWay strategy target down now steps after
+        → length steps + length (one_change_each (path_by strategy down after target))
+        ≤ length (one_change_each (path_by strategy down now target)) }
+{
+    next_path_is_shorter();
+}
+
+/// A wait names somebody, and what is said of each id that it names is so: each is a member, or leads. Once an id that
+/// was not heard from, or had not caught up, is heard from and has, no wait names it, whatever is known of the others.
+pub fn waits_name_who_lacks_what()
+    ensures somebody { (strategy : Strategy) (target : Configuration) (down : Ids) (view : ViewState) (why : WaitReason)
+        (ids : Ids) → next_of strategy target down view ≡ Wait why ids → is_empty ids ≡ false }
+    ensures named { (strategy : Strategy) (target : Configuration) (down : Ids) (view : ViewState) (why : WaitReason)
+        (ids : Ids) (id : ℕ) → next_of strategy target down view ≡ Wait why ids → has ids id ≡ true
+        → LacksWhatIsNamed why down view id }
+    ensures members { (strategy : Strategy) (target : Configuration) (down : Ids) (view : ViewState) (why : WaitReason)
+        (ids : Ids) (id : ℕ) → CanAnswer strategy target view → next_of strategy target down view ≡ Wait why ids
+        → has ids id ≡ true → (is_member view.conf_state id ≡ true) ⊎ (id ≡ view.lead) }
+    ensures over { (strategy : Strategy) (target : Configuration) (down : Ids) (view : ViewState) (why why_then : WaitReason)
+        (ids ids_then : Ids) (id : ℕ) (progress : List MemberView) → (why ≡ Unheard) ⊎ (why ≡ Behind)
+        → next_of strategy target down view ≡ Wait why ids → has ids id ≡ true
+        → HasCome (record view { progress = progress }) id
+        → next_of strategy target down (record view { progress = progress }) ≡ Wait why_then ids_then
+        → has ids_then id ≡ false }
 {
     fewer_uncounted_tolerate_more();
     most_down_by_counting();

@@ -1,0 +1,232 @@
+-- Which row waits, and whom it names.
+use Rattle.std.proofs.Common.{◌≡◌, ℕ, Bool, true, false, not, ◌||◌, List, [], ◌∷◌, refl, sym, ap, ◌∙◌, arith, inl, inr, ◌⊎◌}
+use Rattle.std.specs.Prelude.{Option, Some, None, length, nat_eq, slice_get, option_map, if◌then◌else◌}
+use Rattle.std.proofs.lemmas.Bool.{both_ways, cases_Bool, cond-false, cond-true, not-true}
+use Rattle.quorum_sets.specs.Ids.{Ids, ascending, has, is_empty}
+use Rattle.quorum_sets.specs.Voters.{is_quorum}
+use Rattle.conf_change.specs.Configuration.{is_joint, voters_of}
+use Rattle.conf_change.specs.declared.step.Step.{Step}
+use Rattle.conf_driver.specs.IdSets.{◌∪◌, ◌∩◌, ◌∖◌, least_of, or_else, or_second}
+use Rattle.conf_driver.specs.Next.{answer_in, propose_first}
+use Rattle.conf_driver.specs.Rows as row
+use Rattle.conf_driver.specs.Rows.{done_or_wait, if_any, needed_at_target, transfer_to_one, wait_for}
+use Rattle.conf_driver.specs.Situation.{is_less, tolerance}
+use Rattle.conf_driver.specs.declared.action.Action.{Action}
+use Rattle.conf_driver.specs.declared.action.Action.TheVariants.{Done, Transfer, Wait}
+use Rattle.conf_driver.specs.declared.action.WaitReason.{WaitReason}
+use Rattle.conf_driver.specs.declared.action.WaitReason.TheVariants.{Unheard, Behind}
+use Rattle.conf_driver.specs.declared.situation.Situation.{Situation}
+use Rattle.conf_driver.proofs.FirstRow.{by_rows}
+use Rattle.conf_driver.proofs.IdsByMember.{in-common, in-second, in-without, not-in_second}
+use Rattle.conf_driver.proofs.RowAnswers.{if_any-some, none-unless, some-if, some-unless, when-some}
+use Rattle.conf_driver.proofs.RowsPassed.{has_step-passed, quorum-passed}
+
+-- ---- the rows that wait
+-- what has been passed where a row on the step answers
+pub record IsPassed (s : Situation) : Type 0 where
+  pub quorum_lost : row.quorum_lost s ≡ None
+  pub no_leader : row.no_leader s ≡ None
+  pub is_pending : row.is_pending s ≡ None
+  pub is_leaving : row.is_leaving s ≡ None
+
+-- the row that waits, and what those before it have passed
+pub data Waits (s : Situation) (given : Option Action) : Type 0 where
+  ByHeard : row.down_is_heard s ≡ given → Waits s given
+  ByLeader : row.quorum_lost s ≡ None → row.no_leader s ≡ given → Waits s given
+  ByPending : row.down_is_heard s ≡ None → row.is_pending s ≡ given → Waits s given
+  ByLeaving : row.down_is_heard s ≡ None → row.is_leaving s ≡ given → Waits s given
+  BySuccessor : IsPassed s → row.leader_leaves s ≡ None → row.successor_lags s ≡ given → Waits s given
+  ByTarget : IsPassed s → row.at_target s ≡ given → Waits s given
+  ByBehind : IsPassed s → row.voter_is_behind s ≡ given → Waits s given
+  ByQuorum : IsPassed s → row.no_quorum_is_up s ≡ given → Waits s given
+  BySilent : IsPassed s → row.at_target s ≡ None → row.voter_is_silent s ≡ given → Waits s given
+
+wait_not_last : {P : Type 0} (steps : List Step) (why : WaitReason) (ids : Ids) → propose_first steps ≡ Wait why ids → P
+wait_not_last [] why ids is = absurd (cc)
+wait_not_last (step ∷ steps) why ids is = absurd (cc)
+
+passed : (s : Situation) → row.quorum_lost s ≡ None → row.no_leader s ≡ None → row.is_pending s ≡ None → row.is_leaving s ≡ None → IsPassed s
+passed s a c e j = record { quorum_lost = a; no_leader = c; is_pending = e; is_leaving = j }
+
+pub Waits-from_answer : (s : Situation) (steps : List Step) (why : WaitReason) (ids : Ids) → answer_in s steps ≡ Wait why ids → Waits s (Some (Wait why ids))
+Waits-from_answer s steps why ids is = by_rows (Waits s (Some (Wait why ids))) s steps (Wait why ids) (λ a. (
+  λ here. ByHeard here,
+  λ b. (
+    λ here. ByLeader a here,
+    λ c d. (
+      λ here. ByPending b here,
+      λ e f g h i. (
+        λ here. ByLeaving b here,
+        λ j k. (
+          λ here. BySuccessor (passed s a c e j) k here,
+          λ l. (
+            λ here. ByTarget (passed s a c e j) here,
+            λ m. (
+              λ here. ByBehind (passed s a c e j) here,
+              λ n. (
+                λ here. ByQuorum (passed s a c e j) here,
+                λ o. (
+                  λ here. BySilent (passed s a c e j) m here,
+                  λ p last. wait_not_last steps why ids last,
+                ),
+              ),
+            ),
+          ),
+        ),
+      ),
+    ),
+  ),
+)) is
+
+pub same_wait : (a b : WaitReason) (x y : Ids) → Wait a x ≡ Wait b y → (a ≡ b) × (x ≡ y)
+same_wait a b x y is = (cc, cc)
+
+-- ---- the first set, or the second
+pub in-or_else : (a b : Ids) (id : ℕ) → has (or_else a b) id ≡ true → (has a id ≡ true) ⊎ (has b id ≡ true)
+in-or_else a b id here = elim (cases_Bool (is_empty a)) [
+  | inl none ↦ inr (ap (λ s. has s id) (sym (cond-true (is_empty a) b a none)) ∙ here)
+  | inr some ↦ inl (ap (λ s. has s id) (sym (cond-false (is_empty a) b a some)) ∙ here)
+]
+
+pub or_else-some : (a b : Ids) → is_empty b ≡ false → is_empty (or_else a b) ≡ false
+or_else-some a b some_second = elim (cases_Bool (is_empty a)) [
+  | inl none ↦ ap is_empty (cond-true (is_empty a) b a none) ∙ some_second
+  | inr some ↦ ap is_empty (cond-false (is_empty a) b a some) ∙ some
+]
+
+-- ---- no leadership is moved, so nobody of the ids could lead
+empty-list : (xs : List ℕ) → slice_get xs 0 ≡ None → nat_eq (length xs) 0 ≡ true
+empty-list [] is = grind arith
+empty-list (x ∷ xs) is = absurd (cc)
+
+none-second : (a b : Option ℕ) → option_map Transfer (or_second a b) ≡ None → b ≡ None
+none-second None None is = refl
+none-second None (Some y) is = absurd (cc)
+none-second (Some x) b is = absurd (cc)
+
+nobody-to_lead : (s : Situation) (ids : Ids) → transfer_to_one s ids ≡ None → is_empty ids ≡ true
+nobody-to_lead s ids is = empty-list (ascending ids) (none-second (least_of (ids ∩ s.target.incoming)) (least_of ids) is)
+
+-- ---- who is behind, and who is not heard from
+-- an id that lacks something: a member that is not down, and not up
+pub record IsLagging (s : Situation) (id : ℕ) : Type 0 where
+  pub not_down : has s.down id ≡ false
+  pub not_up : has s.up id ≡ false
+  pub member : has s.members id ≡ true
+
+pub record NamesBehind (s : Situation) (why : WaitReason) (ids : Ids) : Type 0 where
+  pub why_is : why ≡ Behind
+  pub some : is_empty ids ≡ false
+  pub heard : (id : ℕ) → has ids id ≡ true → has s.heard id ≡ true
+  pub lagging : (id : ℕ) → has ids id ≡ true → IsLagging s id
+
+pub record NamesUnheard (s : Situation) (why : WaitReason) (ids : Ids) : Type 0 where
+  pub why_is : why ≡ Unheard
+  pub some : is_empty ids ≡ false
+  pub heard_not : (id : ℕ) → has ids id ≡ true → has s.heard id ≡ false
+  pub not_down : (id : ℕ) → has ids id ≡ true → has s.down id ≡ false
+  pub member : (id : ℕ) → has ids id ≡ true → (has s.members id ≡ true) ⊎ ((s.has_step ≡ true) × (has s.voters_after id ≡ true))
+
+abbrev pub NamesLagging : Situation → WaitReason → Ids → Type 0
+NamesLagging s why ids = NamesBehind s why ids ⊎ NamesUnheard s why ids
+
+behind : (s : Situation) (set ids : Ids) (why : WaitReason) → Wait Behind set ≡ Wait why ids → is_empty set ≡ false → ((id : ℕ) → has set id ≡ true → has s.heard id ≡ true)
+    → ((id : ℕ) → has set id ≡ true → IsLagging s id) → NamesBehind s why ids
+behind s set ids why is some heard lagging =
+    let same = same_wait Behind why set ids is in
+    record {
+      why_is = sym same.0;
+      some = ap is_empty (sym same.1) ∙ some;
+      heard = λ id here. heard id (ap (λ t. has t id) same.1 ∙ here);
+      lagging = λ id here. lagging id (ap (λ t. has t id) same.1 ∙ here);
+    }
+
+unheard : (s : Situation) (set ids : Ids) (why : WaitReason) → Wait Unheard (set ∖ s.heard) ≡ Wait why ids → is_empty (set ∖ s.heard) ≡ false → ((id : ℕ) → has set id ≡ true → has s.down id ≡ false)
+    → ((id : ℕ) → has set id ≡ true → (has s.members id ≡ true) ⊎ ((s.has_step ≡ true) × (has s.voters_after id ≡ true))) → NamesUnheard s why ids
+unheard s set ids why is some not_down member =
+    let same = same_wait Unheard why (set ∖ s.heard) ids is in
+    let parts = λ (id : ℕ) (here : has ids id ≡ true). in-without set s.heard id (ap (λ t. has t id) same.1 ∙ here) in
+    record {
+      why_is = sym same.0;
+      some = ap is_empty (sym same.1) ∙ some;
+      heard_not = λ id here. (parts id here).1;
+      not_down = λ id here. not_down id (parts id here).0;
+      member = λ id here. member id (parts id here).0;
+    }
+
+names-wait_for : (s : Situation) (set ids : Ids) (why : WaitReason) → wait_for s set ≡ Wait why ids → is_empty set ≡ false → ((id : ℕ) → has set id ≡ true → IsLagging s id) → NamesLagging s why ids
+names-wait_for s set ids why is some lagging = elim (cases_Bool (is_empty (set ∖ s.heard))) [
+  | inl all ↦ inl (behind s set ids why (sym (cond-true (is_empty (set ∖ s.heard)) (Wait Behind set) (Wait Unheard (set ∖ s.heard)) all) ∙ is) some (λ id here. in-second set s.heard id all here) lagging)
+  | inr silent ↦ inr (unheard s set ids why (sym (cond-false (is_empty (set ∖ s.heard)) (Wait Behind set) (Wait Unheard (set ∖ s.heard)) silent) ∙ is) silent
+      (λ id here. (lagging id here).not_down) (λ id here. inl (lagging id here).member))
+]
+
+-- ---- the rows on the step
+-- how the sets of a situation hang together
+pub record IsOfOneView (s : Situation) : Type 0 where
+  pub voters : (id : ℕ) → has s.voters id ≡ true → has s.members id ≡ true
+  pub needed : (id : ℕ) → has (s.before.incoming ∪ s.before.learners) id ≡ true → has s.members id ≡ true
+  pub grows : is_empty (s.voters ∖ s.down ∖ s.up) ≡ true → is_quorum (voters_of s.before) (s.voters ∖ s.down) ≡ true → is_quorum (voters_of s.before) s.up ≡ true
+
+pub names-successor : (s : Situation) (why : WaitReason) (ids : Ids) → IsOfOneView s → row.leader_leaves s ≡ None → row.successor_lags s ≡ Some (Wait why ids) → NamesLagging s why ids
+names-successor s why ids sets stays is =
+    let could = s.voters ∩ s.leaders_after in
+    let given = some-unless (has s.leaders_after s.lead) (if_any (could ∖ s.down) (wait_for s)) (Wait why ids) is in
+    let row = if_any-some (could ∖ s.down) (wait_for s) (Wait why ids) given.1 in
+    let nobody = nobody-to_lead s (could ∩ s.up) (none-unless (has s.leaders_after s.lead) (transfer_to_one s (could ∩ s.up)) stays given.0) in
+    names-wait_for s (could ∖ s.down) ids why row.1 row.0 (λ id here.
+    let parts = in-without could s.down id here in
+    record { not_down = parts.1; not_up = not-in_second could s.up id nobody parts.0; member = sets.voters id (in-common s.voters s.leaders_after id parts.0).0 })
+
+in-needed : (s : Situation) (id : ℕ) → IsOfOneView s → has (needed_at_target s) id ≡ true → has s.members id ≡ true
+in-needed s id sets here = elim (cases_Bool (is_empty (s.running ∖ s.members))) [
+  | inl none ↦ sets.needed id (ap (λ t. has t id) (sym (cond-true (is_empty (s.running ∖ s.members)) (s.before.incoming ∪ s.before.learners) s.members none)) ∙ here)
+  | inr some ↦ ap (λ t. has t id) (sym (cond-false (is_empty (s.running ∖ s.members)) (s.before.incoming ∪ s.before.learners) s.members some)) ∙ here
+]
+
+done_or_wait-waits : (s : Situation) (set ids : Ids) (why : WaitReason) → done_or_wait s set ≡ Wait why ids → (is_empty set ≡ false) × (wait_for s set ≡ Wait why ids)
+done_or_wait-waits s set ids why is = by_test (is_empty set) is
+  where
+    by_test : (test : Bool) → (if test then Done else wait_for s set) ≡ Wait why ids → (test ≡ false) × (wait_for s set ≡ Wait why ids)
+    by_test true given = absurd (cc)
+    by_test false given = (refl, given)
+
+lags-from_rest : (s : Situation) (set : Ids) (id : ℕ) → ((q : ℕ) → has set q ≡ true → has s.members q ≡ true) → has (set ∖ s.down ∖ s.up) id ≡ true → IsLagging s id
+lags-from_rest s set id within here =
+    let of_up = in-without (set ∖ s.down) s.up id here in
+    let of_down = in-without set s.down id of_up.0 in
+    record { not_down = of_down.1; not_up = of_up.1; member = within id of_down.0 }
+
+pub names-target : (s : Situation) (why : WaitReason) (ids : Ids) → IsOfOneView s → row.at_target s ≡ Some (Wait why ids) → NamesLagging s why ids
+names-target s why ids sets is =
+    let set = needed_at_target s ∖ s.down ∖ s.up in
+    let row = when-some (not s.has_step) (done_or_wait s set) (Wait why ids) is in
+    let waits = done_or_wait-waits s set ids why row.1 in
+    names-wait_for s set ids why waits.1 waits.0 (λ id here. lags-from_rest s (needed_at_target s) id (λ q. in-needed s q sets) here)
+
+pub names-behind : (s : Situation) (why : WaitReason) (ids : Ids) → row.voter_is_behind s ≡ Some (Wait why ids) → NamesLagging s why ids
+names-behind s why ids is =
+    let known = s.voters_after ∩ s.members in
+    let set = known ∩ s.heard ∖ s.down ∖ s.up in
+    let row = if_any-some set (Wait Behind) (Wait why ids) is in
+    inl (behind s set ids why row.1 row.0
+    (λ id here. (in-common known s.heard id (in-without (known ∩ s.heard) s.down id (in-without (known ∩ s.heard ∖ s.down) s.up id here).0).0).1)
+    (λ id here. lags-from_rest s (known ∩ s.heard) id (λ q in_it. (in-common s.voters_after s.members q (in-common known s.heard q in_it).0).1) here))
+
+pub names-quorum : (s : Situation) (why : WaitReason) (ids : Ids) → IsOfOneView s → row.quorum_lost s ≡ None → row.no_quorum_is_up s ≡ Some (Wait why ids) → NamesLagging s why ids
+names-quorum s why ids sets counts is =
+    let set = s.voters ∖ s.down ∖ s.up in
+    let row = when-some (not (is_quorum (voters_of s.before) s.up)) (wait_for s set) (Wait why ids) is in
+    let some : is_empty set ≡ false = elim (cases_Bool (is_empty set)) [
+      | inl none ↦ absurd (both_ways _ (not-true _ row.0) (sets.grows none (quorum-passed s counts)))
+      | inr some ↦ some
+    ] in
+    names-wait_for s set ids why row.1 some (λ id here. lags-from_rest s s.voters id sets.voters here)
+
+pub names-silent : (s : Situation) (why : WaitReason) (ids : Ids) → row.at_target s ≡ None → row.voter_is_silent s ≡ Some (Wait why ids) → NamesLagging s why ids
+names-silent s why ids on_the_way is =
+    let counted = s.voters_after ∖ s.down in
+    let given = some-if (is_joint s.after || is_less (tolerance s.after s.up) (tolerance s.before s.up)) (if_any (counted ∖ s.heard) (Wait Unheard)) (Wait why ids) is in
+    let row = if_any-some (counted ∖ s.heard) (Wait Unheard) (Wait why ids) given.1 in
+    inr (unheard s counted ids why row.1 row.0 (λ id here. (in-without s.voters_after s.down id here).1)
+    (λ id here. inr (has_step-passed s on_the_way, (in-without s.voters_after s.down id here).0)))
