@@ -159,7 +159,7 @@ func (d *driven) handleAll(s *driver) {
 // handle saves, sends and applies what a server has ready, unless it crashes.
 func (d *driven) handle(s *driver) {
 	ready := s.raw.Ready()
-	if d.crashes(s) {
+	if d.crashes(s, "before it saves") {
 		return
 	}
 	s.accept(ready)
@@ -168,14 +168,14 @@ func (d *driven) handle(s *driver) {
 		s.known, _ = s.disk.LastIndex() // of its first entry
 		d.history.leads(s.raw.BasicStatus().Term, s.id)
 	}
-	if d.crashes(s) {
+	if d.crashes(s, "before it sends") {
 		return
 	}
 	for _, message := range ready.Messages {
 		d.send(s, message)
 	}
 	for len(s.handed) > 0 {
-		if d.crashes(s) {
+		if d.crashes(s, "before it applies") {
 			return
 		}
 		d.apply(s)
@@ -183,11 +183,12 @@ func (d *driven) handle(s *driver) {
 	s.advance()
 }
 
-func (d *driven) crashes(s *driver) bool {
+func (d *driven) crashes(s *driver, when string) bool {
 	if d.chance.Float64() >= d.crash {
 		return false
 	}
 	d.kill(s)
+	d.seen["a crash "+when]++
 	return true
 }
 
@@ -195,7 +196,6 @@ func (d *driven) crashes(s *driver) bool {
 func (d *driven) kill(s *driver) {
 	s.member.crash(false)
 	s.isUp, s.wakesAt = false, d.round+5+d.chance.Intn(80)
-	d.seen["a crash"]++
 }
 
 func (d *driven) send(s *driver, message pb.Message) {
@@ -233,6 +233,9 @@ func (d *driven) apply(s *driver) {
 		s.snapshot()
 		if d.chance.Intn(3) == 0 {
 			s.disk.Compact(s.applied)
+			if len(s.state.VotersOutgoing) > 0 {
+				d.seen["a log is compacted while joint"]++
+			}
 		}
 	}
 }

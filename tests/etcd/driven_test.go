@@ -9,7 +9,8 @@ import (
 // auto-leave, and no plan that is begun ends in a stage without a quorum or with an id that was stopped.
 var kindsOfDriven = []string{
 	"row 2", "row 4", "row 5", "row 8", "row 9", "row 11", "row 12", "row 13", "row 14", "row 15", "row 16", "row 17",
-	"a change is applied", "a crash", "a death", "a snapshot",
+	"a change is applied", "a crash before it saves", "a crash before it sends", "a crash before it applies", "a death", "a snapshot",
+	"a log is compacted while joint",
 }
 
 // TestDriven leads 30 clusters to 20 targets each, as the table says. Every plan arrives.
