@@ -1,6 +1,7 @@
--- The rules as etcd's raft means them: what a server may do next, and when. Each condition is one of etcd's, in words. They
--- differ from those of Steps.antt in what a server can see: it gets entries and a commit index by a message, it counts by
--- the configuration that it has applied, and after a restart it knows what is durable of its commit index.
+-- The rules as etcd's raft means them: what a server may do next, and when. Each condition is one of etcd's, in words, but
+-- that a server may look at its own log before it campaigns. They differ from those of Steps.antt in what a server can see:
+-- it gets entries and a commit index by a message, it counts by the configuration that it has applied, and after a restart it
+-- knows what is durable of its commit index.
 --
 -- What etcd's raft does, and as what it happens here:
 -- - a MsgApp: Send when the leader sends it, Receive when a server takes it, as often as it arrives
