@@ -1,6 +1,6 @@
 -- Small runs and configurations, worked out by computing. What the rules allow is in AddedVoter and JointChange, with messages
 -- in EtcdMessages, where memory and disk are apart in SavedFirst, where servers look before they campaign in LookedFirst, and where
--- changes wait for the members in WaitedFor.
+-- changes wait for the members in WaitedFor and WaitedOnDisk.
 --
 -- A file Without.. shows what a rule is for. It leaves out one field of one guard in Steps.antt: each action of its run is
 -- allowed, but for one, of whose guard all but that field holds; and then a claim of Claims.antt is false. So each of these
@@ -36,6 +36,7 @@ pub mod JointChange
 pub mod SavedFirst
 pub mod LookedFirst
 pub mod WaitedFor
+pub mod WaitedOnDisk
 -- where the runs begin
 pub mod FirstElection
 pub mod FirstCommand

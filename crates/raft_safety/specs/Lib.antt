@@ -13,4 +13,5 @@ pub mod DiskRules
 pub mod DiskRuns
 pub mod DiskClaims
 pub mod Waiting
+pub mod WaitingOnDisk
 pub mod Library

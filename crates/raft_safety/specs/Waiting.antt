@@ -37,9 +37,13 @@ pub data WaitingAction : Type 0 where
   Store : (server : ℕ) → (log : Log) → WaitingAction
   Crash : (server : ℕ) → (known : Log) → WaitingAction
 
--- a server may become a member once it has stored all changes of leaders' logs but the last
+-- the log has all changes of the voters in leaders' logs but the last
+abbrev pub HasChanges : Configuration → Cluster → Log → Type 0
+HasChanges first c stored = (term leader : ℕ) → Leads c term leader → voter_changes first (c.leaderships term leader).log ≤ voter_changes first stored + 1
+
+-- a server may become a member once it has stored these
 pub record MayJoin (first : Configuration) (w : WaitingCluster) (server : ℕ) : Type 0 where
-  pub has_changes : (term leader : ℕ) → Leads w.cluster term leader → voter_changes first (w.cluster.leaderships term leader).log ≤ voter_changes first (w.stored server) + 1
+  pub has_changes : HasChanges first w.cluster (w.stored server)
 
 -- a member may campaign, and count by any configuration between what it has stored and what it knows to be committed
 pub record MayCampaignWaiting (w : WaitingCluster) (server term : ℕ) (counted : Log) : Type 0 where

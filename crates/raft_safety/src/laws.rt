@@ -17,6 +17,7 @@ ghost use Rattle.raft_safety.specs.EtcdRules.{EtcdAction};
 ghost use Rattle.raft_safety.specs.EtcdRuns.{AreAllowedByEtcd, after_etcd_actions};
 ghost use Rattle.raft_safety.specs.EtcdClaims.{AppliedIsCommitted, ApplyOneLog};
 ghost use Rattle.raft_safety.specs.Waiting.{AreAllowedWaiting, WaitingAction, after_waitings, new_waiting_cluster};
+ghost use Rattle.raft_safety.specs.WaitingOnDisk.{AreAllowedWaitingOnDisk, WaitingDiskAction, done, new_waiting_disks};
 ghost use Rattle.raft_safety.specs.DiskCluster.{new_disk_cluster};
 ghost use Rattle.raft_safety.specs.DiskRules.{DiskAction};
 ghost use Rattle.raft_safety.specs.DiskRuns.{AreAllowedOnDisk, after_disk_actions};
@@ -142,6 +143,15 @@ pub fn waiting_is_enough()
         → AreAllowedWaiting first new_waiting_cluster (early ++ late)
         → CommitOneLog (after_waitings new_waiting_cluster early).cluster (after_waitings new_waiting_cluster (early
         ++ late)).cluster }
+{}
+
+/// Waiting is enough where memory and disk are apart, too (`specs/WaitingOnDisk.antt`): members that wait, and look neither at
+/// their log nor at what they know to be committed, keep the rules of servers that look at their own log. So the claims above
+/// hold of them.
+pub fn members_that_wait_need_not_look()
+    ensures { (first : Configuration) (actions : List WaitingDiskAction)
+        → AreAllowedWaitingOnDisk first new_waiting_disks actions
+        → AreAllowedOnDisk first (new_disk_cluster (λ server. true)) (done actions) }
 {}
 
 /// What the library counts are the quorums of the rules, after any log that leaves an incoming voter: a vote that is won was

@@ -80,7 +80,8 @@
 //!
 //! The fourth has two rules in place of all those on the configuration in force (`Waiting`): a change of the voters is
 //! proposed once every member has stored the ones before, and a server becomes a member, which may campaign, once it has
-//! stored all but the last. Two more tie the library to the rules: what it counts are the
+//! stored all but the last. Where memory and disk are apart, who waits keeps the rules of servers that look at their log
+//! (`WaitingOnDisk`). Two more tie the library to the rules: what it counts are the
 //! quorums that they speak of, and a `Changer` has the configuration after a log (`Library`).
 #![tactic(auto)]
 

@@ -35,7 +35,7 @@ own_both : (server : ℕ) (one other : List EtcdAction) → AreOwn server one �
 own_both server [] other a b = b
 own_both server (action ∷ one) other a b = (a.0, own_both server one other a.1 b)
 
-own_first : (server : ℕ) (one other : List EtcdAction) → AreOwn server (one ++ other) → AreOwn server one
+pub own_first : (server : ℕ) (one other : List EtcdAction) → AreOwn server (one ++ other) → AreOwn server one
 own_first server [] other a = tt
 own_first server (action ∷ one) other a = (a.0, own_first server one other a.1)
 

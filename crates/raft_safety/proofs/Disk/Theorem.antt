@@ -15,7 +15,7 @@ use Rattle.raft_safety.proofs.Etcd.Theorem.{new_holds}
 use Rattle.raft_safety.proofs.Disk.Invariants.{AreDiskInvariants, Grows, Grows-refl, Grows-trans}
 use Rattle.raft_safety.proofs.Disk.Actions.{disk_action_keeps, known_in_memory}
 
-new_holds_disk : (first : Configuration) (looks : ℕ → Bool) → AreDiskInvariants first (new_disk_cluster looks)
+pub new_holds_disk : (first : Configuration) (looks : ℕ → Bool) → AreDiskInvariants first (new_disk_cluster looks)
 new_holds_disk first looks = record {
   disk = new_holds first looks;
   own = λ server. tt;

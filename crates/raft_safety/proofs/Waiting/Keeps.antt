@@ -1,21 +1,17 @@
 -- Each action keeps the invariants.
-use Rattle.std.proofs.Common.{◌≡◌, ℕ, ◌+◌, ◌≤◌, List, [], ◌∷◌, sym, ap, subst, inl, inr, arith}
-use Rattle.std.specs.Prelude.{nat_eq}
-use Rattle.std.proofs.lemmas.Bool.{cases_eq, cond-true, cond-false}
-use Rattle.std.proofs.lemmas.Bool.Decides.{nat_tests}
+use Rattle.std.proofs.Common.{◌≡◌, ℕ, ◌+◌, ◌≤◌, ◌∷◌, refl, sym, subst, inl, inr, arith}
 use Rattle.quorum_sets.specs.Ids.{Ids}
 use Rattle.conf_change.specs.Configuration.{Configuration}
 use Rattle.raft_safety.specs.Logs.{Entry, Log, IsPrefix, longer}
 use Rattle.raft_safety.specs.Configurations.{voter_changes}
-use Rattle.raft_safety.specs.Cluster.{Server, VoteRequest, Election, Leadership, Commitment, Cluster, In, Leads, with_value}
-use Rattle.raft_safety.specs.Steps.{MayBecomeLeader, MayLearn, MayReceive, after_action}
-use Rattle.raft_safety.specs.Steps as core
-use Rattle.raft_safety.specs.Waiting.{WaitingCluster, WaitingAction, Join, Leave, Campaign, SeeTerm, GrantVote, BecomeLeader, Learn, Propose, Receive, Commit, Store, Crash, MayCampaignWaiting, MayLearnWaiting, MayProposeWaiting, MayCommitWaiting, IsBetween, IsAllowedWaiting, without, after_waiting}
+use Rattle.raft_safety.specs.Cluster.{Server, VoteRequest, Leadership, Commitment, Cluster, In, with_value}
+use Rattle.raft_safety.specs.Steps.{MayBecomeLeader, MayLearn, MayReceive}
+use Rattle.raft_safety.specs.Waiting.{HasChanges, WaitingCluster, WaitingAction, Join, Leave, Campaign, SeeTerm, GrantVote, BecomeLeader, Learn, Propose, Receive, Commit, Store, Crash, MayCampaignWaiting, MayLearnWaiting, MayProposeWaiting, MayCommitWaiting, IsBetween, IsAllowedWaiting, after_waiting}
 use Rattle.raft_safety.proofs.Logs.{IsPrefix-refl, IsPrefix-trans, shorter-prefix, longer-each}
 use Rattle.raft_safety.proofs.Configurations.{voter_changes-prefix, voter_changes-entry}
-use Rattle.raft_safety.proofs.Updates.{with_value-each, with_leadership-each, leadership-same, with_leadership-here}
+use Rattle.raft_safety.proofs.Updates.{with_value-each}
 use Rattle.raft_safety.proofs.Etcd.Growth.{with_value-both}
-use Rattle.raft_safety.proofs.Invariants.{IsFromLeaders, AreInvariants, log_of}
+use Rattle.raft_safety.proofs.Invariants.{AreInvariants, log_of}
 use Rattle.raft_safety.proofs.Safety.KnownCommitted.{IsKnown-in_leader}
 use Rattle.raft_safety.proofs.Steps.OneServer.{see_term-keeps}
 use Rattle.raft_safety.proofs.Steps.Campaign.{campaign-keeps}
@@ -25,27 +21,14 @@ use Rattle.raft_safety.proofs.Steps.BecomeLeader.{become_leader-keeps}
 use Rattle.raft_safety.proofs.Steps.Propose.{propose-keeps}
 use Rattle.raft_safety.proofs.Steps.Receive.{receive-keeps}
 use Rattle.raft_safety.proofs.Steps.Commit.{commit-keeps}
+use Rattle.raft_safety.proofs.Waiting.Changes.{few_of, HasChanges-elected, HasChanges-proposed, HasChanges-same_log, was_member}
 
 -- ---- the invariants
--- in no leader's log is more than one change that the member has not stored
-abbrev pub HasChanges : Configuration → Cluster → Log → Type 0
-HasChanges first c stored = (term leader : ℕ) → Leads c term leader → voter_changes first (log_of c term leader) ≤ voter_changes first stored + 1
-
 pub record AreWaitingInvariants (first : Configuration) (w : WaitingCluster) : Type 0 where
   pub core : AreInvariants first w.cluster
   pub known : (server : ℕ) → IsPrefix (w.known server) (w.cluster.servers server).committed
   pub stored : (server : ℕ) → IsPrefix (w.stored server) (w.known server)
   pub changes : (member : ℕ) → In member w.members → HasChanges first w.cluster (w.stored member)
-
--- so it is in any log of entries of leaders
-few_of : (first : Configuration) (c : Cluster) (stored : Log) → HasChanges first c stored → (log : Log) → IsFromLeaders c log → voter_changes first log ≤ voter_changes first stored + 1
-unfolding voter_changes
-few_of first c stored has [] from = omega arith
-few_of first c stored has (entry ∷ log) from =
-    let its = from.0 in
-    let s1 : voter_changes first (entry ∷ log) ≤ voter_changes first (log_of c entry.term its.0) = voter_changes-prefix first (entry ∷ log) (log_of c entry.term its.0) its.2 in
-    let s2 : voter_changes first (log_of c entry.term its.0) ≤ voter_changes first stored + 1 = has entry.term its.0 its.1 in
-    omega arith
 
 campaign-keeps_waiting : (first : Configuration) (w : WaitingCluster) (server term : ℕ) (counted : Log) → MayCampaignWaiting w server term counted → AreWaitingInvariants first w
     → AreWaitingInvariants first (after_waiting w (Campaign server term counted))
@@ -73,47 +56,33 @@ term_keeps w server term known k =
 
 become_leader-keeps_waiting : (first : Configuration) (w : WaitingCluster) (r : VoteRequest) (votes : Ids) → MayBecomeLeader first w.cluster r votes → AreWaitingInvariants first w
     → AreWaitingInvariants first (after_waiting w (BecomeLeader r votes))
-become_leader-keeps_waiting first w r votes may i =
-    let c : Cluster = w.cluster in
-    let new : Leadership = record { log = r.log; committed = r.committed } in
-    let d : Cluster = after_action c (core.BecomeLeader r votes) in
-    record {
-      core = become_leader-keeps first c r votes may i.core;
-      known = i.known;
-      stored = i.stored;
-      changes = λ member x t s l.
-          let new_few : voter_changes first r.log ≤ voter_changes first (w.stored member) + 1 = few_of first c (w.stored member) (i.changes member x) r.log (i.core.requests r may.asked).from_leaders in
-          elim l.1 [
-            | inl is ↦ (
-                let same_t : t ≡ r.term = subst (λ (q : ℕ). q ≡ r.term) l.2 (ap (λ (e : Election). e.request.term) is) in
-                let same_s : s ≡ r.candidate = subst (λ (q : ℕ). q ≡ r.candidate) l.3 (ap (λ (e : Election). e.request.candidate) is) in
-                subst (λ (q : Leadership). voter_changes first q.log ≤ voter_changes first (w.stored member) + 1)
-                (sym (leadership-same d r.term r.candidate t s same_t same_s)) (subst (λ (q : Leadership). voter_changes first q.log ≤ voter_changes first (w.stored member) + 1) (sym (with_leadership-here c r.term r.candidate new)) new_few))
-            | inr in_c ↦ with_leadership-each c r.term r.candidate new (λ (q : Leadership). voter_changes first q.log ≤ voter_changes first (w.stored member) + 1) t s
-                (λ same_t same_s. new_few) (i.changes member x t s (l.0, in_c, l.2, l.3))
-          ];
-    }
+become_leader-keeps_waiting first w r votes may i = record {
+  core = become_leader-keeps first w.cluster r votes may i.core;
+  known = i.known;
+  stored = i.stored;
+  changes = λ member x. HasChanges-elected first w.cluster r votes (w.stored member) (i.core.requests r may.asked).from_leaders (i.changes member x);
+}
 
 propose-keeps_waiting : (first : Configuration) (w : WaitingCluster) (term leader : ℕ) (entry : Entry) → MayProposeWaiting first w term leader entry → AreWaitingInvariants first w
     → AreWaitingInvariants first (after_waiting w (Propose term leader entry))
 propose-keeps_waiting first w term leader entry may i =
-    let c : Cluster = w.cluster in
-    let now : Leadership = c.leaderships term leader in
-    let new : Leadership = record now { log = entry ∷ now.log } in
-    let one : voter_changes first (entry ∷ now.log) ≤ voter_changes first now.log + 1 = voter_changes-entry first entry now.log in
+    let log : Log = (w.cluster.leaderships term leader).log in
     record {
-      core = propose-keeps first c term leader entry (record { own_term = may.own_term }) i.core;
+      core = propose-keeps first w.cluster term leader entry (record { own_term = may.own_term }) i.core;
       known = i.known;
       stored = i.stored;
-      changes = λ member x t s l. with_leadership-each c term leader new (λ (q : Leadership). voter_changes first q.log ≤ voter_changes first (w.stored member) + 1) t s
-          (λ same_t same_s. elim may.waits [
+      changes = λ member x. HasChanges-proposed first w.cluster term leader entry (w.stored member) may.leads
+          (elim may.waits [
             | inl idle ↦ (
-                let k : voter_changes first (entry ∷ now.log) ≡ voter_changes first now.log = idle in
-                let h : voter_changes first now.log ≤ voter_changes first (w.stored member) + 1 = i.changes member x term leader may.leads in
+                let k : voter_changes first (entry ∷ log) ≡ voter_changes first log = idle in
+                let h : voter_changes first log ≤ voter_changes first (w.stored member) + 1 = i.changes member x term leader may.leads in
                 omega arith)
-            | inr waited ↦ (let h = waited member x in omega arith)
+            | inr waited ↦ (
+                let h = waited member x in
+                let one : voter_changes first (entry ∷ log) ≤ voter_changes first log + 1 = voter_changes-entry first entry log in
+                omega arith)
           ])
-          (i.changes member x t s l);
+          (i.changes member x);
     }
 
 learn-keeps_waiting : (first : Configuration) (w : WaitingCluster) (term leader : ℕ) (known : Log) → MayLearnWaiting w term leader known → AreWaitingInvariants first w
@@ -127,8 +96,7 @@ learn-keeps_waiting first w term leader known may i =
       core = learn-keeps first c term leader known more i.core;
       known = i.known;
       stored = i.stored;
-      changes = λ member x t s l. with_leadership-each c term leader new (λ (q : Leadership). voter_changes first q.log ≤ voter_changes first (w.stored member) + 1) t s
-          (λ same_t same_s. i.changes member x term leader may.leads) (i.changes member x t s l);
+      changes = λ member x. HasChanges-same_log first c term leader new (w.stored member) refl may.leads (i.changes member x);
     }
 
 commit-keeps_waiting : (first : Configuration) (w : WaitingCluster) (leader : ℕ) (m : Commitment) → MayCommitWaiting first w leader m → AreWaitingInvariants first w
@@ -153,8 +121,7 @@ commit-keeps_waiting first w leader m may i =
       }) i.core;
       known = i.known;
       stored = i.stored;
-      changes = λ member x t s l. with_leadership-each c m.term leader new (λ (q : Leadership). voter_changes first q.log ≤ voter_changes first (w.stored member) + 1) t s
-          (λ same_t same_s. i.changes member x m.term leader may.leads) (i.changes member x t s l);
+      changes = λ member x. HasChanges-same_log first c m.term leader new (w.stored member) refl may.leads (i.changes member x);
     }
 
 receive-keeps_waiting : (first : Configuration) (w : WaitingCluster) (server term leader : ℕ) (sent known after : Log) → MayReceive w.cluster server term leader sent known after → AreWaitingInvariants first w
@@ -209,17 +176,6 @@ crash-keeps_waiting first w server known may i = record {
   stored = λ k. with_value-each (IsPrefix (w.stored k)) w.known server known k (λ same. subst (λ (q : ℕ). IsPrefix (w.stored q) known) (sym same) may.at_least) (λ other. i.stored k);
   changes = i.changes;
 }
-
--- who is left was a member
-was_member : (member left : ℕ) (members : List ℕ) → In member (without left members) → In member members
-was_member member left [] x = x
-was_member member left (first ∷ rest) x = elim (cases_eq first left) [
-  | inl same ↦ inr (was_member member left rest
-      (subst (In member) (cond-true (nat_eq first left) (without left rest) (first ∷ without left rest) (grind (arith, nat_tests))) x))
-  | inr other ↦ (
-      let stays : In member (first ∷ without left rest) = subst (In member) (cond-false (nat_eq first left) (without left rest) (first ∷ without left rest) (grind (arith, nat_tests))) x in
-      elim stays [ inl is ↦ inl is | inr later ↦ inr (was_member member left rest later) ])
-]
 
 pub waiting_keeps : (first : Configuration) (w : WaitingCluster) (action : WaitingAction) → IsAllowedWaiting first w action → AreWaitingInvariants first w → AreWaitingInvariants first (after_waiting w action)
 waiting_keeps first w (Join server) may i = record {

@@ -20,26 +20,26 @@ use Rattle.raft_safety.proofs.WorkedExamples.TwoServers.{one, add, remove, added
 abbrev request : VoteRequest
 request = record { term = 1; candidate = 1; log = []; committed = [] }
 
-abbrev candidacy : Candidacy
+abbrev pub candidacy : Candidacy
 candidacy = record { request = request; applied = [] }
 
-abbrev election : Election
+abbrev pub election : Election
 election = record { request = request; votes = ids_of (1 ∷ []) }
 
-abbrev own_vote : Vote
+abbrev pub own_vote : Vote
 own_vote = record { term = 1; voter = 1; candidate = 1 }
 
 -- the first change; and both, with the commit index after the first
-abbrev first_append : Append
+abbrev pub first_append : Append
 first_append = record { term = 1; index = 0; index_term = 0; entries = added; commit = 0 }
 
-abbrev both_append : Append
+abbrev pub both_append : Append
 both_append = record { term = 1; index = 0; index_term = 0; entries = moved; commit = 1 }
 
-abbrev rose : Raised
+abbrev pub rose : Raised
 rose = record { leader = 1; commitment = record { term = 1; log = added; counted = []; servers = ids_of (1 ∷ []) } }
 
-abbrev run : List DiskAction
+abbrev pub run : List DiskAction
 run =
     Campaign 1 1 ∷ Save 1 (etcd.Campaign 1 1 [] ∷ []) [] [] ∷ Say (Grant own_vote) ∷ Lead candidacy (ids_of (1 ∷ []))
     ∷ Propose 1 1 add ∷ Send 1 1 [] added ∷ Take 1 (etcd.Receive 1 first_append) ∷ Save 1 (etcd.Receive 1 first_append ∷ []) [] []
@@ -48,20 +48,20 @@ run =
     ∷ Crash 1 [] [] [] ∷ Take 1 (etcd.Heartbeat 1 1 1 added) ∷ Apply 1 added ∷ Campaign 1 2 ∷ []
 
 -- the cluster after so many actions of the run
-abbrev state : ℕ → DiskCluster
+abbrev pub state : ℕ → DiskCluster
 state n = after_disk_actions (new_disk_cluster everybody) (take n run)
 
 -- ---- each action is allowed
 campaigns_1 : MayCampaignApplied one (memory (state 0) 1) 1 1 []
 campaigns_1 = record { later = omega arith; committed = refl; ready = omega arith }
 
-saves_vote : MaySave one (state 1) 1 (etcd.Campaign 1 1 [] ∷ []) [] []
+pub saves_vote : MaySave one (state 1) 1 (etcd.Campaign 1 1 [] ∷ []) [] []
 saves_vote = record { in_order = refl; committed = refl; commit_kept = λ not. absurd cc }
 
-votes_1 : MaySay (state 2) (Grant own_vote)
+pub votes_1 : MaySay (state 2) (Grant own_vote)
 votes_1 = record { saved = inl refl }
 
-leads_1 : MayLead one (state 3) candidacy (ids_of (1 ∷ []))
+pub leads_1 : MayLead one (state 3) candidacy (ids_of (1 ∷ []))
 leads_1 = record {
   asked = inl refl;
   not_yet = not_yet-from_elections (state 3).disk.cluster 1 1 refl;
@@ -74,16 +74,16 @@ leads_1 = record {
 adds_2 : MayProposeApplied one (state 4).disk 1 1 add
 adds_2 = record { leads = (election, inl refl, refl, refl); own_term = refl; one_at_a_time = inr refl }
 
-sends_first : MaySend (state 5).disk 1 1 [] added
+pub sends_first : MaySend (state 5).disk 1 1 [] added
 sends_first = record { leads = (election, inl refl, refl, refl); sent_of = inl refl }
 
-takes_first : MayTakeInMemory one (state 6) 1 (etcd.Receive 1 first_append)
+pub takes_first : MayTakeInMemory one (state 6) 1 (etcd.Receive 1 first_append)
 takes_first = record { own = refl; heard = tt; allowed = record { sent = inl refl; not_past = omega arith; matches = refl } }
 
-saves_first : MaySave one (state 7) 1 (etcd.Receive 1 first_append ∷ []) [] []
+pub saves_first : MaySave one (state 7) 1 (etcd.Receive 1 first_append ∷ []) [] []
 saves_first = record { in_order = refl; committed = refl; commit_kept = λ not. absurd cc }
 
-raises_added : MayRaise one (state 8) 1 1 added (ids_of (1 ∷ []))
+pub raises_added : MayRaise one (state 8) 1 1 added (ids_of (1 ∷ []))
 raises_added = record {
   leads = (election, inl refl, refl, refl);
   in_log = inl refl;
@@ -92,25 +92,25 @@ raises_added = record {
   quorum = IsQuorumAfter-of one [] one (ids_of (1 ∷ [])) configuration_after-first (simp written_out refl);
 }
 
-uses_added : MayUse (state 9) rose
+pub uses_added : MayUse (state 9) rose
 uses_added = record { rose = inl refl; rises = omega arith; own_saved = λ counts. (added, inl refl, inl refl) }
 
-applies_added : MayApply (state 10).disk 1 1 added
+pub applies_added : MayApply (state 10).disk 1 1 added
 applies_added = record { leads = (election, inl refl, refl, refl); more = inr refl; committed = inl refl }
 
 removes_1 : MayProposeApplied one (state 11).disk 1 1 remove
 removes_1 = record { leads = (election, inl refl, refl, refl); own_term = refl; one_at_a_time = inr refl }
 
-sends_both : MaySend (state 12).disk 1 1 [] moved
+pub sends_both : MaySend (state 12).disk 1 1 [] moved
 sends_both = record { leads = (election, inl refl, refl, refl); sent_of = inl refl }
 
-takes_both : MayTakeInMemory one (state 13) 1 (etcd.Receive 1 both_append)
+pub takes_both : MayTakeInMemory one (state 13) 1 (etcd.Receive 1 both_append)
 takes_both = record { own = refl; heard = tt; allowed = record { sent = inl refl; not_past = omega arith; matches = refl } }
 
-saves_both : MaySave one (state 14) 1 (etcd.Receive 1 both_append ∷ []) [] []
+pub saves_both : MaySave one (state 14) 1 (etcd.Receive 1 both_append ∷ []) [] []
 saves_both = record { in_order = refl; committed = inr refl; commit_kept = λ not. absurd cc }
 
-crashes : MayCrash (state 15) 1 [] [] []
+pub crashes : MayCrash (state 15) 1 [] [] []
 crashes = record { restarts = record { at_least = λ not. refl; at_most = inr refl }; configuration_of_applied = refl }
 
 -- it sees two changes in its log, and counts by the configuration before them
@@ -121,14 +121,14 @@ may_not_campaign may =
     let none = voter_changes-first in
     omega arith
 
-hears : MayTakeInMemory one (state 16) 1 (etcd.Heartbeat 1 1 1 added)
+pub hears : MayTakeInMemory one (state 16) 1 (etcd.Heartbeat 1 1 1 added)
 hears = record {
   own = refl;
   heard = tt;
   allowed = record { leads = (election, inl refl, refl, refl); not_past = omega arith; committed = inl refl; acknowledged = (moved, inl refl, inr (inl refl)) };
 }
 
-applies_1 : MayApplyInMemory (state 17) 1 added
+pub applies_1 : MayApplyInMemory (state 17) 1 added
 applies_1 = record { committed = inl refl }
 
 campaigns_again : MayCampaignApplied one (memory (state 18) 1) 1 2 added
