@@ -4,7 +4,7 @@ use Rattle.std.specs.Result.{result_ok}
 use Rattle.quorum_sets.specs.Ids.{Ids, has}
 use Rattle.quorum_sets.specs.Tolerance.{Tolerates}
 use Rattle.quorum_sets.specs.Voters.{is_quorum}
-use Rattle.conf_change.specs.Configuration.{Configuration, voters_of}
+use Rattle.conf_change.specs.Configuration.{Configuration, is_joint, voters_of}
 use Rattle.conf_change.specs.Outcome.{outcome}
 use Rattle.conf_change.specs.declared.step.Step.{Step}
 use Rattle.conf_plan.specs.OneChangeEach.{one_change_each, LeadsChangeByChange}
@@ -40,12 +40,13 @@ pub record IsFirstOfPath (strategy : Strategy) (down : Ids) (now target : Config
   pub carried_out : carried_out now (proposal_of now step) ≡ result_ok (after_auto_leave (Ok after))
 
 -- Who is up and has caught up is a quorum before the step and after it. As many of them may fail after it as both before
--- it and at the target, where those that are down do not count. A new voter was a learner, and has caught up unless it is
--- down or not heard from.
+-- it and at the target, where those that are down do not count. A new voter was a learner. A voter after the step that is
+-- heard from and not down has caught up, and if the step enters a joint configuration, each that is not down has.
 pub record KeepsQuorum (down heard up : Ids) (now target after : Configuration) : Type 0 where
   pub before : is_quorum (voters_of now) up ≡ true
   pub then : is_quorum (voters_of after) up ≡ true
   pub tolerance : (k : ℕ) → Tolerates (voters_of now) (voter_ids now ∖ up) k → Tolerates (voters_of target) down k
       → Tolerates (voters_of after) (voter_ids after ∖ up) k
   pub learners : (id : ℕ) → has after.incoming id ≡ true → (has now.incoming id || has now.outgoing id) ≡ false → has now.learners id ≡ true
-  pub caught_up : (id : ℕ) → has after.incoming id ≡ true → (has now.incoming id || has now.outgoing id) ≡ false → has heard id ≡ true → has down id ≡ false → has up id ≡ true
+  pub caught_up : (id : ℕ) → (has after.incoming id || has after.outgoing id) ≡ true → has heard id ≡ true → has down id ≡ false → has up id ≡ true
+  pub joint : is_joint after ≡ true → (id : ℕ) → (has after.incoming id || has after.outgoing id) ≡ true → has down id ≡ false → has up id ≡ true

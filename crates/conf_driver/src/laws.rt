@@ -1,5 +1,5 @@
 //! Laws of what [`next`](crate::next) answers, whatever it knows. Each is the contract of a function that does nothing.
-ghost use Rattle.std.specs.Prelude.{◌≡◌, ◌≢◌, ◌+◌, ◌<◌, ◌≤◌, ◌↔◌, ◌⊎◌, ℕ, true, false, List, length};
+ghost use Rattle.std.specs.Prelude.{◌≡◌, ◌≢◌, ◌+◌, ◌<◌, ◌≤◌, ◌↔◌, ◌⊎◌, ◌||◌, ℕ, true, false, List, length};
 ghost use Rattle.quorum_sets.specs.Ids.{Ids, has, is_empty};
 ghost use Rattle.conf_change.specs.Configuration.{Configuration, is_member};
 ghost use Rattle.conf_change.specs.declared.step.Step.{Step};
@@ -69,13 +69,16 @@ pub fn nothing_is_done_twice()
 {}
 
 /// A server is stopped only if it is no member on any path to the target and each voter that is not down knows the
-/// configuration in force. One is started only if it does not run, does not vote, is not down, and is not added after it
-/// was stopped for good.
+/// configuration in force. One is started only if it is a member now or of the target, does not run, does not vote, is not
+/// down, and is not added after it was stopped for good.
 pub fn nobody_is_stopped_early()
     ensures stop { (strategy : Strategy) (target : Configuration) (down : Ids) (view : ViewState) (ids : Ids) (id : ℕ)
         → next_of strategy target down view ≡ Stop ids → has ids id ≡ true → MayStop target down view id }
     ensures start { (strategy : Strategy) (target : Configuration) (down : Ids) (view : ViewState) (ids : Ids) (id : ℕ)
         → next_of strategy target down view ≡ Start ids → has ids id ≡ true → MayStart target down view id }
+    ensures members { (strategy : Strategy) (target : Configuration) (down : Ids) (view : ViewState) (ids : Ids) (id : ℕ)
+        → CanAnswer strategy target view → next_of strategy target down view ≡ Start ids → has ids id ≡ true
+        → (is_member view.conf_state id || is_member target id) ≡ true }
 {
     one_change_each_leads();
 }
@@ -90,7 +93,8 @@ pub fn done_is_done()
 }
 
 /// While a step is made, who is up and has caught up is a quorum before and after it, and no fewer of them may fail than
-/// before it or at the target. New voters were learners that have caught up, unless they are down or not heard from.
+/// before it or at the target. New voters were learners. The voters after it that are heard from and not down have caught
+/// up, and where it enters a joint configuration, all that are not down have.
 pub fn steps_keep_quorums()
     ensures { (strategy : Strategy) (target : Configuration) (down : Ids) (view : ViewState) (step : Step)
         (after : Configuration) → CanAnswer strategy target view → next_of strategy target down view ≡ Propose step

@@ -58,8 +58,9 @@ returns c strategy target down view step after can is gives =
     let silent : (is_joint after || is_less (tolerance after up) (tolerance now up)) ≡ true → is_empty (voter_ids after ∖ down ∖ heard) ≡ true =
     subst (λ d. (is_joint d || is_less (tolerance d up) (tolerance now up)) ≡ true → is_empty (voter_ids d ∖ down ∖ heard) ≡ true) same
     (silent-passed s proposed.voter_is_silent) in
-    let kept = Tolerates-after_step fits fewer now after target down heard up (up-not_down down view) caught_up
-    (λ worse id voter not_down. up-unless_down (voter_ids after) down heard id (silent worse) (has-union after.incoming after.outgoing id ∙ voter) not_down) as_tolerant in
+    let all_heard : (is_joint after || is_less (tolerance after up) (tolerance now up)) ≡ true → (id : ℕ) → votes after id ≡ true → has down id ≡ false → has heard id ≡ true =
+    λ worse id voter not_down. up-unless_down (voter_ids after) down heard id (silent worse) (has-union after.incoming after.outgoing id ∙ voter) not_down in
+    let kept = Tolerates-after_step fits fewer now after target down heard up (up-not_down down view) caught_up all_heard as_tolerant in
     let before : is_quorum (voters_of now) up ≡ true = quorum_up-passed s proposed.no_quorum_is_up in
     let counts = target-counts (λ b x d. IsAsTolerant down now target d) now target no_ids down path tolerant (stalls-passed s proposed.path_stalls) in
     let of_target : Tolerates (voters_of target) down 0 =
@@ -71,5 +72,6 @@ returns c strategy target down view step after can is gives =
           (kept 0 (Tolerates-from_commits fits commits (voters_of now) (voter_ids now ∖ up) (sym (is_quorum-up now up) ∙ before)) of_target);
       tolerance = kept;
       learners = λ id incoming new. (ready id incoming new).learner;
-      caught_up = λ id incoming new is_heard not_down. caught_up id (or_left _ (has after.outgoing id) incoming) not_down is_heard;
+      caught_up = λ id voter is_heard not_down. caught_up id voter not_down is_heard;
+      joint = λ joint id voter not_down. caught_up id voter not_down (all_heard (or_left _ _ joint) id voter not_down);
     }
