@@ -28,7 +28,8 @@ type DriveOptions struct {
 type Progress struct {
 	// The last index at which it is known to have the leader's log.
 	Match uint64
-	// Whether it was heard from lately. Raft resets it only with CheckQuorum.
+	// Whether it was heard from lately; the leader itself always is. Raft resets it only with CheckQuorum, and sets that of a
+	// new leader only then.
 	RecentActive bool
 }
 

@@ -268,7 +268,7 @@ class Plan(NamedTuple):
 class MemberView(NamedTuple):
     """What is known of a member: the last index at which it has the leader's log, and whether it was heard from lately.
 
-    Raft resets RecentActive only with CheckQuorum.
+    The leader itself always is. Raft resets RecentActive only with CheckQuorum, and sets that of a new leader only then.
     """
 
     match: int = 0
@@ -596,6 +596,13 @@ def next_action(target: Configuration, view: View, strategy: Strategy, *, down: 
     come back: a member that is merely silent is not down. `max_lag` is how many of the committed entries a member that has
     caught up may lack. The configuration and the target are checked as by `stages`, but for ids that are down and that
     neither has, which are ignored.
+
+    >>> members = {id: MemberView(60, True) for id in (1, 2, 3)}
+    >>> view = View(Configuration([1, 2, 3]), conf_index=57, lead=1, commit=60, progress=members, running=[1, 2, 3])
+    >>> print(next_action(Configuration([1, 2, 4]), view, Strategy.LEARNERS_FIRST))
+    start 4
+    >>> print(next_action(Configuration([1, 2, 4]), view._replace(running=[1, 2, 3, 4]), Strategy.LEARNERS_FIRST))
+    propose simple l4
     """
     ids = [*down]
     arrays = (*_numbers(_array(view.conf_state)), *_numbers(_array(target)))

@@ -23,7 +23,8 @@ pub struct MemberView {
     pub id: u64,
     /// The last index at which it is known to have the leader's log.
     pub matched: u64,
-    /// Whether it was heard from lately. Raft resets it only with `check_quorum`.
+    /// Whether it was heard from lately; the leader itself always is. Raft resets it only with `check_quorum`, and sets that
+    /// of a new leader only then.
     pub recent_active: bool,
 }
 
