@@ -12,7 +12,7 @@ use Rattle.conf_change.specs.Configuration.{Configuration, is_member, voters_of}
 use Rattle.conf_change.specs.Outcome.{Outcome}
 use Rattle.conf_change.specs.declared.step.Step.{Step}
 use Rattle.conf_change.proofs.Offered.{outcome-are_neighbours}
-use Rattle.conf_plan.specs.OnTheWay.{KeepsTolerance, MakesVotersOfReady, VotersLearnFirst, catching_up}
+use Rattle.conf_plan.specs.OnTheWay.{KeepsQuorums, KeepsTolerance, MakesVotersOfReady, VotersLearnFirst, catching_up}
 use Rattle.conf_plan.specs.PathBy.{KeepsPromises}
 use Rattle.conf_plan.specs.Run.{Gives, IsRunWith}
 use Rattle.conf_plan.specs.declared.strategy.Strategy.{Strategy}
@@ -44,6 +44,11 @@ pub path-tolerates : (strategy : Strategy) (down : Ids) (now target : Configurat
 path-tolerates Shortest down now target path promises = promises.tolerance down
 path-tolerates LearnersFirst down now target path promises = promises.tolerance down
 path-tolerates OneAtATime down now target path promises = promises.tolerance
+
+pub path-keeps_quorums : (strategy : Strategy) (down : Ids) (now target : Configuration) (path : List Step) → strategy ≢ OneAtATime → KeepsPromises strategy down now path target → KeepsQuorums now path target
+path-keeps_quorums Shortest down now target path other promises = promises.quorums
+path-keeps_quorums LearnersFirst down now target path other promises = promises.quorums
+path-keeps_quorums OneAtATime down now target path other promises = absurd (other refl)
 
 -- ---- the voters after the step
 -- an outgoing voter after a step was a voter before it

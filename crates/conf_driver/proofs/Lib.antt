@@ -10,5 +10,6 @@ pub mod RowsPassed
 pub mod ServersAnswered
 pub mod Transfers
 pub mod Waiting
+pub mod Ways
 pub mod WhoIsUp
 mod WorkedExamples

@@ -3,10 +3,12 @@ ghost use Rattle.std.specs.Prelude.{◌≡◌, ◌≢◌, ◌+◌, ◌<◌, ◌�
 ghost use Rattle.quorum_sets.specs.Ids.{Ids, has, is_empty};
 ghost use Rattle.conf_change.specs.Configuration.{Configuration, is_member};
 ghost use Rattle.conf_change.specs.declared.step.Step.{Step};
+ghost use Rattle.conf_plan.specs.OnTheWay.{HasMembersOf, HasQuorumsOf, IsAsTolerant};
 ghost use Rattle.conf_plan.specs.OneChangeEach.{one_change_each};
 ghost use Rattle.conf_plan.specs.PathBy.{has_path, path_by};
 ghost use Rattle.conf_plan.specs.Run.{Gives, IsValidWithVoter};
 ghost use Rattle.conf_plan.specs.declared.strategy.Strategy.{Strategy};
+ghost use Rattle.conf_plan.specs.declared.strategy.Strategy.TheVariants.{OneAtATime};
 ghost use Rattle.conf_driver.specs.declared.action.Action.TheVariants.{Start, Stop, Transfer, Propose, Wait, Done};
 ghost use Rattle.conf_driver.specs.declared.action.WaitReason.{WaitReason};
 ghost use Rattle.conf_driver.specs.declared.action.WaitReason.TheVariants.{Behind, Unheard};
@@ -109,7 +111,7 @@ pub fn steps_keep_quorums()
 
 /// After a step that is proposed the path has fewer steps. So while the same ids are down, the steps that are proposed,
 /// and those by which raft leaves a joint configuration by itself on the way, are with those that are left at most as
-/// many as the first path has.
+/// many as the first path has. Once they are as many, the target is reached.
 pub fn plans_end()
     ensures shorter { (strategy : Strategy) (target : Configuration) (down : Ids) (view : ViewState) (step : Step)
         (after : Configuration) → CanAnswer strategy target view → next_of strategy target down view ≡ Propose step
@@ -120,8 +122,36 @@ pub fn plans_end()
         → IsWay strategy target down now steps after
         → length steps + length (one_change_each (path_by strategy down after target))
         ≤ length (one_change_each (path_by strategy down now target)) }
+    ensures arrives { (strategy : Strategy) (target : Configuration) (down : Ids) (now after : Configuration)
+        (steps : List Step) → IsValidWithVoter now → IsValidWithVoter target → has_path strategy now target ≡ true
+        → IsWay strategy target down now steps after
+        → length steps ≡ length (one_change_each (path_by strategy down now target)) → after ≡ target }
 {
     next_path_is_shorter();
+    one_change_each_leads();
+}
+
+/// On a way on which the path is made anew before each step, each configuration keeps what paths keep: it tolerates as many
+/// failures besides the ids that are down as both ends do, a quorum of both ends is one of it, unless members change one at
+/// a time, and each of its members is one of the ends'.
+pub fn ways_keep_promises()
+    ensures tolerance { (strategy : Strategy) (target : Configuration) (down : Ids) (now after : Configuration)
+        (steps : List Step) → IsValidWithVoter now → IsValidWithVoter target → has_path strategy now target ≡ true
+        → IsWay strategy target down now steps after → IsAsTolerant down now target after }
+    ensures quorums { (strategy : Strategy) (target : Configuration) (down : Ids) (now after : Configuration)
+        (steps : List Step) → strategy ≢ OneAtATime → IsValidWithVoter now → IsValidWithVoter target
+        → has_path strategy now target ≡ true → IsWay strategy target down now steps after
+        → HasQuorumsOf now target after }
+    ensures members { (strategy : Strategy) (target : Configuration) (down : Ids) (now after : Configuration)
+        (steps : List Step) → IsValidWithVoter now → IsValidWithVoter target → has_path strategy now target ≡ true
+        → IsWay strategy target down now steps after → HasMembersOf now target after }
+    ensures valid { (strategy : Strategy) (target : Configuration) (down : Ids) (now after : Configuration)
+        (steps : List Step) → IsValidWithVoter now → IsValidWithVoter target → has_path strategy now target ≡ true
+        → IsWay strategy target down now steps after → IsValidWithVoter after }
+{
+    next_path_is_shorter();
+    one_change_each_leads();
+    paths_keep_promises();
 }
 
 /// A wait names somebody, and what is said of each id that it names is so: each is a member, or leads. Once an id that
