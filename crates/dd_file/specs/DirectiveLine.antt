@@ -15,6 +15,10 @@ pub record CommandText : Type 0 where
   pub name : List ℕ
   pub arguments : List ArgumentText
 
+-- an empty name without arguments
+abbrev pub no_command : CommandText
+no_command = record { name = []; arguments = [] }
+
 -- what a text begins with, and the text after it
 pub record Leading (A : Type 0) : Type 0 where
   pub value : A

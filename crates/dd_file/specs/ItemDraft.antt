@@ -4,7 +4,7 @@ use Rattle.std.specs.Prelude.{◌≡◌, ℕ, Bool, true, false, ◌&&◌, ◌||
 use Rattle.std.specs.List.{list_any}
 use Rattle.ascii_text.specs.WhiteSpace.{is_blank}
 use Rattle.dd_file.specs.Cut.{cut}
-use Rattle.dd_file.specs.DirectiveLine.{CommandText, command_of}
+use Rattle.dd_file.specs.DirectiveLine.{CommandText, no_command, command_of}
 use Rattle.dd_file.specs.Script.{FirstItem, Ended, first_of, is_last_line, is_separator, is_dashes, cut_at_pair, directive, after_pair, in_double, in_single, after_separator, body, at_directive}
 use Rattle.dd_file.specs.Draft.{BegunItem}
 use Rattle.dd_file.specs.declared.draft_state.DraftState.{DraftState}
@@ -14,17 +14,19 @@ use Rattle.dd_file.specs.declared.item.Item.TheVariants.{Comment, Blank}
 use Rattle.dd_file.specs.declared.fault.SyntaxFault.{SyntaxFault}
 use Rattle.dd_file.specs.declared.fault.SyntaxFault.TheVariants.{BadDirective, AfterDouble, UnclosedDouble}
 
--- the lines of an item so far, by the parts that they belong to
+-- the lines of an item so far, by the parts that they belong to, and the command of its directive lines once these are
+-- complete
 pub record DraftParts : Type 0 where
   pub directive_lines : List (List ℕ)
   pub input : List (List ℕ)
+  pub command : CommandText
   pub expected : List (List ℕ)
 
 -- no line
 abbrev pub no_parts : DraftParts
-no_parts = record { directive_lines = []; input = []; expected = [] }
+no_parts = record { directive_lines = []; input = []; command = no_command; expected = [] }
 
--- an item so far: its parts, and its state, which has the command of a directive
+-- an item so far
 pub record DraftText : Type 0 where
   pub parts : DraftParts
   pub state : DraftState
@@ -33,21 +35,22 @@ pub record DraftText : Type 0 where
 abbrev pub blank_draft : DraftText
 blank_draft = record { parts = no_parts; state = Begin }
 
--- the state after directive lines, by their command
-abbrev pub state_of_command : Option CommandText → DraftState
-state_of_command None = NoCommand
-state_of_command (Some command) = Input command
+-- the draft after the last directive line, by the command that the directive lines parse to
+abbrev pub draft_of_command : DraftParts → Option CommandText → DraftText
+draft_of_command parts None = record { parts = parts; state = NoCommand }
+draft_of_command parts (Some command) = record { parts = record parts { command = command }; state = Input }
 
--- the state after directive lines, by their text; if that is white space only, the item is a blank
-abbrev pub state_after_directive_line : List ℕ → DraftState
-state_after_directive_line text = if is_blank text then BlankLines else state_of_command (command_of text)
+-- the draft after the last directive line, by the text of the directive lines; if that is white space only, the item is a
+-- blank
+abbrev pub draft_after_directive_lines : DraftParts → List ℕ → DraftText
+draft_after_directive_lines parts text = if is_blank text then record { parts = parts; state = BlankLines } else draft_of_command parts (command_of text)
 
 -- whether the item is complete: the next line begins another
 abbrev pub is_done : DraftState → Bool
 is_done CommentLine = true
 is_done BlankLines = true
 is_done NoCommand = true
-is_done (Complete command) = true
+is_done Complete = true
 is_done AfterPair = true
 is_done state = false
 
@@ -56,8 +59,8 @@ abbrev pub dashes_line : List ℕ
 dashes_line = codes "----"
 
 -- the directive of the parts so far
-abbrev pub drafted : DraftParts → CommandText → Item
-drafted parts command = directive 1 command parts.directive_lines parts.input parts.expected
+abbrev pub drafted : DraftParts → Item
+drafted parts = directive 1 parts.command parts.directive_lines parts.input parts.expected
 
 -- the item of the lines so far if these lines follow, by state
 abbrev pub first_item_in : DraftState → DraftParts → List (List ℕ) → FirstItem Item
@@ -66,13 +69,13 @@ first_item_in CommentLine parts more = Ended (Ok (Comment parts.directive_lines)
 first_item_in BlankLines parts more = Ended (Ok (Blank parts.directive_lines)) more
 first_item_in DirectiveLines parts more = at_directive (cut is_last_line (parts.directive_lines ++ more))
 first_item_in NoCommand parts more = Ended (Err BadDirective) more
-first_item_in (Input command) parts more = body command parts.directive_lines (cut is_separator (parts.input ++ more))
-first_item_in (Separator command) parts more = after_separator command parts.directive_lines parts.input more
-first_item_in (Single command) parts more = in_single command parts.directive_lines parts.input (cut is_blank (parts.expected ++ more))
-first_item_in (Double command) parts more = in_double command parts.directive_lines parts.input (cut_at_pair (parts.expected ++ more))
-first_item_in (Dashes command) parts more = in_double command parts.directive_lines parts.input (cut_at_pair (parts.expected ++ dashes_line ∷ more))
-first_item_in (Pair command) parts more = after_pair (drafted parts command) more
-first_item_in (Complete command) parts more = Ended (Ok (drafted parts command)) more
+first_item_in Input parts more = body parts.command parts.directive_lines (cut is_separator (parts.input ++ more))
+first_item_in Separator parts more = after_separator parts.command parts.directive_lines parts.input more
+first_item_in Single parts more = in_single parts.command parts.directive_lines parts.input (cut is_blank (parts.expected ++ more))
+first_item_in Double parts more = in_double parts.command parts.directive_lines parts.input (cut_at_pair (parts.expected ++ more))
+first_item_in Dashes parts more = in_double parts.command parts.directive_lines parts.input (cut_at_pair (parts.expected ++ dashes_line ∷ more))
+first_item_in Pair parts more = after_pair (drafted parts) more
+first_item_in Complete parts more = Ended (Ok (drafted parts)) more
 first_item_in AfterPair parts more = Ended (Err AfterDouble) more
 
 -- the item of the lines so far, or its error, if no line follows; none if there is no line
@@ -82,13 +85,13 @@ result_in CommentLine parts = Some (Ok (Comment (parts.directive_lines ++ parts.
 result_in BlankLines parts = Some (Ok (Blank (parts.directive_lines ++ parts.input)))
 result_in DirectiveLines parts = Some (Err BadDirective)
 result_in NoCommand parts = Some (Err BadDirective)
-result_in (Input command) parts = Some (Ok (drafted parts command))
-result_in (Separator command) parts = Some (Ok (drafted parts command))
-result_in (Single command) parts = Some (Ok (drafted parts command))
-result_in (Double command) parts = Some (Err UnclosedDouble)
-result_in (Dashes command) parts = Some (Err UnclosedDouble)
-result_in (Pair command) parts = Some (Ok (drafted parts command))
-result_in (Complete command) parts = Some (Ok (drafted parts command))
+result_in Input parts = Some (Ok (drafted parts))
+result_in Separator parts = Some (Ok (drafted parts))
+result_in Single parts = Some (Ok (drafted parts))
+result_in Double parts = Some (Err UnclosedDouble)
+result_in Dashes parts = Some (Err UnclosedDouble)
+result_in Pair parts = Some (Ok (drafted parts))
+result_in Complete parts = Some (Ok (drafted parts))
 result_in AfterPair parts = Some (Err AfterDouble)
 
 -- whether there is a pair of dashes
@@ -103,11 +106,11 @@ FitsIn Begin parts = parts ≡ no_parts
 FitsIn CommentLine parts = parts.input ≡ []
 FitsIn BlankLines parts = parts.input ≡ []
 FitsIn DirectiveLines parts = (list_any is_last_line parts.directive_lines ≡ false) × (parts.input ≡ []) × (parts.expected ≡ [])
-FitsIn (Input command) parts = (list_any is_separator parts.input ≡ false) × (parts.expected ≡ [])
-FitsIn (Separator command) parts = parts.expected ≡ []
-FitsIn (Single command) parts = list_any is_blank parts.expected ≡ false
-FitsIn (Double command) parts = has_pair (parts.expected ++ dashes_line ∷ []) ≡ false
-FitsIn (Dashes command) parts = has_pair (parts.expected ++ dashes_line ∷ []) ≡ false
+FitsIn Input parts = (list_any is_separator parts.input ≡ false) × (parts.expected ≡ [])
+FitsIn Separator parts = parts.expected ≡ []
+FitsIn Single parts = list_any is_blank parts.expected ≡ false
+FitsIn Double parts = has_pair (parts.expected ++ dashes_line ∷ []) ≡ false
+FitsIn Dashes parts = has_pair (parts.expected ++ dashes_line ∷ []) ≡ false
 FitsIn state parts = ⊤
 
 -- One more line was added: with any lines that follow, the new state and parts give the item that the old ones give with

@@ -5,7 +5,7 @@
 //! subtest one                     not a command: datadriven groups tests with it, which is not supported here
 //! ```
 ghost use Rattle.std.specs.Prelude.{◌≡◌, IfOk, option_map};
-ghost use Rattle.dd_file.specs.DirectiveLine.{arguments_of, command_of};
+ghost use Rattle.dd_file.specs.DirectiveLine.{arguments_of, command_of, no_command};
 
 use crate::arguments::{argument_at, ends_token, key_len};
 use crate::item::Argument;
@@ -33,6 +33,18 @@ impl Model for Command {
     ghost view = { λ a. record { name = a.name.items; arguments = a.arguments.items } };
 
     ghost invariant = { λ a. has_keys a.arguments.items ≡ true };
+}
+
+impl Command {
+    /// An empty name without arguments.
+    pub(crate) fn none(alloc: Global) -> Command
+        ensures { result ≡ no_command }
+    {
+        Command {
+            name: Name::new(alloc),
+            arguments: Vec::new(alloc),
+        }
+    }
 }
 
 /// Parses a text as arguments. `None` if one of its tokens is not an argument, so that a mistake is never skipped.

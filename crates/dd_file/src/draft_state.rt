@@ -14,11 +14,8 @@
 ghost use Rattle.std.specs.Prelude.{◌≡◌};
 ghost use Rattle.dd_file.specs.ItemDraft.{is_done};
 
-use crate::command::Command;
-
-/// The state of an item after the lines so far, which decides what its next line is. Once the directive lines are
-/// complete, the state carries their command.
-#[derive(Drop)]
+/// The state of an item after the lines so far, which decides what its next line is.
+#[derive(Clone, Copy)]
 pub(crate) enum DraftState {
     /// It has no line yet.
     Begin,
@@ -31,34 +28,34 @@ pub(crate) enum DraftState {
     /// Its directive lines are not valid.
     NoCommand,
     /// Its directive lines are complete. Lines of input follow, up to the separator.
-    Input(Command),
+    Input,
     /// The last line was the separator.
-    Separator(Command),
+    Separator,
     /// Lines of expected output follow, up to a blank line.
-    Single(Command),
+    Single,
     /// Lines of expected output follow, up to a pair of dashes.
-    Double(Command),
+    Double,
     /// The same, after a line of dashes: it is the first of the closing pair, or output.
-    Dashes(Command),
+    Dashes,
     /// The last two lines were the closing pair of dashes.
-    Pair(Command),
+    Pair,
     /// It is a complete directive.
-    Complete(Command),
+    Complete,
     /// The line after the closing pair was not blank.
     AfterPair,
 }
 
 impl DraftState {
     /// Whether the item is complete: the next line begins another item.
-    pub(crate) fn is_done(&self) -> bool
-        ensures { result ≡ is_done self.now }
+    pub(crate) fn is_done(self) -> bool
+        ensures { result ≡ is_done self }
     {
         matches!(
             self,
             DraftState::CommentLine
                 | DraftState::BlankLines
                 | DraftState::NoCommand
-                | DraftState::Complete(_)
+                | DraftState::Complete
                 | DraftState::AfterPair
         )
     }

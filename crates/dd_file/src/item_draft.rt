@@ -5,7 +5,7 @@
 //! stored, such as a separator. It reports when the item is complete. Lines that come after that belong to the next
 //! item.
 ghost use Rattle.std.specs.Prelude.{◌≡◌, [], ◌∷◌, ◌++◌, false, IfOk, OnOk};
-ghost use Rattle.dd_file.specs.ItemDraft.{blank_draft, no_parts, FitsIn, AddsIn, state_after_directive_line, is_done};
+ghost use Rattle.dd_file.specs.ItemDraft.{blank_draft, no_parts, FitsIn, AddsIn, draft_after_directive_lines, is_done};
 
 use crate::command::{Command, parse_command};
 use crate::draft::Draft;
@@ -18,7 +18,6 @@ use crate::raw_lines::RawLines;
 use ascii_text::white_space::{is_blank, trimmed};
 use std::alloc::{AllocError, Global};
 use std::marker::Model;
-use std::mem::replace;
 
 /// The lines of an item so far, by the parts that they belong to.
 #[derive(Drop)]
@@ -28,6 +27,8 @@ struct DraftParts {
     raw_lines: RawLines,
     /// How many of the raw lines are directive lines.
     directive_line_count: usize,
+    /// The command of the directive lines, once they are complete.
+    command: Command,
     expected: RawLines,
 }
 
@@ -40,6 +41,7 @@ impl Model for DraftParts {
     ghost view = { λ a. record {
       directive_lines = take a.directive_line_count a.raw_lines;
       input = drop a.directive_line_count a.raw_lines;
+      command = a.command;
       expected = a.expected;
     } };
 
@@ -56,12 +58,12 @@ impl DraftParts {
         match state {
             DraftState::Begin => self.add_first(line),
             DraftState::DirectiveLines => self.add_directive_line(line),
-            DraftState::Input(command) => self.add_input(command, line),
-            DraftState::Separator(command) => self.add_output(command, line),
-            DraftState::Single(command) => self.add_single(command, line),
-            DraftState::Double(command) => self.add_double(command, line),
-            DraftState::Dashes(command) => self.add_after_dashes(command, line),
-            DraftState::Pair(command) => Ok(self.add_after_pair(command, line)),
+            DraftState::Input => self.add_input(line),
+            DraftState::Separator => self.add_output(line),
+            DraftState::Single => self.add_single(line),
+            DraftState::Double => self.add_double(line),
+            DraftState::Dashes => self.add_after_dashes(line),
+            DraftState::Pair => Ok(self.add_after_pair(line)),
             done => Ok(done),
         }
     }
@@ -118,80 +120,97 @@ impl DraftParts {
             return Ok(DraftState::DirectiveLines);
         }
         if self.directive_line_count == 1 {
-            return state_after_directive_line(self.alloc, trimmed(line));
+            return self.end_directive_lines(trimmed(line));
         }
         let text = joined(self.alloc, &self.raw_lines)?;
-        state_after_directive_line(self.alloc, text.as_slice())
+        self.end_directive_lines(text.as_slice())
+    }
+
+    /// Parses the text of the complete directive lines, which may be blank, a command, or neither.
+    fn end_directive_lines(&mut self, text: &[u8]) -> Result<DraftState, AllocError>
+        ensures { IfOk result (λ state. record { parts = self.new; state = state }
+            ≡ draft_after_directive_lines self.old text.now) }
+    {
+        if is_blank(text) {
+            return Ok(DraftState::BlankLines);
+        }
+        match parse_command(self.alloc, text)? {
+            Some(command) => {
+                self.command = command;
+                Ok(DraftState::Input)
+            }
+            None => Ok(DraftState::NoCommand),
+        }
     }
 
     /// Input continues up to the separator, and may contain blank lines and lines that look like comments.
-    fn add_input(&mut self, command: Command, line: &[u8]) -> Result<DraftState, AllocError>
-        requires fits { FitsIn (DraftState.Input command) self.old }
-        ensures { IfOk result (λ next. AddsIn (DraftState.Input command) self.old next self.new line.now) }
+    fn add_input(&mut self, line: &[u8]) -> Result<DraftState, AllocError>
+        requires fits { FitsIn DraftState.Input self.old }
+        ensures { IfOk result (λ next. AddsIn DraftState.Input self.old next self.new line.now) }
     {
         if is_separator(line) {
-            return Ok(DraftState::Separator(command));
+            return Ok(DraftState::Separator);
         }
         self.keep_input(line)?;
-        Ok(DraftState::Input(command))
+        Ok(DraftState::Input)
     }
 
     /// The first line after the separator: dashes make it a double separator, and any other line a single one.
-    fn add_output(&mut self, command: Command, line: &[u8]) -> Result<DraftState, AllocError>
-        requires fits { FitsIn (DraftState.Separator command) self.old }
-        ensures { IfOk result (λ next. AddsIn (DraftState.Separator command) self.old next self.new line.now) }
+    fn add_output(&mut self, line: &[u8]) -> Result<DraftState, AllocError>
+        requires fits { FitsIn DraftState.Separator self.old }
+        ensures { IfOk result (λ next. AddsIn DraftState.Separator self.old next self.new line.now) }
     {
         if is_dashes(line) {
-            return Ok(DraftState::Double(command));
+            return Ok(DraftState::Double);
         }
-        self.add_single(command, line)
+        self.add_single(line)
     }
 
     /// Expected output after a single separator continues up to a blank line.
-    fn add_single(&mut self, command: Command, line: &[u8]) -> Result<DraftState, AllocError>
-        requires fits { FitsIn (DraftState.Single command) self.old }
-        ensures { IfOk result (λ next. AddsIn (DraftState.Single command) self.old next self.new line.now) }
+    fn add_single(&mut self, line: &[u8]) -> Result<DraftState, AllocError>
+        requires fits { FitsIn DraftState.Single self.old }
+        ensures { IfOk result (λ next. AddsIn DraftState.Single self.old next self.new line.now) }
     {
         if is_blank(line) {
-            return Ok(DraftState::Complete(command));
+            return Ok(DraftState::Complete);
         }
         self.keep_output(line)?;
-        Ok(DraftState::Single(command))
+        Ok(DraftState::Single)
     }
 
     /// Expected output after a double separator continues up to two lines of dashes in a row.
-    fn add_double(&mut self, command: Command, line: &[u8]) -> Result<DraftState, AllocError>
-        requires fits { FitsIn (DraftState.Double command) self.old }
-        ensures { IfOk result (λ next. AddsIn (DraftState.Double command) self.old next self.new line.now) }
+    fn add_double(&mut self, line: &[u8]) -> Result<DraftState, AllocError>
+        requires fits { FitsIn DraftState.Double self.old }
+        ensures { IfOk result (λ next. AddsIn DraftState.Double self.old next self.new line.now) }
     {
         if is_dashes(line) {
-            return Ok(DraftState::Dashes(command));
+            return Ok(DraftState::Dashes);
         }
         self.keep_output(line)?;
-        Ok(DraftState::Double(command))
+        Ok(DraftState::Double)
     }
 
     /// A second line of dashes closes the output; after any other line the first one is output.
-    fn add_after_dashes(&mut self, command: Command, line: &[u8]) -> Result<DraftState, AllocError>
-        requires fits { FitsIn (DraftState.Dashes command) self.old }
-        ensures { IfOk result (λ next. AddsIn (DraftState.Dashes command) self.old next self.new line.now) }
+    fn add_after_dashes(&mut self, line: &[u8]) -> Result<DraftState, AllocError>
+        requires fits { FitsIn DraftState.Dashes self.old }
+        ensures { IfOk result (λ next. AddsIn DraftState.Dashes self.old next self.new line.now) }
     {
         if is_dashes(line) {
-            return Ok(DraftState::Pair(command));
+            return Ok(DraftState::Pair);
         }
         self.keep_output(b"----")?;
         self.keep_output(line)?;
-        Ok(DraftState::Double(command))
+        Ok(DraftState::Double)
     }
 
     /// The line after the closing pair of dashes has to be blank, and belongs to the item (datadriven requires it to be
     /// empty).
-    fn add_after_pair(&self, command: Command, line: &[u8]) -> DraftState
-        ensures { AddsIn (DraftState.Pair command) self.now result self.now line.now }
+    fn add_after_pair(&self, line: &[u8]) -> DraftState
+        ensures { AddsIn DraftState.Pair self.now result self.now line.now }
     {
         let _ = self;
         if is_blank(line) {
-            DraftState::Complete(command)
+            DraftState::Complete
         } else {
             DraftState::AfterPair
         }
@@ -223,6 +242,7 @@ impl ItemDraft {
             alloc,
             raw_lines,
             directive_line_count: 0,
+            command: Command::none(alloc),
             expected: RawLines::new(alloc),
         };
         ItemDraft {
@@ -248,8 +268,7 @@ impl Draft<Item> for ItemDraft {
     ghost Fits = { λ draft. FitsIn draft.state draft.parts };
 
     fn add(&mut self, line: &[u8]) -> Result<bool, AllocError> {
-        let state = replace(&mut self.state, DraftState::Begin);
-        self.state = self.parts.next_state(state, line)?;
+        self.state = self.parts.next_state(self.state, line)?;
         Ok(self.state.is_done())
     }
 
@@ -262,45 +281,34 @@ impl Draft<Item> for ItemDraft {
             alloc: _,
             raw_lines,
             directive_line_count,
+            command,
             expected,
         } = parts;
-        let command = match state {
-            DraftState::Begin => return Ok(None),
-            DraftState::CommentLine => return Ok(Some(Item::Comment(raw_lines))),
-            DraftState::BlankLines => return Ok(Some(Item::Blank(raw_lines))),
-            DraftState::DirectiveLines => return Err(SyntaxFault::BadDirective.between(
-                first, last,
-            )),
-            DraftState::NoCommand => return Err(SyntaxFault::BadDirective.between(first, last)),
-            DraftState::Double(_) => return Err(SyntaxFault::UnclosedDouble.between(first, last)),
-            DraftState::Dashes(_) => return Err(SyntaxFault::UnclosedDouble.between(first, last)),
-            DraftState::AfterPair => return Err(SyntaxFault::AfterDouble.between(first, last)),
-            DraftState::Input(command)
-            | DraftState::Separator(command)
-            | DraftState::Single(command)
-            | DraftState::Pair(command)
-            | DraftState::Complete(command) => command,
-        };
-        let expected = expected.into_text();
-        Ok(Some(Item::Directive(Directive::new(
-            first,
-            command,
-            raw_lines,
-            directive_line_count,
-            expected,
-        ))))
-    }
-}
-
-/// The state after complete directive lines with this text, which may be blank, a command, or neither.
-fn state_after_directive_line(alloc: Global, text: &[u8]) -> Result<DraftState, AllocError>
-    ensures { IfOk result (λ state. state ≡ state_after_directive_line text.now) }
-{
-    if is_blank(text) {
-        return Ok(DraftState::BlankLines);
-    }
-    match parse_command(alloc, text)? {
-        Some(command) => Ok(DraftState::Input(command)),
-        None => Ok(DraftState::NoCommand),
+        match state {
+            DraftState::Begin => Ok(None),
+            DraftState::CommentLine => Ok(Some(Item::Comment(raw_lines))),
+            DraftState::BlankLines => Ok(Some(Item::Blank(raw_lines))),
+            DraftState::DirectiveLines | DraftState::NoCommand => {
+                Err(SyntaxFault::BadDirective.between(first, last))
+            }
+            DraftState::Double | DraftState::Dashes => {
+                Err(SyntaxFault::UnclosedDouble.between(first, last))
+            }
+            DraftState::AfterPair => Err(SyntaxFault::AfterDouble.between(first, last)),
+            DraftState::Input
+            | DraftState::Separator
+            | DraftState::Single
+            | DraftState::Pair
+            | DraftState::Complete => {
+                let expected = expected.into_text();
+                Ok(Some(Item::Directive(Directive::new(
+                    first,
+                    command,
+                    raw_lines,
+                    directive_line_count,
+                    expected,
+                ))))
+            }
+        }
     }
 }

@@ -18,21 +18,21 @@ draft-ended CommentLine parts fits done =
 draft-ended BlankLines parts fits done =
     record { result = _; is = refl; ended = λ more. ap (λ ls. Ended (Ok (Blank ls)) more) (sym (ap (λ ls. parts.directive_lines ++ ls) fits ∙ append-nil parts.directive_lines)) }
 draft-ended NoCommand parts fits done = record { result = _; is = refl; ended = λ more. refl }
-draft-ended (Complete command) parts fits done = record { result = _; is = refl; ended = λ more. refl }
+draft-ended Complete parts fits done = record { result = _; is = refl; ended = λ more. refl }
 draft-ended AfterPair parts fits done = record { result = _; is = refl; ended = λ more. refl }
 draft-ended state parts fits done = cc
 
 draft-open : (state : DraftState) (parts : DraftParts) → FitsIn state parts → is_done state ≡ false → first_item_in state parts [] ≡ opened (result_in state parts)
 draft-open Begin parts fits open_end = refl
 draft-open DirectiveLines parts fits open_end = ap at_directive (ap (cut is_last_line) (append-nil parts.directive_lines) ∙ cut-whole is_last_line parts.directive_lines fits.0)
-draft-open (Input c) parts fits open_end = ap (body c parts.directive_lines) (ap (cut is_separator) (append-nil parts.input) ∙ cut-whole is_separator parts.input fits.0)
-    ∙ ap (λ e. Open (Ok (directive 1 c parts.directive_lines parts.input e))) (sym fits.1)
-draft-open (Separator c) parts fits open_end = ap (λ e. Open (Ok (directive 1 c parts.directive_lines parts.input e))) (sym fits)
-draft-open (Single c) parts fits open_end = ap (in_single c parts.directive_lines parts.input) (ap (cut is_blank) (append-nil parts.expected) ∙ cut-whole is_blank parts.expected fits)
-draft-open (Double c) parts fits open_end =
-    ap (in_double c parts.directive_lines parts.input) (ap cut_at_pair (append-nil parts.expected) ∙ pair-whole parts.expected (has_pair-prefix parts.expected (dashes_line ∷ []) fits))
-draft-open (Dashes c) parts fits open_end = ap (in_double c parts.directive_lines parts.input) (pair-whole (parts.expected ++ dashes_line ∷ []) fits)
-draft-open (Pair c) parts fits open_end = refl
+draft-open Input parts fits open_end = ap (body parts.command parts.directive_lines) (ap (cut is_separator) (append-nil parts.input) ∙ cut-whole is_separator parts.input fits.0)
+    ∙ ap (λ e. Open (Ok (directive 1 parts.command parts.directive_lines parts.input e))) (sym fits.1)
+draft-open Separator parts fits open_end = ap (λ e. Open (Ok (directive 1 parts.command parts.directive_lines parts.input e))) (sym fits)
+draft-open Single parts fits open_end = ap (in_single parts.command parts.directive_lines parts.input) (ap (cut is_blank) (append-nil parts.expected) ∙ cut-whole is_blank parts.expected fits)
+draft-open Double parts fits open_end =
+    ap (in_double parts.command parts.directive_lines parts.input) (ap cut_at_pair (append-nil parts.expected) ∙ pair-whole parts.expected (has_pair-prefix parts.expected (dashes_line ∷ []) fits))
+draft-open Dashes parts fits open_end = ap (in_double parts.command parts.directive_lines parts.input) (pair-whole (parts.expected ++ dashes_line ∷ []) fits)
+draft-open Pair parts fits open_end = refl
 draft-open state parts fits open_end = cc
 
 pub begun_item-is : (draft : DraftText) → FitsIn draft.state draft.parts → IsBegun (begun_item draft)

@@ -3,7 +3,7 @@ use Rattle.std.proofs.lemmas.List.{take-append-drop, append-nil}
 use Rattle.std.proofs.lemmas.Result.{IfOk-weaker}
 use Rattle.ascii_text.specs.WhiteSpace.{trimmed}
 use Rattle.dd_file.specs.Script.{joined}
-use Rattle.dd_file.specs.ItemDraft.{DraftParts, state_after_directive_line}
+use Rattle.dd_file.specs.ItemDraft.{DraftParts}
 use Rattle.dd_file.proofs.Reading.StateByState.{adds-last}
 use Rattle.dd_file.proofs.item_draft.DraftParts.add_directive_line.Goals as goal
 
@@ -22,8 +22,8 @@ returns-then-self-eq1 c =
     let count = length-take-le fields.directive_line_count fields.raw_lines c.self.invariant in
     let one = c.if-self-eq1.true in
     let text = c.trimmed.ensures ∙ sym (joined-one old.directive_lines line (omega (arith, same, count, one))) in
-    IfOk-weaker c.state_after_directive_line.result _ _
-    (λ next is. adds-last old line _ next c.requires.fits (search rules) kept (is ∙ ap state_after_directive_line text)) c.state_after_directive_line.ensures
+    IfOk-weaker c.end_directive_lines.result _ _
+    (λ next is. adds-last old line _ _ next _ c.requires.fits (search rules) kept text is) c.end_directive_lines.ensures
 
 pub returns : goal.returns
 returns c =
@@ -34,5 +34,5 @@ returns c =
     let raw : c.self.inside.raw_lines ≡ lines = sym (take-append-drop c.self.inside.directive_line_count c.self.inside.raw_lines)
     ∙ ap (λ (parts : DraftParts). parts.directive_lines ++ parts.input) (c.self.view_is ∙ kept) ∙ ap (λ input. lines ++ input) c.requires.fits.1 ∙ append-nil lines in
     let text : c.as_slice.result.now ≡ joined lines = c.as_slice.ensures.value ∙ c.in_ok-text.ensures ∙ ap joined raw in
-    IfOk-weaker c.state_after_directive_line-2.result _ _
-    (λ next is. adds-last old line _ next c.requires.fits (search rules) kept (is ∙ ap state_after_directive_line text)) c.state_after_directive_line-2.ensures
+    IfOk-weaker c.end_directive_lines-2.result _ _
+    (λ next is. adds-last old line _ _ next _ c.requires.fits (search rules) kept text is) c.end_directive_lines-2.ensures
