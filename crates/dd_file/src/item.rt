@@ -95,7 +95,7 @@ pub struct Directive {
     raw_lines: RawLines,
     /// How many of the raw lines are directive lines.
     directive_line_count: usize,
-    expected: Vec<u8>,
+    expected: RawLines,
 }
 
 impl Model for Directive {
@@ -112,7 +112,7 @@ impl Model for Directive {
       command = a.command.items;
       arguments = a.arguments.items;
       input = trimmed (text_of (drop a.directive_line_count a.raw_lines));
-      expected = a.expected.items;
+      expected = text_of a.expected;
       raw_lines = a.raw_lines;
     } };
 
@@ -128,7 +128,7 @@ impl Directive {
         command: Command,
         raw_lines: RawLines,
         directive_line_count: usize,
-        expected: Vec<u8>,
+        expected: RawLines,
     ) -> Directive
         requires { directive_line_count ≤ length raw_lines }
         ensures { result ≡ record {
@@ -136,7 +136,7 @@ impl Directive {
           command = command.name;
           arguments = command.arguments;
           input = trimmed (text_of (drop directive_line_count raw_lines));
-          expected = expected.items;
+          expected = text_of expected;
           raw_lines = raw_lines;
         } }
     {
@@ -191,7 +191,7 @@ impl Directive {
     pub fn expected(&self) -> &[u8]
         ensures { result.now ≡ self.now.expected }
     {
-        self.expected.as_slice()
+        self.expected.text()
     }
 }
 
@@ -232,7 +232,7 @@ impl Item {
         };
         let mut lines = RawLines::of_line(alloc, line)?;
         lines.push_all(input)?;
-        let expected = Vec::new(alloc);
+        let expected = RawLines::new(alloc);
         Ok(Some(Item::Directive(Directive::new(1, command, lines, 1, expected))))
     }
 
@@ -259,15 +259,13 @@ impl Item {
         }
     }
 
-    /// The raw lines alone.
+    /// The buffers of the raw lines and of the expected output.
     #[inline(always)]
-    pub(crate) fn into_raw_lines(self) -> RawLines
-        ensures { result ≡ raw_lines_of self }
-    {
+    pub(crate) fn into_buffers(self, alloc: Global) -> (RawLines, RawLines) {
         match self {
-            Item::Comment(lines) => lines,
-            Item::Blank(lines) => lines,
-            Item::Directive(directive) => directive.raw_lines,
+            Item::Comment(lines) => (lines, RawLines::new(alloc)),
+            Item::Blank(lines) => (lines, RawLines::new(alloc)),
+            Item::Directive(directive) => (directive.raw_lines, directive.expected),
         }
     }
 

@@ -234,8 +234,9 @@ impl Model for ItemDraft {
 
 impl ItemDraft {
     /// An item without lines.
-    pub(crate) fn new(alloc: Global, raw_lines: RawLines) -> ItemDraft
-        requires { raw_lines ≡ [] }
+    pub(crate) fn new(alloc: Global, raw_lines: RawLines, expected: RawLines) -> ItemDraft
+        requires raw_lines { raw_lines ≡ [] }
+        requires expected { expected ≡ [] }
         ensures { result ≡ blank_draft }
     {
         let parts = DraftParts {
@@ -243,7 +244,7 @@ impl ItemDraft {
             raw_lines,
             directive_line_count: 0,
             command: Command::none(alloc),
-            expected: RawLines::new(alloc),
+            expected,
         };
         ItemDraft {
             parts,
@@ -300,7 +301,6 @@ impl Draft<Item> for ItemDraft {
             | DraftState::Single
             | DraftState::Pair
             | DraftState::Complete => {
-                let expected = expected.into_text();
                 Ok(Some(Item::Directive(Directive::new(
                     first,
                     command,

@@ -10,10 +10,8 @@ ghost use Rattle.std.specs.Prelude.{◌≡◌, ◌≤◌, ◌<◌, ◌+◌, ◌-
 ghost use Rattle.ascii_text.specs.Lines.{text_of};
 
 use crate::room::{append, make_room};
-use smallvec::SmallVec;
 use std::alloc::{AllocError, Global};
 use std::marker::Model;
-use std::mem::replace;
 
 /// Lines without their newlines, in the order in which they were added.
 #[derive(Drop)]
@@ -21,7 +19,7 @@ pub struct RawLines {
     /// The lines, each with a newline.
     text: Vec<u8>,
     /// The positions of those newlines.
-    ends: SmallVec<usize, 4>,
+    ends: Vec<usize>,
 }
 
 impl Model for RawLines {
@@ -41,27 +39,23 @@ impl RawLines {
     {
         RawLines {
             text: Vec::new(alloc),
-            ends: SmallVec::new(alloc),
+            ends: Vec::new(alloc),
         }
     }
 
-    /// No lines, in a buffer that is reused.
-    pub(crate) fn over(alloc: Global, text: &mut Vec<u8>) -> RawLines
-        requires { text.old.items ≡ [] }
-        ensures lines { result ≡ [] }
-        ensures text { text.new.items ≡ [] }
+    /// Drops all lines, and keeps the memory.
+    pub(crate) fn clear(&mut self)
+        ensures { self.new ≡ [] }
     {
-        RawLines {
-            text: replace(text, Vec::new(alloc)),
-            ends: SmallVec::new(alloc),
-        }
+        self.text.clear();
+        self.ends.clear();
     }
 
     pub(crate) fn of_line(alloc: Global, line: Vec<u8>) -> Result<RawLines, AllocError>
         ensures { IfOk result (λ lines. lines ≡ line.items ∷ []) }
     {
         let mut text = line;
-        let mut ends = SmallVec::new(alloc);
+        let mut ends = Vec::new(alloc);
         ends.push(text.len())?;
         text.push(b'\n')?;
         Ok(RawLines { text, ends })
@@ -120,14 +114,6 @@ impl RawLines {
         ensures { result.now ≡ text_of (drop count self.now) }
     {
         self.text().split_at(self.start(count)).1
-    }
-
-    /// The lines as one text, each with a newline.
-    pub(crate) fn into_text(self) -> Vec<u8>
-        ensures { result.items ≡ text_of self }
-    {
-        let RawLines { text, ends: _ } = self;
-        text
     }
 
     /// The position at which the line at an index begins, or the end of the text for the index after the last.

@@ -25,14 +25,17 @@ use crate::raw_lines::RawLines;
 use crate::read_ahead;
 use std::alloc::Global;
 use std::marker::Model;
+use std::mem::replace;
 
 /// Reads the items of a script from a [`Source`].
 #[derive(Drop)]
 pub struct Reader {
     alloc: Global,
     input: Input,
-    /// An empty buffer, in which the raw lines of the next item are gathered.
-    text_buffer: Vec<u8>,
+    /// An empty buffer for the raw lines of the next item.
+    raw_lines: RawLines,
+    /// An empty buffer for its expected output.
+    expected: RawLines,
 }
 
 impl Model for Reader {
@@ -43,7 +46,7 @@ impl Model for Reader {
 
     ghost view = { λ a. a.input };
 
-    ghost invariant = { λ a. IsBounded a.input × (a.text_buffer.items ≡ []) };
+    ghost invariant = { λ a. IsBounded a.input × (a.raw_lines ≡ []) × (a.expected ≡ []) };
 }
 
 impl Reader {
@@ -55,7 +58,8 @@ impl Reader {
         Ok(Reader {
             alloc,
             input: Input::new(alloc).map_err(|_| FileFault::NoMemory)?,
-            text_buffer: Vec::new(alloc),
+            raw_lines: RawLines::new(alloc),
+            expected: RawLines::new(alloc),
         })
     }
 
@@ -81,7 +85,7 @@ impl Reader {
         read_ahead::next_buffered(self.draft(), &mut self.input, reader)
     }
 
-    /// An item without lines, in the buffer that is reused.
+    /// An item without lines, in the buffers that are reused.
     #[inline(always)]
     fn draft(&mut self) -> ItemDraft
         ensures draft { result ≡ blank_draft }
@@ -89,17 +93,18 @@ impl Reader {
     {
         ItemDraft::new(
             self.alloc,
-            RawLines::over(self.alloc, &mut self.text_buffer),
+            replace(&mut self.raw_lines, RawLines::new(self.alloc)),
+            replace(&mut self.expected, RawLines::new(self.alloc)),
         )
     }
 
-    /// Takes back an item that is no longer used, so that a later one can reuse its buffer.
+    /// Takes back an item that is no longer used, so that a later one can reuse its buffers.
     #[inline(always)]
     pub fn reuse(&mut self, item: Item)
         ensures { self.new ≡ self.old }
     {
-        let mut text = item.into_raw_lines().into_text();
-        text.clear();
-        self.text_buffer = text;
+        (self.raw_lines, self.expected) = item.into_buffers(self.alloc);
+        self.raw_lines.clear();
+        self.expected.clear();
     }
 }

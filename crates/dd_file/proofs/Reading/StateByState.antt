@@ -19,23 +19,23 @@ module _ (old : DraftParts) (line : List ℕ) where
   adds-last now new next text fits last now_is text_is is =
       subst (λ (draft : DraftText). AddsIn DirectiveLines old draft.state draft.parts line) (sym (is ∙ ap (λ parts. draft_after_directive_lines parts text) now_is ∙ ap (draft_after_directive_lines kept) text_is))
       (at (is_blank (joined lines)) refl (command_of (joined lines)) refl) where
-    lines : List (List ℕ)
-    lines = old.directive_lines ++ line ∷ []
+        lines : List (List ℕ)
+        lines = old.directive_lines ++ line ∷ []
 
-    kept : DraftParts
-    kept = record old { directive_lines = lines }
+        kept : DraftParts
+        kept = record old { directive_lines = lines }
 
-    cut_is : (more : List (List ℕ)) → cut is_last_line (old.directive_lines ++ line ∷ more) ≡ Parted old.directive_lines line more
-    cut_is more = cut-parted is_last_line old.directive_lines line more fits.0 (ap not last)
+        cut_is : (more : List (List ℕ)) → cut is_last_line (old.directive_lines ++ line ∷ more) ≡ Parted old.directive_lines line more
+        cut_is more = cut-parted is_last_line old.directive_lines line more fits.0 (ap not last)
 
-    at : (blank : Bool) → is_blank (joined lines) ≡ blank → (command : Option CommandText) → command_of (joined lines) ≡ command →
-        AddsIn DirectiveLines old (draft_after_directive_lines kept (joined lines)).state (draft_after_directive_lines kept (joined lines)).parts line
-    at true is command parses = rw is (record { fits = fits.1; first_item = λ more. sym (rw (cut_is more, is) refl) })
-    at false is None parses = rw (is, parses) (record { fits = tt; first_item = λ more. sym (rw (cut_is more, is, parses) refl) })
-    at false is (Some command) parses = rw (is, parses) (record {
-      fits = (ap (list_any is_separator) fits.1, fits.2);
-      first_item = λ more. ap (λ input. body command lines (cut is_separator (input ++ more))) fits.1 ∙ sym (rw (cut_is more, is, parses) refl);
-    })
+        at : (blank : Bool) → is_blank (joined lines) ≡ blank → (command : Option CommandText) → command_of (joined lines) ≡ command →
+            AddsIn DirectiveLines old (draft_after_directive_lines kept (joined lines)).state (draft_after_directive_lines kept (joined lines)).parts line
+        at true is command parses = rw is (record { fits = fits.1; first_item = λ more. sym (rw (cut_is more, is) refl) })
+        at false is None parses = rw (is, parses) (record { fits = tt; first_item = λ more. sym (rw (cut_is more, is, parses) refl) })
+        at false is (Some command) parses = rw (is, parses) (record {
+          fits = (ap (list_any is_separator) fits.1, fits.2);
+          first_item = λ more. ap (λ input. body command lines (cut is_separator (input ++ more))) fits.1 ∙ sym (rw (cut_is more, is, parses) refl);
+        })
 
   pub adds-separator : FitsIn Input old → is_separator line ≡ true → AddsIn Input old Separator old line
   adds-separator fits is = record { fits = fits.1; first_item = λ more. sym (ap (body old.command old.directive_lines) (cut-parted is_separator old.input line more fits.0 is)) }

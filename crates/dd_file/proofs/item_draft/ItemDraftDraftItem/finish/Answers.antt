@@ -14,5 +14,7 @@ is-drafted state parts is = grind arith
 pub returns-in-Input : goal.returns-in-Input
 returns-in-Input c =
     let parts = c.parts.inside in
-    rw (ap (λ (draft : DraftText). result_in draft.state draft.parts) (sym c.self.view_is) ∙ is-drafted c.self.inside.state c.self.inside.parts c.in-Input.is ∙ ap (λ parts. Some (Ok (drafted parts))) (sym c.parts.view_is),
-    take-append-drop parts.directive_line_count parts.raw_lines) (search rules)
+    rw (
+      ap (λ (draft : DraftText). result_in draft.state draft.parts) (sym c.self.view_is) ∙ is-drafted c.self.inside.state c.self.inside.parts c.in-Input.is ∙ ap (λ parts. Some (Ok (drafted parts))) (sym c.parts.view_is),
+      take-append-drop parts.directive_line_count parts.raw_lines,
+    ) (search rules)

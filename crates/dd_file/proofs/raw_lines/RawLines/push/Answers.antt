@@ -11,7 +11,7 @@ more c =
     let old = c.self.inside.text.items in
     let text : c.append-2.new.bytes.items ≡ (old ++ c.args.line.now) ++ newline = c.append-2.ensures.items ∙ ap (λ t. t ++ newline) (c.append.ensures.items ∙ ap (λ t. t ++ c.args.line.now) c.make_room.ensures.items) in
     let end : c.len.result + length c.args.line.now ≡ length old + length c.args.line.now = omega (arith, c.len.ensures, c.make_room.new.bytes.ok.0, ap length c.make_room.ensures.items) in
-    lie-push old c.self.inside.ends.items _ _ c.args.self.now c.args.line.now _ (lie-fields _ _ _ c.self.invariant c.self.view_is) text c.in_ok-push.ensures.ok end
+    lie-push old c.self.inside.ends.items _ _ c.args.self.now c.args.line.now _ (lie-fields _ _ _ c.self.invariant c.self.view_is) text c.in_ok-push.ensures.items end
 
 pub invariant_of-self-2 : goal.invariant_of-self-2
 invariant_of-self-2 c = fill-text _ _ _ (more c)
