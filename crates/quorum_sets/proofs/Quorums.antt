@@ -1,7 +1,6 @@
 -- Majorities: what they have reached, what they vote, and that they meet.
 
 pub mod Counts
-pub mod MajorityPosition
 pub mod CommittedIndex
 pub mod SortedRows
 pub mod ChartBars

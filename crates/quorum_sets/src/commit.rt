@@ -1,20 +1,20 @@
 //! The committed index: how far a majority has acknowledged the log.
 //!
 //! A server that has acknowledged an index has every entry up to it. So of the n acknowledged indexes, sorted, the
-//! committed one is the (n/2 + 1)-th from the top, since a majority has acknowledged it or a greater one.
+//! committed one is the (n/2 + 1)-th from the top, since a majority has acknowledged it or a greater one. It is found
+//! without sorting.
 //!
 //! ```text
 //! id       1 2 3 4 5
 //! index    9 4 7 4 6
 //! sorted   4 4 6 7 9    6 is committed, since 5, 3 and 1 have it
 //! ```
-ghost use Rattle.std.specs.Prelude.{◌≡◌, ◌*◌, ◌<◌, ◌≤◌, length, nat_le, nat_lt, count_by, [], IfOk, IsOk, OnOk};
+ghost use Rattle.std.specs.Prelude.{◌≡◌, ◌*◌, ◌<◌, ◌≤◌, length, nat_le, nat_lt, count_by, [], None, IfOk, IfSome, IsOk, OnOk};
 ghost use Rattle.quorum_sets.specs.Ids.{size};
 ghost use Rattle.quorum_sets.specs.Voters.{most, pair};
 ghost use Rattle.quorum_sets.specs.Committed.{acked_indexes, greatest_index, IsCommitted, IsJointCommitted, committed_index, joint_committed_index, committed_of, joint_committed_of};
 
 use crate::acknowledgement::AckSource;
-use crate::majority::quorum;
 use crate::member_set::MemberSet;
 use ascii_text::NoMemory;
 use smallvec::SmallVec;
@@ -34,7 +34,7 @@ pub fn committed<S: MemberSet, A: AckSource>(
 {
     let mut indexes = SmallVec::new(alloc);
     gather(&mut indexes, set, acks)?;
-    Ok(sorted_committed(indexes.as_mut_slice()))
+    Ok(committed_of(indexes.as_slice()))
 }
 
 /// The committed index of a joint configuration: the smaller of the indexes that its two sets have committed, since a
@@ -76,26 +76,12 @@ fn gather<S: MemberSet, A: AckSource>(
     Ok(())
 }
 
-// The committed index of indexes that may be reordered. They are sorted, and the one at position n - (n/2 + 1) of n is it,
-// since n/2 + 1 of them are at least as great.
-fn sorted_committed(indexes: &mut [u64]) -> u64
-    ensures index { result ≡ committed_of indexes.old }
-    ensures of_none { length indexes.old ≡ 0 → result ≡ greatest_index }
-    ensures reached { 0 < length indexes.old → length indexes.old < 2 * count_by (nat_le result) indexes.old }
-    ensures not_passed { 0 < length indexes.old → 2 * count_by (nat_lt result) indexes.old ≤ length indexes.old }
-{
-    indexes.sort_unstable();
-    let n = indexes.len();
-    if n == 0 {
-        u64::MAX
-    } else {
-        indexes[n - quorum(n)]
-    }
-}
+// The most indexes of which each is tried. Of more, what is tried is the middle of the numbers that are left.
+const FEW: usize = 64;
 
-/// The committed index of voters, from the index that each of them has acknowledged, 0 if it is unknown. Nothing is
-/// looked up, allocated or reordered: each index is compared with all (`MajorityConfig.CommittedIndex` of etcd's package
-/// `quorum`). It is the greatest `u64` if there are no voters.
+/// The committed index of voters, from the index that each of them has acknowledged, 0 if it is unknown
+/// (`MajorityConfig.CommittedIndex` of etcd's package `quorum`). It is the greatest `u64` if there are no voters. Nothing
+/// is looked up, allocated or reordered: a number is tried by counting the indexes that reach it, and at most 64 are.
 pub fn committed_of(indexes: &[u64]) -> u64
     ensures index { result ≡ committed_of indexes.now }
     ensures of_none { length indexes.now ≡ 0 → result ≡ greatest_index }
@@ -105,13 +91,33 @@ pub fn committed_of(indexes: &[u64]) -> u64
     if indexes.is_empty() {
         return u64::MAX;
     }
-    let mut committed = 0;
-    for index in indexes {
-        if most_reach(indexes, *index) {
-            committed = committed.max(*index);
+    let (mut least, mut greatest) = (0, u64::MAX);
+    'tries: while let Some(index) = index_between(indexes, least, greatest) {
+        let tried = if indexes.len() > FEW {
+            greatest - (greatest - least) / 2
+        } else {
+            index
+        };
+        if most_reach(indexes, tried) {
+            least = tried;
+        } else {
+            greatest = tried - 1;
         }
     }
-    committed
+    least
+}
+
+// The first index above `least` and not above `greatest`, if there is one.
+fn index_between(indexes: &[u64], least: u64, greatest: u64) -> Option<u64>
+    ensures some { IfSome result (λ index. (least < index) × (index ≤ greatest)) }
+    ensures none { result ≡ None → count_by (nat_lt least) indexes.now ≤ count_by (nat_lt greatest) indexes.now }
+{
+    for index in indexes {
+        if least < *index && *index <= greatest {
+            return Some(*index);
+        }
+    }
+    None
 }
 
 // Whether more than half of the indexes are at least this one.

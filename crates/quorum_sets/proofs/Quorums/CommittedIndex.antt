@@ -54,14 +54,17 @@ not_above m xs bound = false_from_ne_true _ (λ start.
     let none = count_by-none (nat_lt (m + end)) xs (λ x here. le-ltb _ _ (omega (arith, all.bound x here refl))) in
     absurd (omega (arith, ltb-true _ _ (climb m end xs bound start))))
 
+-- all have reached 0
+pub reached-0 : (xs : List ℕ) → 0 < length xs → length xs < 2 * count_by (nat_le 0) xs
+reached-0 xs some =
+    let none = count_by-none (λ x. not (nat_le 0 x)) xs (λ x here. ap not (le-leb 0 x (omega arith))) in
+    omega (arith, some, none, count_by-both (nat_le 0) xs)
+
 pub IsCommittedOf-committed_of : (xs : List ℕ) → IsCommittedOf xs (committed_of xs)
 IsCommittedOf-committed_of xs = cond_both (nat_eq (length xs) 0) greatest_index (fold max 0 (filter (λ k. most (nat_le k) xs) xs)) (IsCommittedOf xs)
     (λ no_voter. let none = eqb-true (length xs) 0 no_voter in record { of_none = λ _. refl; reached = λ some. absurd (omega arith); not_passed = λ some. absurd (omega arith) })
     (λ some_voter.
-    -- all have reached 0
-    let all = count_by-both (nat_le 0) xs in
-    let none = count_by-none (λ x. not (nat_le 0 x)) xs (λ x here. ap not (le-leb 0 x (omega arith))) in
-    let is = greatest-is (λ k. most (nat_le k) xs) 0 xs (lt-ltb _ _ (omega (arith, eqb-false (length xs) 0 some_voter))) in
+    let is = greatest-is (λ k. most (nat_le k) xs) 0 xs (lt-ltb _ _ (reached-0 xs (omega (arith, eqb-false (length xs) 0 some_voter)))) in
     record {
       of_none = λ none. absurd (eqb-false (length xs) 0 some_voter none);
       reached = λ _. ltb-true _ _ is.passes;

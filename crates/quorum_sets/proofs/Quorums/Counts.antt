@@ -60,7 +60,7 @@ counted_item p (x ∷ xs) some = elim (cases_Bool (p x)) [
 ]
 
 -- ---- by position
-count_by-zero : {X : Type 0} (p : X → Bool) (xs : List X) → All (λ x. p x ≡ false) xs → count_by p xs ≡ 0
+pub count_by-zero : {X : Type 0} (p : X → Bool) (xs : List X) → All (λ x. p x ≡ false) xs → count_by p xs ≡ 0
 count_by-zero p xs none = let few = sum_by-le (λ x. cond (p x) 1 0) 0 xs (λ k d within. (let fails = none k d within in grind arith)) in omega arith
 
 -- no item from i on passes

@@ -7,4 +7,4 @@ pub returns-clause-index : goal.returns-clause-index
 returns-clause-index g c =
     let ids = g.S.MemberSet.ids c.args.set.now in
     let acks = g.A.AckSource.acks c.args.acks.now in
-    c.sorted_committed.ensures.index ∙ ap committed_of (c.as_mut_slice.ensures.value ∙ c.in_ok-gather.ensures.items) ∙ sym (committed_index-acked ids acks)
+    c.committed_of.ensures.index ∙ ap committed_of (c.as_slice.ensures ∙ c.in_ok-gather.ensures.items) ∙ sym (committed_index-acked ids acks)

@@ -1,26 +1,24 @@
-use Rattle.std.proofs.Common.{◌≡◌, ◌*◌, ◌<◌, ◌≤◌, List, ℕ, length, nat_le, nat_lt, count_by, cond, fold, max, filter, sym, ap, subst, ◌∙◌, arith}
-use Rattle.std.proofs.lemmas.Bool.{ne_eqb}
-use Rattle.std.proofs.lemmas.List.{take_all}
-use Rattle.quorum_sets.specs.Committed.{committed_of, greatest_index}
-use Rattle.quorum_sets.specs.Voters.{most}
-use Rattle.quorum_sets.proofs.Quorums.CommittedIndex.{IsCommittedOf-committed_of}
+use Rattle.std.proofs.Common.{◌-◌, ◌^◌, refl, rules, arith}
+use Rattle.std.specs.Prelude.{nat_le, nat_lt}
+use Rattle.std.proofs.lemmas.Bool.{le-ltb}
+use Rattle.std.proofs.lemmas.List.{get_or_default}
+use Rattle.std.proofs.lemmas.List.Sums.{count_by-le-length}
+use Rattle.quorum_sets.proofs.Quorums.Counts.{count_by-zero}
+use Rattle.quorum_sets.proofs.Quorums.CommittedIndex.{IsCommittedOf-alone, IsCommittedOf-committed_of, reached-0}
 use Rattle.quorum_sets.proofs.commit.committed_of.Goals as goal
 
--- the greatest index that most have reached is the committed one
-greatest-committed : (indexes : List ℕ) → 0 < length indexes → fold max 0 (filter (λ k. most (nat_le k) indexes) indexes) ≡ committed_of indexes
-greatest-committed indexes some =
-    sym (ap (λ none. cond none greatest_index (fold max 0 (filter (λ k. most (nat_le k) indexes) indexes))) (ne_eqb (length indexes) 0 (λ none. omega arith)))
-
-pub returns-clause-reached : goal.returns-clause-reached
-returns-clause-reached c some =
+pub tries-init : goal.tries-init
+tries-init c =
     let indexes = c.args.indexes.now in
-    let all = ap (λ ks. fold max 0 (filter (λ k. most (nat_le k) indexes) ks)) (take_all _ _ c.loop-index-test.false) in
-    subst (λ k. length indexes < 2 * count_by (nat_le k) indexes) (sym (c.loop-index.invariant ∙ all ∙ greatest-committed indexes some))
-    ((IsCommittedOf-committed_of indexes).reached some)
+    let above = count_by-zero (nat_lt (2 ^ 64 - 1)) indexes (λ k d within. rw (get_or_default indexes k d 0 within) (le-ltb _ _ (omega (arith, c.type_inv.indexes k)))) in
+    record { order = omega arith; reached = reached-0 indexes (search rules); not_passed = omega (arith, above) }
 
-pub returns-clause-not_passed : goal.returns-clause-not_passed
-returns-clause-not_passed c some =
+pub returns-clause-index : goal.returns-clause-index
+returns-clause-index c =
     let indexes = c.args.indexes.now in
-    let all = ap (λ ks. fold max 0 (filter (λ k. most (nat_le k) indexes) ks)) (take_all _ _ c.loop-index-test.false) in
-    subst (λ k. 2 * count_by (nat_lt k) indexes ≤ length indexes) (sym (c.loop-index.invariant ∙ all ∙ greatest-committed indexes some))
-    ((IsCommittedOf-committed_of indexes).not_passed some)
+    let between = c.tries.invariant in
+    IsCommittedOf-alone indexes _ _ (record {
+      of_none = λ none. absurd (omega (arith, none, between.reached, count_by-le-length (nat_le c.tries.least) indexes));
+      reached = λ some. between.reached;
+      not_passed = λ some. omega (arith, between.not_passed, c.in_default.ensures.none refl);
+    }) (IsCommittedOf-committed_of indexes)

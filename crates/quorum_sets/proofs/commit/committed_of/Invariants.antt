@@ -1,6 +1,14 @@
-use Rattle.std.proofs.Common.{◌≡◌, nat_le, take, fold, max, filter}
-use Rattle.quorum_sets.specs.Voters.{most}
+use Rattle.std.proofs.Common.{◌<◌, ◌≤◌, ◌*◌, ◌-◌, length, nat_le, nat_lt, count_by}
 use Rattle.quorum_sets.proofs.commit.committed_of.Given as goal
 
-abbrev pub invariant-loop-index : goal.invariant-loop-index
-invariant-loop-index l = l.committed ≡ fold max 0 (filter (λ k. most (nat_le k) l.indexes) (take l.index-index l.indexes))
+-- the committed index is between the two bounds
+abbrev pub invariant-tries : goal.invariant-tries
+invariant-tries l = record {
+  order : l.least ≤ l.greatest;
+  reached : length l.indexes < 2 * count_by (nat_le l.least) l.indexes;
+  not_passed : 2 * count_by (nat_lt l.greatest) l.indexes ≤ length l.indexes;
+}
+
+-- the numbers that are left
+abbrev pub decreases-tries : goal.decreases-tries
+decreases-tries l = l.greatest - l.least
