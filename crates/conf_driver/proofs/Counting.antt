@@ -103,7 +103,7 @@ no_majority test ids none =
 pub quorum-has_voter : (c : Configuration) (ids : Ids) → is_quorum (voters_of c) ids ≡ true → ((x : ℕ) → has c.incoming x ≡ true → has ids x ≡ false) → ⊥
 quorum-has_voter c ids quorum none = both_ways _ (no_majority (has ids) c.incoming none) (and_parts _ _ quorum).0
 
--- where nobody but those that are down lacks something, a quorum that is not down is up
+-- where only ids that are down lack something, a quorum that is not down is up
 pub quorum-grows : Fits → Commits → FewerTolerateMore → (c : Configuration) (down up : Ids) → is_empty (voter_ids c ∖ down ∖ up) ≡ true → is_quorum (voters_of c) (voter_ids c ∖ down) ≡ true
     → is_quorum (voters_of c) up ≡ true
 quorum-grows fits commits fewer c down up none quorum =

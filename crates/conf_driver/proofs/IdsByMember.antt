@@ -22,11 +22,11 @@ in-without a b q here = let parts = and_parts _ _ (sym (has-without a b q) ∙ h
 pub in-common : (a b : Ids) (q : ℕ) → has (a ∩ b) q ≡ true → (has a q ≡ true) × (has b q ≡ true)
 in-common a b q here = and_parts _ _ (sym (has-common a b q) ∙ here)
 
--- nobody of the first set is not in the second
+-- each id of the first set is in the second
 pub in-second : (a b : Ids) (q : ℕ) → is_empty (a ∖ b) ≡ true → has a q ≡ true → has b q ≡ true
 in-second a b q none here = grind (arith, has-none_in_empty (a ∖ b) none q, here, has-without a b q)
 
--- nobody is in both sets
+-- no id is in both sets
 pub not-in_second : (a b : Ids) (q : ℕ) → is_empty (a ∩ b) ≡ true → has a q ≡ true → has b q ≡ false
 not-in_second a b q none here = grind (arith, has-none_in_empty (a ∩ b) none q, here, has-common a b q)
 
@@ -36,22 +36,22 @@ has-without-is a b q here other = grind (arith, here, other, has-without a b q)
 pub has-common-is : (a b : Ids) (q : ℕ) → has a q ≡ true → has b q ≡ true → has (a ∩ b) q ≡ true
 has-common-is a b q here other = grind (arith, here, other, has-common a b q)
 
--- an id of a set that has nobody besides those that are down or up
+-- an id of a set of which each is down or up
 pub up-unless_down : (ids down up : Ids) (id : ℕ) → is_empty (ids ∖ down ∖ up) ≡ true → has ids id ≡ true → has down id ≡ false → has up id ≡ true
 up-unless_down ids down up id none here not_down = in-second (ids ∖ down) up id none (has-without-is ids down id here not_down)
 
 -- ---- sets without members
-pub is_empty-nobody : (ids : Ids) → ((q : ℕ) → has ids q ≡ false) → is_empty ids ≡ true
-is_empty-nobody ids nobody = ap is_empty (has-same_ids ids no_ids (λ q. nobody q ∙ sym (has-no_ids q))) ∙ is_empty-no_ids
+pub is_empty-from_none : (ids : Ids) → ((q : ℕ) → has ids q ≡ false) → is_empty ids ≡ true
+is_empty-from_none ids none_left = ap is_empty (has-same_ids ids no_ids (λ q. none_left q ∙ sym (has-no_ids q))) ∙ is_empty-no_ids
 
-pub nobody-without : (a b : Ids) → ((q : ℕ) → has a q ≡ true → has b q ≡ true) → is_empty (a ∖ b) ≡ true
-nobody-without a b within = is_empty-nobody (a ∖ b) (λ q. elim (cases_Bool (has a q)) [
+pub without-is_empty : (a b : Ids) → ((q : ℕ) → has a q ≡ true → has b q ≡ true) → is_empty (a ∖ b) ≡ true
+without-is_empty a b within = is_empty-from_none (a ∖ b) (λ q. elim (cases_Bool (has a q)) [
   | inl here ↦ grind (arith, within q here, has-without a b q)
   | inr other ↦ grind (arith, other, has-without a b q)
 ])
 
-pub nobody-common : (a b : Ids) → ((q : ℕ) → has a q ≡ true → has b q ≡ false) → is_empty (a ∩ b) ≡ true
-nobody-common a b apart = is_empty-nobody (a ∩ b) (λ q. elim (cases_Bool (has a q)) [
+pub common-is_empty : (a b : Ids) → ((q : ℕ) → has a q ≡ true → has b q ≡ false) → is_empty (a ∩ b) ≡ true
+common-is_empty a b apart = is_empty-from_none (a ∩ b) (λ q. elim (cases_Bool (has a q)) [
   | inl here ↦ grind (arith, apart q here, has-common a b q)
   | inr other ↦ grind (arith, other, has-common a b q)
 ])

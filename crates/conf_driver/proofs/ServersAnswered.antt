@@ -11,7 +11,7 @@ use Rattle.conf_driver.specs.Rows as row
 use Rattle.conf_driver.specs.declared.action.Action.TheVariants.{Start, Stop}
 use Rattle.conf_driver.specs.declared.situation.Situation.{Situation}
 use Rattle.conf_driver.proofs.FirstRow.{by_rows}
-use Rattle.conf_driver.proofs.IdsByMember.{has-without, is_empty-nobody}
+use Rattle.conf_driver.proofs.IdsByMember.{has-without, is_empty-from_none}
 use Rattle.conf_driver.proofs.RowAnswers.{if_any-some, some-if}
 
 -- ---- starting
@@ -42,7 +42,7 @@ IsStarted-from_answer s steps ids is =
 
 -- once they run, there are no others
 pub none_to_start : (a b : Ids) → is_empty (a ∖ (b ∪ (a ∖ b))) ≡ true
-none_to_start a b = is_empty-nobody _ (λ q. grind (arith, has-without a (b ∪ (a ∖ b)) q, has-union b (a ∖ b) q, has-without a b q))
+none_to_start a b = is_empty-from_none _ (λ q. grind (arith, has-without a (b ∪ (a ∖ b)) q, has-union b (a ∖ b) q, has-without a b q))
 
 -- ---- stopping
 -- who runs and is a member neither now nor at the target
@@ -74,5 +74,5 @@ IsStopped-from_answer s steps ids is =
 
 -- once they do not run, there are no others
 pub none_to_stop : (a b d : Ids) → is_empty (a ∖ (a ∖ b ∖ d) ∖ b ∖ d) ≡ true
-none_to_stop a b d = is_empty-nobody _ (λ q.
+none_to_stop a b d = is_empty-from_none _ (λ q.
     grind (arith, has-without (a ∖ (a ∖ b ∖ d) ∖ b) d q, has-without (a ∖ (a ∖ b ∖ d)) b q, has-without a (a ∖ b ∖ d) q, has-without (a ∖ b) d q, has-without a b q))

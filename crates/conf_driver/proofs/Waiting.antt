@@ -94,7 +94,7 @@ or_else-some a b some_second = elim (cases_Bool (is_empty a)) [
   | inr some ↦ ap is_empty (cond-false (is_empty a) b a some) ∙ some
 ]
 
--- ---- no leadership is moved, so nobody of the ids could lead
+-- ---- no leadership is moved, so none of the ids could lead
 empty-list : (xs : List ℕ) → slice_get xs 0 ≡ None → nat_eq (length xs) 0 ≡ true
 empty-list [] is = grind arith
 empty-list (x ∷ xs) is = absurd (cc)
@@ -104,8 +104,8 @@ none-second None None is = refl
 none-second None (Some y) is = absurd (cc)
 none-second (Some x) b is = absurd (cc)
 
-nobody-to_lead : (s : Situation) (ids : Ids) → transfer_to_one s ids ≡ None → is_empty ids ≡ true
-nobody-to_lead s ids is = empty-list (ascending ids) (none-second (least_of (ids ∩ s.target.incoming)) (least_of ids) is)
+none-to_lead : (s : Situation) (ids : Ids) → transfer_to_one s ids ≡ None → is_empty ids ≡ true
+none-to_lead s ids is = empty-list (ascending ids) (none-second (least_of (ids ∩ s.target.incoming)) (least_of ids) is)
 
 -- ---- who is behind, and who is not heard from
 -- an id that lacks something: a member that is not down, and not up
@@ -173,10 +173,10 @@ names-successor s why ids sets stays is =
     let could = s.voters ∩ s.leaders_after in
     let given = some-unless (has s.leaders_after s.lead) (if_any (could ∖ s.down) (wait_for s)) (Wait why ids) is in
     let row = if_any-some (could ∖ s.down) (wait_for s) (Wait why ids) given.1 in
-    let nobody = nobody-to_lead s (could ∩ s.up) (none-unless (has s.leaders_after s.lead) (transfer_to_one s (could ∩ s.up)) stays given.0) in
+    let none_left = none-to_lead s (could ∩ s.up) (none-unless (has s.leaders_after s.lead) (transfer_to_one s (could ∩ s.up)) stays given.0) in
     names-wait_for s (could ∖ s.down) ids why row.1 row.0 (λ id here.
     let parts = in-without could s.down id here in
-    record { not_down = parts.1; not_up = not-in_second could s.up id nobody parts.0; member = sets.voters id (in-common s.voters s.leaders_after id parts.0).0 })
+    record { not_down = parts.1; not_up = not-in_second could s.up id none_left parts.0; member = sets.voters id (in-common s.voters s.leaders_after id parts.0).0 })
 
 in-needed : (s : Situation) (id : ℕ) → IsOfOneView s → has (needed_at_target s) id ≡ true → has s.members id ≡ true
 in-needed s id sets here = elim (cases_Bool (is_empty (s.running ∖ s.members))) [

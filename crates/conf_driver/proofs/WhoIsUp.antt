@@ -13,7 +13,7 @@ use Rattle.conf_driver.proofs.IdsByMember.{has-common, has-without}
 pub has-having : (view : ViewState) (index : ℕ) (ids : Ids) (id : ℕ) → has (having view index ids) id ≡ (nat_le index (match_of view id) && has ids id)
 has-having view index ids id = has-ids_where (λ x. nat_le index (match_of view x)) (ascending ids) id ∙ ap (λ b. nat_le index (match_of view id) && b) (sym (has-ascending ids id))
 
--- nobody of the ids lacks the index, so each has it
+-- none of the ids lacks the index, so each has it
 pub having-all : (view : ViewState) (index : ℕ) (ids : Ids) (id : ℕ) → is_empty (lacking view index ids) ≡ true → has ids id ≡ true → index ≤ match_of view id
 having-all view index ids id none here =
     let lacks_not = has-none_in_empty (lacking view index ids) none id in

@@ -11,7 +11,7 @@ abbrev pub IsVoterOrLeads : ViewState → ℕ → Type 0 → Type 0
 IsVoterOrLeads view id Holds = ((has view.conf_state.incoming id || has view.conf_state.outgoing id) ≡ true × Holds) ⊎ (id ≡ view.lead)
 
 -- What a wait says of each id that it names. Heard: it is named as down, and is a member that is heard from, or leads.
--- Unheard: it is not heard from. Behind: it is heard from, and lacks what is committed. NoLeader: nobody leads, and it
+-- Unheard: it is not heard from. Behind: it is heard from, and lacks what is committed. NoLeader: there is no leader, and it
 -- votes. Pending: it votes and lacks the change that is pending, or leads. Leaving: it votes and is not up with all that
 -- is committed, or leads, in a joint configuration with auto-leave. But for Heard, none is named as down.
 abbrev pub LacksWhatIsNamed : WaitReason → Ids → ViewState → ℕ → Type 0

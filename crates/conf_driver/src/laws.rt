@@ -73,7 +73,7 @@ pub fn nothing_is_done_twice()
 /// A server is stopped only if it is no member on any path to the target and each voter that is not down knows the
 /// configuration in force. One is started only if it is a member now or of the target, does not run, does not vote, is not
 /// down, and is not added after it was stopped for good.
-pub fn nobody_is_stopped_early()
+pub fn no_server_is_stopped_early()
     ensures stop { (strategy : Strategy) (target : Configuration) (down : Ids) (view : ViewState) (ids : Ids) (id : ℕ)
         → next_of strategy target down view ≡ Stop ids → has ids id ≡ true → MayStop target down view id }
     ensures start { (strategy : Strategy) (target : Configuration) (down : Ids) (view : ViewState) (ids : Ids) (id : ℕ)
@@ -154,10 +154,10 @@ pub fn ways_keep_promises()
     paths_keep_promises();
 }
 
-/// A wait names somebody, and what is said of each id that it names is so: each is a member, or leads. Once an id that
+/// A wait names an id at least. Each id that it names lacks what the reason states, and is a member or leads. Once one that
 /// was not heard from, or had not caught up, is heard from and has, no wait names it, whatever is known of the others.
 pub fn waits_name_who_lacks_what()
-    ensures somebody { (strategy : Strategy) (target : Configuration) (down : Ids) (view : ViewState) (why : WaitReason)
+    ensures not_empty { (strategy : Strategy) (target : Configuration) (down : Ids) (view : ViewState) (why : WaitReason)
         (ids : Ids) → next_of strategy target down view ≡ Wait why ids → is_empty ids ≡ false }
     ensures named { (strategy : Strategy) (target : Configuration) (down : Ids) (view : ViewState) (why : WaitReason)
         (ids : Ids) (id : ℕ) → next_of strategy target down view ≡ Wait why ids → has ids id ≡ true

@@ -28,7 +28,7 @@ use Rattle.conf_driver.specs.declared.action.WaitReason.TheVariants.{Heard}
 use Rattle.conf_driver.specs.declared.situation.Situation.{Situation}
 use Rattle.conf_driver.proofs.Counting.{is_quorum-not_down, quorum-has_voter}
 use Rattle.conf_driver.proofs.FirstRow.{by_rows, kind, kind-wait_for}
-use Rattle.conf_driver.proofs.IdsByMember.{has-common, has-common-is, has-without, has-without-is, in-second, in-without, nobody-common, nobody-without, not-in_second, up-unless_down}
+use Rattle.conf_driver.proofs.IdsByMember.{has-common, has-common-is, has-without, has-without-is, in-second, in-without, common-is_empty, without-is_empty, not-in_second, up-unless_down}
 use Rattle.conf_driver.proofs.Proposed.{zero-from_test}
 use Rattle.conf_driver.proofs.RowAnswers.{when-none, when-some}
 use Rattle.conf_driver.proofs.RowsPassed.{heard-passed, pending-passed, quorum-passed, started-passed, stopped-passed, successor-passed}
@@ -62,22 +62,22 @@ no_step : (steps : List Step) → not (has_step steps) ≡ true → steps ≡ []
 no_step [] is = refl
 no_step (step ∷ steps) is = absurd (both_ways _ (ap not (some_step step steps)) is)
 
-done-nobody : (s : Situation) (ids : Ids) → done_or_wait s ids ≡ Done → is_empty ids ≡ true
-done-nobody s ids is = by_test (is_empty ids) is
+done-none : (s : Situation) (ids : Ids) → done_or_wait s ids ≡ Done → is_empty ids ≡ true
+done-none s ids is = by_test (is_empty ids) is
   where
     by_test : (test : Bool) → (if test then Done else wait_for s ids) ≡ Done → test ≡ true
     by_test true is = refl
     by_test false is = absurd (let same : kind (wait_for s ids) ≡ 6 = ap kind is in omega (arith, same, kind-wait_for s ids))
 
--- there is no step, and nobody that has to have caught up lacks anything
+-- there is no step, and no id that has to have caught up lacks anything
 record IsAtEnd (s : Situation) (steps : List Step) : Type 0 where
   steps_none : steps ≡ []
-  nobody : is_empty (needed_at_target s ∖ s.down ∖ s.up) ≡ true
+  none_left : is_empty (needed_at_target s ∖ s.down ∖ s.up) ≡ true
 
 at_end : (s : Situation) (steps : List Step) → s.has_step ≡ has_step steps → (row.at_target s ≡ Some Done) ⊎ ((row.at_target s ≡ None) × (steps ≡ [])) → IsAtEnd s steps
 at_end s steps same (inl here) =
     let parts = when-some (not s.has_step) (done_or_wait s (needed_at_target s ∖ s.down ∖ s.up)) Done here in
-    record { steps_none = no_step steps (ap not (sym same) ∙ parts.0); nobody = done-nobody s _ parts.1 }
+    record { steps_none = no_step steps (ap not (sym same) ∙ parts.0); none_left = done-none s _ parts.1 }
 at_end s steps same (inr other) =
     let none : has_step steps ≡ false = ap has_step other.1 in
     absurd (both_ways _ (when-none (not s.has_step) _ other.0) (ap not (same ∙ none)))
@@ -95,7 +95,7 @@ leader-votes c id here = elim (cases_Bool c.auto_leave) [
   | inr stays ↦ sym (has-union c.incoming c.outgoing id) ∙ ap (λ s. has s id) (sym (cond-false c.auto_leave c.incoming (voter_ids c) stays)) ∙ here
 ]
 
--- who may lead is not 0, which means that nobody leads
+-- who may lead is not 0, which means that there is no leader
 zero_leads_not : (c : Configuration) (id : ℕ) → ValidByMember c → has (leader_ids c) id ≡ true → nat_eq id 0 ≡ false
 zero_leads_not c zero members here = absurd (both_ways _ (grind (arith, members.zero_incoming, members.zero_outgoing)) (leader-votes c 0 here))
 zero_leads_not c (suc id) members here = grind arith
@@ -124,12 +124,12 @@ union-neither : (a b : Ids) (q : ℕ) → has a q ≡ false → has b q ≡ fals
 union-neither a b q not_first not_second = grind (arith, not_first, not_second, has-union a b q)
 
 -- where each member that is not down is up, each voter knows the configuration
-nobody_lacks : (down : Ids) (view : ViewState) → is_empty (member_ids view.conf_state ∖ down ∖ up_and_caught_up down view) ≡ true
+none_lacks : (down : Ids) (view : ViewState) → is_empty (member_ids view.conf_state ∖ down ∖ up_and_caught_up down view) ≡ true
     → is_empty (lacking view view.conf_index (voter_ids view.conf_state ∖ down)) ≡ true
-nobody_lacks down view all_up =
+none_lacks down view all_up =
     let now = view.conf_state in
     let counted = voter_ids now ∖ down in
-    nobody-without counted (having view view.conf_index counted) (λ q here.
+    without-is_empty counted (having view view.conf_index counted) (λ q here.
     let parts = in-without (voter_ids now) down q here in
     let member : is_member now q ≡ true = or_left _ (has now.learners q) (sym (has-union now.incoming now.outgoing q) ∙ parts.0) in
     let is_up = up-unless_down (member_ids now) down (up_and_caught_up down view) q all_up (has-all_members now q ∙ member) parts.1 in
@@ -149,13 +149,13 @@ learner-from_member c id member votes_not = grind (arith, member, votes_not, has
 -- only members run: if others do, all members have caught up, so these are stopped first
 only-members : (s : Situation) → (is_empty (s.members ∖ s.down ∖ s.up) ≡ true → is_empty s.lack_configuration ≡ true) → row.not_stopped s ≡ None → member_ids s.target ≡ s.members
     → is_empty (needed_at_target s ∖ s.down ∖ s.up) ≡ true → is_empty (s.running ∖ s.members) ≡ true
-only-members s knows not_stopped same nobody = elim (cases_Bool (is_empty (s.running ∖ s.members))) [
+only-members s knows not_stopped same none_left = elim (cases_Bool (is_empty (s.running ∖ s.members))) [
   | inl none ↦ none
   | inr some ↦
       let needed : needed_at_target s ≡ s.members = cond-false (is_empty (s.running ∖ s.members)) (s.before.incoming ∪ s.before.learners) s.members some in
-      let stopped = stopped-passed s not_stopped (knows (ap (λ ids. is_empty (ids ∖ s.down ∖ s.up)) (sym needed) ∙ nobody)) in
+      let stopped = stopped-passed s not_stopped (knows (ap (λ ids. is_empty (ids ∖ s.down ∖ s.up)) (sym needed) ∙ none_left)) in
       let none : is_empty (s.running ∖ s.members ∖ s.members) ≡ true = ap (λ ids. is_empty (s.running ∖ s.members ∖ ids)) (sym same) ∙ stopped in
-      nobody-without s.running s.members (λ q runs. elim (cases_Bool (has s.members q)) [
+      without-is_empty s.running s.members (λ q runs. elim (cases_Bool (has s.members q)) [
         | inl member ↦ member
         | inr other ↦ in-second (s.running ∖ s.members) s.members q none (has-without-is s.running s.members q runs other)
       ])
@@ -180,9 +180,9 @@ done-holds strategy target down view valid run is =
       | inl leads ↦ ap (λ c. has (leader_ids c) view.lead) (sym after) ∙ leads
       | inr leads_not ↦ absurd (leader-not_missing now down quorum (ap (λ c. is_empty (voter_ids now ∩ leader_ids c ∖ down)) (sym after) ∙ successor-passed s rows.successor_lags leads_not))
     ] in
-    let only_members = only-members s (nobody_lacks down view) rows.not_stopped (ap member_ids (sym same)) end.nobody in
+    let only_members = only-members s (none_lacks down view) rows.not_stopped (ap member_ids (sym same)) end.none_left in
     let needed : needed_at_target s ≡ (now.incoming ∪ now.learners) = cond-true (is_empty (view.running ∖ member_ids now)) (now.incoming ∪ now.learners) (member_ids now) only_members in
-    let nobody : is_empty ((now.incoming ∪ now.learners) ∖ down ∖ up) ≡ true = ap (λ ids. is_empty (ids ∖ down ∖ up)) (sym needed) ∙ end.nobody in
+    let none_left : is_empty ((now.incoming ∪ now.learners) ∖ down ∖ up) ≡ true = ap (λ ids. is_empty (ids ∖ down ∖ up)) (sym needed) ∙ end.none_left in
     let started = started-passed s rows.not_started in
     let all = member_ids s.after ∪ member_ids now in
     subst (λ c. IsDone c down view) same (record {
@@ -199,7 +199,7 @@ done-holds strategy target down view valid run is =
             (union-left (heard ∩ member_ids now) (just view.lead) id (has-common-is heard (member_ids now) id is_heard (has-all_members now id ∙ member))))
         | inr not_heard ↦ not_heard
       ];
-      caught_up = λ id here not_down. up-unless_down (now.incoming ∪ now.learners) down up id nobody (has-union now.incoming now.learners id ∙ here) not_down;
+      caught_up = λ id here not_down. up-unless_down (now.incoming ∪ now.learners) down up id none_left (has-union now.incoming now.learners id ∙ here) not_down;
       learners_run = λ id learner not_down.
           let member = union-right (member_ids s.after) (member_ids now) id (has-all_members now id ∙ or_right (has now.incoming id || has now.outgoing id) _ learner) in
           let other = has-without-is all (voter_ids now) id member (learner-votes_not now id members learner) in
@@ -221,8 +221,8 @@ if-both_none false given is = refl
 when-false : (test : Bool) (a : Action) → test ≡ false → when test a ≡ None
 when-false test a fails = if-none test (Some a) fails
 
-if_any-nobody : (ids : Ids) (answer : Ids → Action) → is_empty ids ≡ true → if_any ids answer ≡ None
-if_any-nobody ids answer nobody = unless-none (is_empty ids) (Some (answer ids)) nobody
+if_any-empty : (ids : Ids) (answer : Ids → Action) → is_empty ids ≡ true → if_any ids answer ≡ None
+if_any-empty ids answer none_left = unless-none (is_empty ids) (Some (answer ids)) none_left
 
 both_same : (here : Bool) → (here || here) ≡ true → here ≡ true
 both_same true is = refl
@@ -258,43 +258,43 @@ done-answered down view valid counts is =
     let heard = heard_from view in
     let members = ValidByMember-from_is_valid now valid in
     let none_pending : not (nat_eq view.pending_conf_index 0) ≡ false = ap (λ n. not (nat_eq n 0)) is.not_pending in
-    let only_members : is_empty (view.running ∖ member_ids now) ≡ true = nobody-without view.running (member_ids now) (λ q runs. has-all_members now q ∙ is.others_stopped q runs) in
+    let only_members : is_empty (view.running ∖ member_ids now) ≡ true = without-is_empty view.running (member_ids now) (λ q runs. has-all_members now q ∙ is.others_stopped q runs) in
     let named : is_empty (down ∩ (heard ∩ member_ids now ∪ just view.lead)) ≡ true =
-    nobody-common down (heard ∩ member_ids now ∪ just view.lead) (λ q is_down. union-neither (heard ∩ member_ids now) (just view.lead) q
+    common-is_empty down (heard ∩ member_ids now ∪ just view.lead) (λ q is_down. union-neither (heard ∩ member_ids now) (just view.lead) q
     (elim (cases_Bool (has (heard ∩ member_ids now) q)) [
       | inl here ↦ let parts = and_parts _ _ (sym (has-common heard (member_ids now) q) ∙ here) in absurd (both_ways _ (is.silent q is_down (sym (has-all_members now q) ∙ parts.1)) parts.0)
       | inr other ↦ other
     ])
     (has-just_other view.lead q (λ same. both_ways _ is.leader_up (ap (has down) (sym same) ∙ is_down)))) in
     let reused : is_empty ((member_ids now ∖ member_ids now) ∩ view.retired) ≡ true =
-    nobody-common (member_ids now ∖ member_ids now) view.retired (λ q here. let parts = in-without (member_ids now) (member_ids now) q here in absurd (both_ways _ parts.1 parts.0)) in
+    common-is_empty (member_ids now ∖ member_ids now) view.retired (λ q here. let parts = in-without (member_ids now) (member_ids now) q here in absurd (both_ways _ parts.1 parts.0)) in
     let all = member_ids now ∪ member_ids now in
     let started : is_empty (all ∖ voter_ids now ∖ down ∖ view.running) ≡ true =
-    nobody-without (all ∖ voter_ids now ∖ down) view.running (λ q here.
+    without-is_empty (all ∖ voter_ids now ∖ down) view.running (λ q here.
     let of_down = in-without (all ∖ voter_ids now) down q here in
     let of_voters = in-without all (voter_ids now) q of_down.0 in
     let member : is_member now q ≡ true = sym (has-all_members now q) ∙ both_same (has (member_ids now) q) (sym (has-union (member_ids now) (member_ids now) q) ∙ of_voters.0) in
     is.learners_run q (learner-from_member now q member of_voters.1) of_down.1) in
     let stopped : is_empty (view.running ∖ member_ids now ∖ member_ids now) ≡ true =
-    nobody-without (view.running ∖ member_ids now) (member_ids now) (λ q here.
+    without-is_empty (view.running ∖ member_ids now) (member_ids now) (λ q here.
     let parts = in-without view.running (member_ids now) q here in
     has-all_members now q ∙ is.others_stopped q parts.0) in
-    let nobody : is_empty ((now.incoming ∪ now.learners) ∖ down ∖ up) ≡ true =
-    nobody-without ((now.incoming ∪ now.learners) ∖ down) up (λ q here.
+    let none_left : is_empty ((now.incoming ∪ now.learners) ∖ down ∖ up) ≡ true =
+    without-is_empty ((now.incoming ∪ now.learners) ∖ down) up (λ q here.
     let parts = in-without (now.incoming ∪ now.learners) down q here in
     is.caught_up q (sym (has-union now.incoming now.learners q) ∙ parts.0) parts.1) in
     let needed : needed_at_target s ≡ (now.incoming ∪ now.learners) = cond-true (is_empty (view.running ∖ member_ids now)) (now.incoming ∪ now.learners) (member_ids now) only_members in
     let done : done_or_wait s (needed_at_target s ∖ down ∖ up) ≡ Done =
-    cond-true (is_empty (needed_at_target s ∖ down ∖ up)) Done (wait_for s (needed_at_target s ∖ down ∖ up)) (ap (λ ids. is_empty (ids ∖ down ∖ up)) needed ∙ nobody) in
+    cond-true (is_empty (needed_at_target s ∖ down ∖ up)) Done (wait_for s (needed_at_target s ∖ down ∖ up)) (ap (λ ids. is_empty (ids ∖ down ∖ up)) needed ∙ none_left) in
     let quorum_lost : row.quorum_lost s ≡ None = when-false _ _ (ap not (is_quorum-not_down now down ∙ is.quorum)) in
-    let down_is_heard : row.down_is_heard s ≡ None = if_any-nobody _ (Wait Heard) named in
+    let down_is_heard : row.down_is_heard s ≡ None = if_any-empty _ (Wait Heard) named in
     let no_leader : row.no_leader s ≡ None = when-false _ _ (zero_leads_not now view.lead members is.leader) in
     let outgoing_leads : row.outgoing_leads s ≡ None = if-none _ (transfer_to_one s (now.incoming ∩ up)) (and_left _ _ (and_left _ _ none_pending)) in
     let is_pending : row.is_pending s ≡ None = when-false _ _ none_pending in
     let path_stalls : row.path_stalls s ≡ None = when-false _ _ (stalls-not now down counts) in
-    let id_is_reused : row.id_is_reused s ≡ None = if_any-nobody _ (Stuck Reused) reused in
-    let not_started : row.not_started s ≡ None = if_any-nobody _ Start started in
-    let not_stopped : row.not_stopped s ≡ None = if-both_none (is_empty s.lack_configuration) _ (if_any-nobody _ Stop stopped) in
+    let id_is_reused : row.id_is_reused s ≡ None = if_any-empty _ (Stuck Reused) reused in
+    let not_started : row.not_started s ≡ None = if_any-empty _ Start started in
+    let not_stopped : row.not_stopped s ≡ None = if-both_none (is_empty s.lack_configuration) _ (if_any-empty _ Stop stopped) in
     let is_leaving : row.is_leaving s ≡ None = refl in
     let leader_leaves : row.leader_leaves s ≡ None = unless-none _ (transfer_to_one s (voter_ids now ∩ leader_ids now ∩ up)) is.leader in
     let successor_lags : row.successor_lags s ≡ None = unless-none _ (if_any (voter_ids now ∩ leader_ids now ∖ down) (wait_for s)) is.leader in

@@ -38,7 +38,7 @@ returns-clause-transfer c strategy target down view id is =
       }
     ]
 
--- an id of both sets is down, if nobody else is in both
+-- an id of both sets is down, if no other is in both
 may_lead_not : (voters leaders down : Ids) (id : ℕ) → is_empty (voters ∩ leaders ∖ down) ≡ true → has voters id ≡ true → has down id ≡ false → has leaders id ≡ false
 may_lead_not voters leaders down id none votes not_down =
     grind (arith, has-none_in_empty (voters ∩ leaders ∖ down) none id, votes, not_down, has-without (voters ∩ leaders) down id, has-common voters leaders id)

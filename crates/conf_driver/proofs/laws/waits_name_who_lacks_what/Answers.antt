@@ -110,7 +110,7 @@ kinds counted strategy target down view why ids is =
     let s = situation strategy target down view in
     Kinds-from_row s why ids (one-view counted strategy target down view) (Waits-from_answer s (one_change_each (path_by strategy down view.conf_state target)) why ids is)
 
--- ---- somebody is named
+-- ---- an id is named
 some-named : (s : Situation) (why : WaitReason) (ids : Ids) → Kinds s why ids → is_empty ids ≡ false
 some-named s why ids (OfHeard is some named) = some
 some-named s why ids (OfLeader is counts leads named) =
@@ -251,8 +251,8 @@ named-not_come strategy target down view progress why ids id clear come (OfStep 
 named-not_come strategy target down view progress why ids id clear come (OfStep passed (inr unheard)) here = both_ways _ (unheard.heard_not id here) come.heard
 
 -- ---- the law
-pub returns-clause-somebody : goal.returns-clause-somebody
-returns-clause-somebody c strategy target down view why ids is =
+pub returns-clause-not_empty : goal.returns-clause-not_empty
+returns-clause-not_empty c strategy target down view why ids is =
     let counted : IsCounted = record { fits = c.most_down_by_counting.ensures.fits; commits = c.most_down_by_counting.ensures.commits; fewer = c.fewer_uncounted_tolerate_more.ensures } in
     some-named (situation strategy target down view) why ids (kinds counted strategy target down view why ids is)
 

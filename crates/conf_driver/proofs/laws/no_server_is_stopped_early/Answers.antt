@@ -16,7 +16,7 @@ use Rattle.conf_driver.proofs.IdsByMember.{has-without-is, in-without, not-in_se
 use Rattle.conf_driver.proofs.RowsPassed.{reused-passed}
 use Rattle.conf_driver.proofs.ServersAnswered.{IsStarted-from_answer, IsStopped-from_answer, to_run}
 use Rattle.conf_driver.proofs.WhoIsUp.{having-all}
-use Rattle.conf_driver.proofs.laws.nobody_is_stopped_early.Goals as goal
+use Rattle.conf_driver.proofs.laws.no_server_is_stopped_early.Goals as goal
 
 -- what follows from what is so of each configuration on the way is so of each
 each-weaker : (P Q : Configuration → Type 0) → ((c : Configuration) → P c → Q c) → (now target : Configuration) (steps : List Step) → EachOnTheWay P now steps target → EachOnTheWay Q now steps target
