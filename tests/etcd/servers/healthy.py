@@ -11,8 +11,9 @@ from runs import Gate, Watch, begin, built_program, lines, refuses, run, run_int
 
 def all_healthy_servers():
     """All of three servers are replaced, the leader too. The operator is asked, and starts the new ones. Each takes the place
-    of its own member before the next one joins."""
+    of its own member before the next one joins, in the order of the command, which is not that of the ids."""
     with Cluster(3, ["n4", "n5", "n6"]).running() as cluster:
+        first, second, third = (server.name for server in sorted(cluster.first, key=cluster.id, reverse=True))
         pairs = ",".join(f"{name}={cluster[name].peer}" for name in ("n4", "n5", "n6"))
         refuses(cluster, "without --healthy", "n1 answers, so nothing is changed. Stop it if it failed; a healthy one needs --healthy",
                 "replace", "n1,n2,n3", "--with", pairs, "--yes")
@@ -25,10 +26,12 @@ def all_healthy_servers():
         calls = [line for line in output.splitlines() if line.startswith("etcdctl ")]
         holds(f"each call names endpoints:\n{output}", "--endpoints= " not in output and len(calls) == 10 and "CLIENT_URL_OF_n4" in calls[-1])
         holds(f"a later addition names the servers that joined before:\n{output}", f"n4={cluster['n4'].peer}" in output[output.index("# start n6:"):])
-        watch = Watch(cluster, "n1 n2 n3", "n1 n2 n3 +n4", "n1 n2 n3 n4", "n2 n3 n4", "n2 n3 n4 +n5", "n2 n3 n4 n5", "n3 n4 n5", "n3 n4 n5 +n6",
-                      "n3 n4 n5 n6", "n4 n5 n6")
+        watch = Watch(cluster, *(" ".join([*sorted(voters), *learners]) for voters, *learners in (
+            ((first, second, third),), ((first, second, third), "+n4"), ((first, second, third, "n4"),),
+            ((second, third, "n4"),), ((second, third, "n4"), "+n5"), ((second, third, "n4", "n5"),),
+            ((third, "n4", "n5"),), ((third, "n4", "n5"), "+n6"), ((third, "n4", "n5", "n6"),), (("n4", "n5", "n6"),))))
         with Gate(cluster, before=watch) as gate:
-            it = begin(cluster, "replace", "n1,n2", "n3", "--with", pairs, "--healthy", etcdctl=gate.etcdctl)
+            it = begin(cluster, "replace", f"{first},{second}", third, "--with", pairs, "--healthy", etcdctl=gate.etcdctl)
             it.stdin.write("y\n")
             it.stdin.flush()
             shown = []
