@@ -1,8 +1,10 @@
 //! Test vectors for the public calls of the crates for plans: what a plan is made for, paths by each strategy, how their
-//! steps are applied, and what is printed and read of them. Each allocation is refused in turn and, in `ample`, none is
+//! steps are applied, what is printed and read of them, and what to do next on their way. Each allocation is refused in turn and, in `ample`, none is
 //! (see the crate `core_tests`).
 #![tactic(auto)]
 
+#[cfg(test)]
+mod actions;
 #[cfg(test)]
 mod ample;
 #[cfg(test)]
