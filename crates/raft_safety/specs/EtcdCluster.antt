@@ -20,8 +20,8 @@ pub record Candidacy : Type 0 where
 
 -- the cluster; for each server the part of its committed log that it still knows to be committed after a restart, its
 -- durable commit index; for each leader, by term and server, the log up to which it has applied, whose configuration is
--- the one in force there; each candidacy; and each append that was ever sent. Which servers look at their own log before they
--- campaign stays as it is
+-- the one in force there; each candidacy; and each append that was ever sent. Which servers look at their own log before each
+-- campaign stays as it is; these need not know what is durable of their commit index
 pub record EtcdCluster : Type 0 where
   pub cluster : Cluster
   pub durable : ℕ → Log

@@ -40,8 +40,8 @@ pub data EtcdAction : Type 0 where
   Apply : (term leader : ℕ) → (log : Log) → EtcdAction
   Restart : (server : ℕ) → (known : Log) → EtcdAction
 
--- a server is ready to campaign: if it looks at its own log, no more than one change of voters there is not applied; if it
--- does not, no committed one is not applied
+-- a server is ready to campaign: if it looks at its own log, it has applied all changes of voters there but one; if it does
+-- not, all that it knows to be committed
 abbrev pub IsReady : Configuration → Bool → Server → Log → Type 0
 IsReady first true state applied = IsOneChangeBeyond first state.log applied
 IsReady first false state applied = voter_changes first applied ≡ voter_changes first state.committed

@@ -1,5 +1,6 @@
--- Waiting where memory and disk are apart: members campaign, and leaders propose, by the rules of Waiting.antt; all else is as
--- in DiskRules.antt for servers that look at their own log, which need keep no commit index. These do not look.
+-- Waiting where memory and disk are apart: members campaign, and leaders propose, as in Waiting.antt, but that only members
+-- propose changes of the voters; all else is as in DiskRules.antt for servers that look at their own log, which need keep no
+-- commit index. These do not look. A leader that is not a member may commit.
 use Rattle.std.specs.Prelude.{◌≡◌, ℕ, ◌<◌, ◌≤◌, ◌⊎◌, true, List, [], ◌∷◌}
 use Rattle.conf_change.specs.Configuration.{Configuration}
 use Rattle.raft_safety.specs.Logs.{Entry, Log, IsPrefix}
@@ -10,7 +11,8 @@ use Rattle.raft_safety.specs.DiskRules.{DiskAction, Campaign, Propose, IsAllowed
 use Rattle.raft_safety.specs.DiskRuns.{after_disk_action}
 use Rattle.raft_safety.specs.Waiting.{HasChanges, without}
 
--- a cluster; up to where each server has applied and stored that, so that no crash takes it back; and the members
+-- a cluster; up to where each server has applied and stored that, so that no crash takes it back; and the members, who may
+-- campaign and propose changes of the voters
 pub record WaitingDisks : Type 0 where
   pub cluster : DiskCluster
   pub stored : ℕ → Log
@@ -34,8 +36,8 @@ pub record MayCampaignStored (w : WaitingDisks) (server term : ℕ) : Type 0 whe
   pub stored : IsPrefix (w.stored server) (w.cluster.applied server)
   pub committed : IsPrefix (w.cluster.applied server) (in_memory w.cluster server).committed
 
--- a leader may propose an entry; a change of the voters only while it is a member, and when each member has stored all earlier
--- ones
+-- a leader may propose an entry; a change of the voters only while it is a member that has applied what it has stored, and when
+-- each member has stored all earlier ones
 pub record MayProposeStored (first : Configuration) (w : WaitingDisks) (term leader : ℕ) (entry : Entry) : Type 0 where
   pub leads : Leads w.cluster.disk.cluster term leader
   pub own_term : entry.term ≡ term

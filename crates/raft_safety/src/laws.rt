@@ -54,7 +54,7 @@ pub fn no_leader_without_voters()
 
 /// The same holds of servers that keep the rules as etcd's raft means them (`specs/EtcdRules.antt`): with appends,
 /// heartbeats and restarts, and votes and acknowledgements counted by the configuration that is applied. Any of them may look
-/// at their own log before they campaign, in place of applying and keeping what they know to be committed. A term has one
+/// at their own log before each campaign, in place of applying and keeping what they know to be committed. A term has one
 /// leader, a leader has what was committed in earlier terms, no two servers commit different entries at an index, and
 /// no two that lead or campaign have applied different ones.
 pub fn servers_that_keep_etcds_rules_commit_the_same()
@@ -87,12 +87,12 @@ pub fn servers_that_keep_etcds_rules_commit_the_same()
 {}
 
 /// The same holds where memory and disk are apart (`specs/DiskRules.antt`): a server works in memory, saves the oldest of
-/// what it did as one, and loses the rest in a crash; a leader counts its own server at once. It says a vote or an
-/// acknowledgement only when that is saved, uses a commit index for which its own server was counted only when that has
-/// saved the entries, keeps a commit index on disk with at most one change of the voters after it, and restarts with the
-/// configuration of what it has applied. If it looks at its own log before it campaigns, the commit index on disk may be any.
-/// Then the claims hold of disks and leaders; servers know one log to be committed,
-/// also in memory; and no application is given other entries than another, or than itself before a crash.
+/// what it did as one, and loses the rest in a crash; a leader counts its own server at once. It says a request for votes, a
+/// vote or an acknowledgement only when that is saved, uses a commit index for which its own server was counted only when that
+/// has saved the entries, keeps a commit index on disk with at most one change of the voters after it, and restarts with the
+/// configuration of what it has applied. If it looks at its own log before each campaign, the commit index on disk may be any
+/// older one. Then the claims hold of disks and leaders; servers know one log to be committed, also in memory; and no
+/// application is given other entries than another, or than itself before a crash.
 pub fn servers_that_save_before_they_say_commit_the_same()
     ensures election_safety { (first : Configuration) (looks : ℕ → Bool) (actions : List DiskAction)
         → AreAllowedOnDisk first (new_disk_cluster looks) actions
@@ -146,8 +146,8 @@ pub fn waiting_is_enough()
 {}
 
 /// Waiting is enough where memory and disk are apart, too (`specs/WaitingOnDisk.antt`): members that wait, and look neither at
-/// their log nor at what they know to be committed, keep the rules of servers that look at their own log. So the claims above
-/// hold of them.
+/// their log nor at what they know to be committed, keep the rules of servers that look at their own log, if only members
+/// propose changes of the voters. So the claims above hold of them.
 pub fn members_that_wait_need_not_look()
     ensures { (first : Configuration) (actions : List WaitingDiskAction)
         → AreAllowedWaitingOnDisk first new_waiting_disks actions

@@ -72,17 +72,17 @@
 //! applied all earlier ones, a server campaigns only once it has applied those that it knows to be committed, each append
 //! has the leader's commit index, and where an append changes a log, that index is durable with it.
 //!
-//! Or it looks into its log after all, before it campaigns: if at most one change there is not applied, it may forget what is
+//! Or it looks into its log after all, before each campaign: if at most one change there is not applied, it may forget what is
 //! committed, and need not have applied what it knows of that (`IsReady`).
 //!
 //! The third law takes memory and disk apart (`DiskCluster`, `DiskRules`, `DiskRuns`): a server works in memory, and a
 //! crash loses what is not saved. It says what has to be saved before it is said, sent or applied, and what need not be.
 //!
 //! The fourth has two rules in place of all those on the configuration in force (`Waiting`): a change of the voters is
-//! proposed once every member has stored the ones before, and a server becomes a member, which may campaign, once it has
-//! stored all but the last. Where memory and disk are apart, who waits keeps the rules of servers that look at their log
-//! (`WaitingOnDisk`). Two more tie the library to the rules: what it counts are the
-//! quorums that they speak of, and a `Changer` has the configuration after a log (`Library`).
+//! proposed once every member has stored the ones before, and a server becomes a member, which may campaign and commit, once
+//! it has stored all but the last. Where memory and disk are apart, and only members propose changes of the voters, who waits
+//! keeps the rules of servers that look at their log (`WaitingOnDisk`). Two more tie the library to the rules: what it counts
+//! are the quorums that they speak of, and a `Changer` has the configuration after a log (`Library`).
 #![tactic(auto)]
 
 pub mod laws;

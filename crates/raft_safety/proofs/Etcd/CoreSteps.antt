@@ -1,4 +1,5 @@
--- Each action of etcd's servers is one of Steps.antt: what etcd asks is no less, as far as the invariants hold.
+-- What etcd asks of actions is no less than what Steps.antt asks, as far as the invariants hold, but that a candidate may count by
+-- less than it knew to be committed.
 use Rattle.std.proofs.Common.{◌≡◌, ℕ, ◌+◌, ◌≤◌, ◌<◌, min, [], ◌∷◌, ◌++◌, length, refl, sym, ap, subst, ◌∙◌, inl, inr, arith, length-append}
 use Rattle.std.specs.Prelude.{Bool, nat_lt}
 use Rattle.std.proofs.Math.Nat.{min-eq_left, min-eq_right}
