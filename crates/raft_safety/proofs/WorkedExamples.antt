@@ -1,6 +1,6 @@
 -- Small runs and configurations, worked out by computing. What the rules allow is in AddedVoter and JointChange, with messages
--- in EtcdMessages, where memory and disk are apart in SavedFirst, where servers look before they campaign in LookedFirst, and where
--- changes wait for the members in WaitedFor and WaitedOnDisk.
+-- in EtcdMessages, where memory and disk are apart in SavedFirst, where servers look before they campaign in AppliedSince and
+-- LookedFirst, and where changes wait for the members in WaitedFor and WaitedOnDisk.
 --
 -- A file Without.. shows what a rule is for. It leaves out one field of one guard in Steps.antt: each action of its run is
 -- allowed, but for one, of whose guard all but that field holds; and then a claim of Claims.antt is false. So each of these
@@ -34,6 +34,7 @@ pub mod CountedChanges
 pub mod EtcdMessages
 pub mod JointChange
 pub mod SavedFirst
+pub mod AppliedSince
 pub mod LookedFirst
 pub mod WaitedFor
 pub mod WaitedOnDisk
