@@ -1,7 +1,8 @@
 -- Waiting is enough: rules that ask nothing of the configuration in force. A server may count by an older configuration than
 -- the one after all that it knows to be committed, forget in a restart that changes are committed, and campaign with changes
 -- that it has not applied. In place of that, a change of the voters is proposed only when each member has applied the ones
--- before, and stored that it did. All else is as in Steps.antt. A snapshot is no step here, and what is said is on disk.
+-- before, and stored that it did; and a server becomes a member only when it has stored all but the last. All else is as in
+-- Steps.antt. A snapshot is no step here, and what is said is on disk.
 use Rattle.std.specs.Prelude.{◌≡◌, ℕ, ◌+◌, ◌<◌, ◌≤◌, ◌⊎◌, true, List, [], ◌∷◌, length, nat_eq, if◌then◌else◌}
 use Rattle.quorum_sets.specs.Ids.{Ids, has}
 use Rattle.conf_change.specs.Configuration.{Configuration}
@@ -13,7 +14,8 @@ use Rattle.raft_safety.specs.Steps as core
 
 -- a cluster; what each server knows now to be committed (in the cluster stands what it ever knew); up to where it has
 -- applied and stored that, with the configuration, so that no crash takes it back; and its members, who may campaign and
--- commit. A server that is stopped for good leaves them; one that was removed and goes on does not
+-- commit. A server that is stopped for good leaves them (who has left may do all else here). One that was removed, and may
+-- campaign or commit, has not left
 pub record WaitingCluster : Type 0 where
   pub cluster : Cluster
   pub known : ℕ → Log
