@@ -8,7 +8,7 @@ use serde_json::Value;
 use std::alloc::Global;
 
 /// The value of a text, if it is JSON.
-pub(crate) fn json_in(alloc: Global, text: &[u8]) -> Result<Option<Value>, NoMemory>
+pub fn json_in(alloc: Global, text: &[u8]) -> Result<Option<Value>, NoMemory>
     ensures { IfOk result (λ value. option_map view value ≡ json_in text.now) }
 {
     match Value::from_slice(alloc, text) {

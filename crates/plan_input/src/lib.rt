@@ -40,6 +40,7 @@ mod text_fault;
 mod text_ids;
 
 pub use id_hint::IdHint;
+pub use json_text::json_in;
 pub use member_list::is_member_list;
 pub use reading::{read_current, read_target};
 pub use short_token::ShortToken;

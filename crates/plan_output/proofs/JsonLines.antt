@@ -1,16 +1,18 @@
 -- The JSON lines of a path, step by step.
-use Rattle.std.proofs.Common.{◌≡◌, ℕ, ◌+◌, ◌<◌, Bool, false, List, ◌∷◌, ◌++◌, length, drop, get_or, refl, sym, ap, ◌∙◌, arith, append_assoc}
-use Rattle.std.specs.Prelude.{Option, Some, None, flat_map}
+use Rattle.std.proofs.Common.{◌≡◌, ℕ, ◌+◌, ◌<◌, Bool, false, List, [], ◌∷◌, ◌++◌, length, drop, get_or, refl, sym, ap, ◌∙◌, arith, append_assoc}
+use Rattle.std.specs.Prelude.{Option, Some, None, flat_map, option_map, slice_get, unwrap_or}
 use Rattle.std.proofs.lemmas.List.{drop_more}
 use Rattle.quorum_sets.specs.Ids.{Ids, ascending}
 use Rattle.conf_change.specs.Configuration.{Configuration}
 use Rattle.conf_change.specs.ConfState.{lists_of}
 use Rattle.conf_change.specs.declared.step.Step.{Step}
+use Rattle.conf_plan.specs.OneChangeEach.{one_change_each}
+use Rattle.serde_json.specs.Data.{Data}
 use Rattle.serde_json.specs.Written.{has_float, members_have_float}
 use Rattle.raft_json.specs.Proposal.{proposed_changes, transition_of}
 use Rattle.raft_json.proofs.Offered.{has_float-conf_change_json, has_float-conf_state_json, has_float-ids_json}
-use Rattle.plan_output.specs.Stages.{StageState, first_stage, stage_after, stage_may_be_down, while_catching_up, may_be_down_besides}
-use Rattle.plan_output.specs.Json.{count_json, step_keys, step_json, steps_json, value_line, no_steps_json, each_json}
+use Rattle.plan_output.specs.Stages.{StageState, first_stage, stage_after, stage_may_be_down, while_catching_up, may_be_down_besides, stalls}
+use Rattle.plan_output.specs.Json.{count_json, step_keys, step_json, steps_json, value_line, no_steps_json, each_json, path_json}
 
 -- ---- an object of a step has no float
 has_float-count_json : (count : Option ℕ) → has_float (count_json count) ≡ false
@@ -44,6 +46,34 @@ has_float-no_steps_json None None plan = refl
 has_float-no_steps_json None (Some stalls) plan = refl
 has_float-no_steps_json (Some down) None plan = rw (has_float-ids_json (ascending down)) refl
 has_float-no_steps_json (Some down) (Some stalls) plan = rw (has_float-ids_json (ascending down)) refl
+
+-- ---- the first line
+first_of_each : (down : Option Ids) (flag : Option Bool) (plan : ℕ) (now : Configuration) (each : List Step) (step : Step) → slice_get each 0 ≡ Some step
+    → slice_get (each_json down flag plan now each) 0 ≡ Some (step_json down flag plan (length each) 1 (first_stage now) step (stage_after now step))
+first_of_each down flag plan now [] step is = cc
+first_of_each down flag plan now (first ∷ steps) step is =
+    ap (λ s. Some (step_json down flag plan (length (first ∷ steps)) 1 (first_stage now) s (stage_after now s))) (ap (λ found. unwrap_or found step) is)
+
+none_of_each : (down : Option Ids) (flag : Option Bool) (plan : ℕ) (now : Configuration) (each : List Step) → slice_get each 0 ≡ None → slice_get (each_json down flag plan now each) 0 ≡ Some (no_steps_json down flag plan)
+none_of_each down flag plan now [] is = refl
+none_of_each down flag plan now (first ∷ steps) is = cc
+
+-- of a path with a step
+pub first_line-step : (down : Option Ids) (flag : Option Bool) (plan count : ℕ) (now : Configuration) (path each : List Step) (step : Step) (before after : StageState) (d : Data)
+    → each ≡ one_change_each path → flag ≡ option_map (stalls now path) down → count ≡ length each → slice_get each 0 ≡ Some step → before ≡ first_stage now → after ≡ stage_after before.config step
+    → d ≡ step_json down flag plan count 1 before step after → slice_get (path_json plan now path down) 0 ≡ Some d
+first_line-step down flag plan count now path each step before after d each_is flag_is count_is step_is before_is after_is d_is =
+    first_of_each down (option_map (stalls now path) down) plan now (one_change_each path) step (ap (λ steps. slice_get steps 0) (sym each_is) ∙ step_is)
+    ∙ sym (ap Some (d_is ∙ ap (step_json down flag plan count 1 before step) after_is ∙ ap (λ (stage : StageState). step_json down flag plan count 1 stage step (stage_after stage.config step)) before_is
+    ∙ ap (λ n. step_json down flag plan n 1 (first_stage now) step (stage_after now step)) (count_is ∙ ap length each_is)
+    ∙ ap (λ f. step_json down f plan (length (one_change_each path)) 1 (first_stage now) step (stage_after now step)) flag_is))
+
+-- of a path without a step
+pub first_line-none : (down : Option Ids) (flag : Option Bool) (plan : ℕ) (now : Configuration) (path each : List Step) (d : Data)
+    → each ≡ one_change_each path → flag ≡ option_map (stalls now path) down → slice_get each 0 ≡ None → d ≡ no_steps_json down flag plan → slice_get (path_json plan now path down) 0 ≡ Some d
+first_line-none down flag plan now path each d each_is flag_is none d_is =
+    none_of_each down (option_map (stalls now path) down) plan now (one_change_each path) (ap (λ steps. slice_get steps 0) (sym each_is) ∙ none)
+    ∙ sym (ap Some (d_is ∙ ap (λ f. no_steps_json down f plan) flag_is))
 
 -- ---- the lines of the steps, the first of which has this number and leads from this stage
 abbrev pub lines : Option Ids → Option Bool → ℕ → ℕ → ℕ → StageState → List Step → List ℕ

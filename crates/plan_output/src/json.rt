@@ -16,15 +16,16 @@
 //! entries are applied meanwhile.
 //!
 //! What names no source here is own.
-ghost use Rattle.std.specs.Prelude.{◌≡◌, ◌++◌, false, None, Some, IfOk, OnOk, OnErr, flat_map, option_copied, option_map};
+ghost use Rattle.std.specs.Prelude.{◌≡◌, ◌++◌, false, None, Some, IfOk, OnOk, OnErr, flat_map, option_copied, option_map, slice_get};
 ghost use Rattle.quorum_sets.specs.Ids.{ascending};
 ghost use Rattle.serde_json.specs.View.{view, members_view};
-ghost use Rattle.serde_json.specs.Written.{has_float};
+ghost use Rattle.serde_json.specs.Data.{object};
+ghost use Rattle.serde_json.specs.Written.{has_float, members_have_float};
 ghost use Rattle.raft_json.specs.IdsJson.{ids_json};
 ghost use Rattle.plan_output.specs.Json as spec;
 ghost use Rattle.plan_output.specs.Stages as stage_spec;
 ghost use Rattle.plan_output.specs.Stages.{stalls_with};
-ghost use Rattle.plan_output.specs.Json.{each_json, json_text, value_line, no_plan_json, no_steps_json, step_json};
+ghost use Rattle.plan_output.specs.Json.{each_json, json_text, path_json, value_line, no_plan_json, no_steps_json, step_json};
 
 use crate::stage::{Stage, stalls};
 use ascii_text::append::append;
@@ -94,8 +95,38 @@ pub fn add_no_plan_line(
     add_line(alloc, text, &Value::Object(members))
 }
 
-// Appends a value, written without spaces, and a newline. On `NoMemory` the text is unchanged.
-fn add_line(alloc: Global, text: &mut Vec<u8>, value: &Value) -> Result<(), NoMemory>
+/// The keys of the first line of a path in JSON: that of its first step, or of a path without a step.
+pub fn first_line<S: MemberSet>(
+    alloc: Global,
+    plan: u64,
+    now: &Config<S>,
+    path: &Path,
+    down: Option<&S>,
+) -> Result<Map<String, Value>, NoMemory>
+    ensures line { IfOk result (λ members. slice_get (path_json plan now.now path.now
+        (option_map S.ids (option_copied down.entry))) 0 ≡ Some (object (members_view members.entries))) }
+    ensures no_float { IfOk result (λ members. members_have_float (members_view members.entries) ≡ false) }
+{
+    let stalls = stalls_if_down(alloc, now, path, down)?;
+    let each = path.one_change_each(alloc)?;
+    match each.step(0) {
+        Some(step) => {
+            let number = Number {
+                plan,
+                steps: each.len(),
+                step: 1,
+                stalls,
+            };
+            let before = Stage::first(alloc, now)?;
+            let after = before.next(alloc, step)?;
+            step_members(alloc, number, &before, step, &after, down)
+        }
+        None => no_steps_members(alloc, plan, down, stalls),
+    }
+}
+
+/// Appends a value, written without spaces, and a newline. On `NoMemory` the text is unchanged.
+pub fn add_line(alloc: Global, text: &mut Vec<u8>, value: &Value) -> Result<(), NoMemory>
     requires { has_float (view value.now) ≡ false }
     ensures ok { OnOk result (text.new.items ≡ text.old.items ++ value_line (view value.now)) }
     ensures err { OnErr result (text.new.items ≡ text.old.items) }
@@ -181,6 +212,19 @@ fn no_steps_value<S: MemberSet>(
 ) -> Result<Value, NoMemory>
     ensures { IfOk result (λ v. view v ≡ no_steps_json (option_map S.ids (option_copied down.entry)) stalls plan) }
 {
+    Ok(Value::Object(no_steps_members(alloc, plan, down, stalls)?))
+}
+
+// The keys of a path without a step.
+fn no_steps_members<S: MemberSet>(
+    alloc: Global,
+    plan: u64,
+    down: Option<&S>,
+    stalls: Option<bool>,
+) -> Result<Map<String, Value>, NoMemory>
+    ensures { IfOk result (λ members. object (members_view members.entries)
+        ≡ no_steps_json (option_map S.ids (option_copied down.entry)) stalls plan) }
+{
     let mut members = Map::new(alloc);
     if let Some(down) = down {
         put(&mut members, alloc, "down", set_value(alloc, down)?)?;
@@ -190,7 +234,7 @@ fn no_steps_value<S: MemberSet>(
         put(&mut members, alloc, "stalls", Value::Bool(stalls))?;
     }
     put(&mut members, alloc, "steps", Value::from(0u64))?;
-    Ok(Value::Object(members))
+    Ok(members)
 }
 
 // The object of a step, which leads from the stage before it to the one after.
@@ -203,6 +247,22 @@ fn step_value<S: MemberSet>(
     down: Option<&S>,
 ) -> Result<Value, NoMemory>
     ensures { IfOk result (λ v. view v
+        ≡ step_json (option_map S.ids (option_copied down.entry)) number.stalls number.plan number.steps number.step before.now step.now after.now) }
+{
+    let members = step_members(alloc, number, before, step, after, down)?;
+    Ok(Value::Object(members))
+}
+
+// The keys of a step, which leads from the stage before it to the one after.
+fn step_members<S: MemberSet>(
+    alloc: Global,
+    number: Number,
+    before: &Stage<S>,
+    step: &Step,
+    after: &Stage<S>,
+    down: Option<&S>,
+) -> Result<Map<String, Value>, NoMemory>
+    ensures { IfOk result (λ members. object (members_view members.entries)
         ≡ step_json (option_map S.ids (option_copied down.entry)) number.stalls number.plan number.steps number.step before.now step.now after.now) }
 {
     let mut members = step_keys(alloc, number, before, step, after)?;
@@ -225,7 +285,7 @@ fn step_value<S: MemberSet>(
         "catch_up",
         set_value(alloc, after.catching_up())?,
     )?;
-    Ok(Value::Object(members))
+    Ok(members)
 }
 
 // The ids of a set, in ascending order.

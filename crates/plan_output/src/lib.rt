@@ -35,7 +35,7 @@ mod stage;
 mod steps;
 mod table;
 
-pub use json::add_no_plan_line;
+pub use json::{add_line, add_no_plan_line, first_line};
 pub use output::{Output, add_path};
 pub use stage::{Stage, stages, stalls};
 pub use steps::stall_note;

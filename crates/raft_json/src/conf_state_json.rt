@@ -96,8 +96,8 @@ fn is_key(key: &str) -> bool
         || key == "auto_leave"
 }
 
-// Reads a boolean, false if it is missing or null.
-pub(crate) fn flag_in(value: Option<&Value>) -> Option<bool>
+/// Reads the boolean at a key, false if the key is missing or null.
+pub fn flag_in(value: Option<&Value>) -> Option<bool>
     ensures { result ≡ spec.boolean_in (option_map (λ v. view v.now) value.entry) }
 {
     match value {

@@ -9,7 +9,7 @@ use serde_json::Value;
 use std::alloc::Global;
 
 /// Reads the ids at a key; the list is empty if the key is missing or null.
-pub(crate) fn ids_in(alloc: Global, value: Option<&Value>) -> Result<Vec<u64>, JsonFault>
+pub fn ids_in(alloc: Global, value: Option<&Value>) -> Result<Vec<u64>, JsonFault>
     ensures ok { IfOk result (λ ids. spec.ids_in (option_map (λ v. view v.now) value.entry) ≡ Some ids.items) }
     ensures bad { result ≡ Err JsonFault.BadJson → spec.ids_in (option_map (λ v. view v.now) value.entry) ≡ None }
 {

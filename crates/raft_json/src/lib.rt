@@ -47,7 +47,7 @@ pub mod proposal;
 pub mod saved_json;
 
 pub use conf_change_json::conf_change_value;
-pub use conf_state_json::{JsonFault, conf_state_value};
-pub use ids_json::ids_value;
+pub use conf_state_json::{JsonFault, conf_state_value, flag_in};
+pub use ids_json::{ids_in, ids_value};
 pub use proposal::{proposed_update, transition_of};
-pub use saved_json::read_saved_json;
+pub use saved_json::{read_saved_json, saved_of};

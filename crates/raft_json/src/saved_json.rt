@@ -36,8 +36,8 @@ fn parsed(alloc: Global, text: &[u8]) -> Result<Value, JsonFault>
     }
 }
 
-// The saved configuration that a value denotes, in the form that it has.
-fn saved_of(alloc: Global, value: &Value) -> Result<ConfState, JsonFault>
+/// The saved configuration that a value denotes, in the form that it has, as [`read_saved_json`] reads it in a text.
+pub fn saved_of(alloc: Global, value: &Value) -> Result<ConfState, JsonFault>
     ensures ok { IfOk result (λ state. saved_of_json (view value.now) ≡ Some state) }
     ensures bad { result ≡ Err JsonFault.BadJson → saved_of_json (view value.now) ≡ None }
 {

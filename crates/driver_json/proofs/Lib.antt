@@ -1,0 +1,5 @@
+mod Actions
+mod Lines
+mod MemberItems
+mod NoFloats
+mod Questions

@@ -1,0 +1,21 @@
+use Rattle.std.proofs.Common.{◌≡◌, true, sym, ap, ◌∙◌}
+use Rattle.std.specs.Prelude.{Ok}
+use Rattle.std.proofs.lemmas.Bool.{true_from_ne_false}
+use Rattle.conf_change.specs.Configuration.{has_voter}
+use Rattle.conf_driver.specs.Next.{next_of}
+use Rattle.conf_plan.specs.PathBy.{has_path}
+use Rattle.conf_plan.specs.declared.strategy.Strategy.TheVariants.{Shortest}
+use Rattle.driver_json.specs.Answer.{unless_refused}
+use Rattle.driver_json.proofs.Actions.{no_path_by-none}
+use Rattle.driver_json.proofs.answer.action_for.Goals as goal
+
+pub returns-in-Ok-clause-action : goal.returns-in-Ok-clause-action
+returns-in-Ok-clause-action c =
+    let q = c.args.question.now in
+    let now = q.view.conf_state in
+    let made = c.in-Ok.is in
+    let other : ¬ (q.strategy ≡ Shortest) = λ e. let refused = c.next.ensures.shortest.1 e in cc in
+    let voter : has_voter now ≡ true = true_from_ne_false _ (λ e. let refused = c.next.ensures.no_voter_now.1 (other, e) in cc) in
+    let voter_target : has_voter q.target ≡ true = true_from_ne_false _ (λ e. let refused = c.next.ensures.no_voter_target.1 (other, voter, e) in cc) in
+    let path : has_path q.strategy now q.target ≡ true = true_from_ne_false _ (λ e. let refused = c.next.ensures.joint_target.1 (other, voter, voter_target, e) in cc) in
+    ap (λ why. unless_refused why (next_of q.strategy q.target q.down q.view)) (no_path_by-none q.strategy now q.target other voter voter_target path) ∙ ap Ok (sym c.in-Ok.ensures.answer)

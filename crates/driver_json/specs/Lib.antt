@@ -1,0 +1,4 @@
+pub mod Texts
+pub mod Values
+pub mod Question
+pub mod Answer

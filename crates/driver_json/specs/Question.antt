@@ -1,0 +1,58 @@
+-- What a line asks: what to do next on the way to a target, by a strategy, in a view of a cluster.
+use Rattle.std.specs.Prelude.{ℕ, List, codes, Option, Some, None, Result, Ok, Err}
+use Rattle.conf_driver.specs.View.{ViewState}
+use Rattle.serde_json.specs.Data.{Data, null, boolean, number, string, array, object}
+use Rattle.serde_json.specs.Find.{get}
+use Rattle.plan_input.specs.JsonText.{json_in}
+use Rattle.driver_json.specs.Values.{given, number_at, ids_at, strategy_at, configuration_at, progress_in}
+use Rattle.driver_json.specs.declared.line_fault.LineFault.{LineFault}
+use Rattle.driver_json.specs.declared.line_fault.LineFault.TheVariants.{NotAnObject}
+use Rattle.driver_json.specs.declared.place.Key.TheVariants as key
+use Rattle.driver_json.specs.declared.question.Question.{Question}
+
+-- the view that an object has, or what is wrong with the first of its keys that is wrong
+abbrev pub view_in : Data → Result ViewState LineFault
+view_in line =
+    given (configuration_at key.ConfState line) (λ conf_state.
+    given (number_at key.ConfIndex line) (λ conf_index.
+    given (number_at key.Lead line) (λ lead.
+    given (number_at key.Commit line) (λ commit.
+    given (number_at key.PendingConfIndex line) (λ pending_conf_index.
+    given (progress_in (get (codes "progress") line)) (λ progress.
+    given (ids_at key.Running line) (λ running.
+    given (ids_at key.Retired line) (λ retired.
+    given (number_at key.MaxLag line) (λ max_lag.
+    Ok (record {
+      conf_state = conf_state;
+      conf_index = conf_index;
+      lead = lead;
+      commit = commit;
+      pending_conf_index = pending_conf_index;
+      progress = progress;
+      running = running;
+      retired = retired;
+      max_lag = max_lag;
+    }))))))))))
+
+-- the question that an object asks; its other keys are ignored
+abbrev pub question_in : Data → Result Question LineFault
+question_in line =
+    given (view_in line) (λ view.
+    given (configuration_at key.Target line) (λ target.
+    given (strategy_at line) (λ strategy.
+    given (ids_at key.Down line) (λ down.
+    Ok (record { view = view; target = target; strategy = strategy; down = down })))))
+
+-- the question that a value asks
+abbrev pub question_of : Option Data → Result Question LineFault
+question_of (Some (object members)) = question_in (object members)
+question_of (Some null) = Err NotAnObject
+question_of (Some (boolean b)) = Err NotAnObject
+question_of (Some (number n)) = Err NotAnObject
+question_of (Some (string s)) = Err NotAnObject
+question_of (Some (array ds)) = Err NotAnObject
+question_of None = Err NotAnObject
+
+-- the question that a line asks
+abbrev pub asked_in : List ℕ → Result Question LineFault
+asked_in line = question_of (json_in line)
