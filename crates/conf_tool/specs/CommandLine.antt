@@ -18,7 +18,7 @@ use Rattle.conf_tool.specs.declared.argument_fault.ArgumentFault.TheVariants.{Cl
 use Rattle.conf_tool.specs.declared.invocation.Invocation.{Invocation}
 use Rattle.conf_tool.specs.declared.mode.Mode.{Mode}
 use Rattle.conf_tool.specs.declared.pair_arguments.PairArguments.{PairArguments}
-use Rattle.conf_tool.specs.declared.mode.Mode.TheVariants.{Lines, Check, Rewrite, Undo, Plan}
+use Rattle.conf_tool.specs.declared.mode.Mode.TheVariants.{Lines, Check, Rewrite, Undo, Plan, Next}
 use Rattle.conf_tool.specs.declared.plan_options.PlanOutput.{PlanOutput}
 use Rattle.conf_tool.specs.declared.plan_options.PlanOutput.TheVariants.{Script, Text as TextOutput}
 
@@ -29,7 +29,8 @@ mode_named name =
     else (if bytes_eq name (codes "rewrite") then Rewrite
     else (if bytes_eq name (codes "undo") then Undo
     else (if bytes_eq name (codes "plan") then Plan
-    else Lines)))
+    else (if bytes_eq name (codes "next") then Next
+    else Lines))))
 
 -- the mode that a parsed subcommand names; `lines` if there is none
 abbrev pub selected_mode : Option (Text × List Row) → Mode

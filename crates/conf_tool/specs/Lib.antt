@@ -8,6 +8,7 @@ pub mod UndoScript
 pub mod PlanScript
 pub mod Pairs
 pub mod PlanAnswer
+pub mod NextReply
 pub mod Outputs
 pub mod Answered
 pub mod AnsweredLaws

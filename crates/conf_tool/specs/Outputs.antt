@@ -1,5 +1,5 @@
 -- The output of each mode, as a function of its whole input and its options.
-use Rattle.std.specs.Prelude.{ℕ, ◌+◌, Bool, true, false, List, [], ◌∷◌, ◌++◌, flat_map, nat_lt, Option, Some, None, Result, Ok, Err, if◌then◌else◌}
+use Rattle.std.specs.Prelude.{ℕ, ◌+◌, Bool, true, false, ◌||◌, List, [], ◌∷◌, ◌++◌, flat_map, nat_lt, Option, Some, None, Result, Ok, Err, if◌then◌else◌}
 use Rattle.ascii_text.specs.Lines.{newline}
 use Rattle.std.specs.List.{list_any}
 use Rattle.dd_file.specs.Grammar.{Script, script_of, listing_of}
@@ -8,6 +8,7 @@ use Rattle.dd_file.specs.declared.item.Item.{Item}
 use Rattle.dd_file.specs.declared.fault.FileFault.{FileFault}
 use Rattle.conf_change.specs.Configuration.{Configuration, empty_configuration}
 use Rattle.conf_tool.specs.LineReply.{line_replies}
+use Rattle.conf_tool.specs.NextReply.{is_refused, next_reply}
 use Rattle.conf_change.specs.declared.floor.Floor.{Floor}
 use Rattle.conf_change.specs.declared.step.Step.{Step}
 use Rattle.conf_session.specs.SessionState.{SessionState, new_session}
@@ -16,7 +17,7 @@ use Rattle.conf_session.specs.Undo.{undo_plan_of}
 use Rattle.plan_output.specs.declared.output.Output.TheVariants.{Steps, Table, Json}
 use Rattle.conf_tool.specs.UndoScript.{undo_items}
 use Rattle.conf_tool.specs.declared.mode.Mode.{Mode}
-use Rattle.conf_tool.specs.declared.mode.Mode.TheVariants.{Lines, Check, Rewrite, Undo, Plan}
+use Rattle.conf_tool.specs.declared.mode.Mode.TheVariants.{Lines, Check, Rewrite, Undo, Plan, Next}
 use Rattle.conf_tool.specs.declared.options.Options.{Options}
 use Rattle.conf_tool.specs.declared.plan_options.PlanOptions.{PlanOptions}
 use Rattle.conf_tool.specs.declared.plan_options.PlanOutput.{PlanOutput}
@@ -43,6 +44,11 @@ pub record Output : Type 0 where
 abbrev pub clean_unless : Option FileFault → Result Status ToolFault
 clean_unless None = Ok Clean
 clean_unless (Some fault) = Err (ScriptFault fault)
+
+-- the outcome of `next`: different if a line was refused, unless its input has an error
+abbrev pub next_outcome : Bool → Option FileFault → Result Status ToolFault
+next_outcome refused None = Ok (if refused then Different else Clean)
+next_outcome refused (Some fault) = Err (ScriptFault fault)
 
 -- the output of `lines` from a configuration on: the replies to the lines, up to an error
 abbrev pub lines_output_from : Configuration → Script (List ℕ) → Output
@@ -169,6 +175,17 @@ planned_output options input = planned_script options (listing_of input)
 unfoldable pub planned_texts : PlanOptions → List ℕ → List ℕ → Output
 planned_texts options from to = pair_then options default_session 1 (pair_of_texts options from to) (ends (Ok Clean))
 
+-- the output of `next` for lines, by whether a line before them was refused
+abbrev pub next_output_from : Bool → Script (List ℕ) → Output
+next_output_from refused listing = record {
+  text = flat_map next_reply listing.items;
+  outcome = next_outcome (refused || list_any is_refused listing.items) listing.fault;
+}
+
+-- the output of `next`: an answer to each line
+abbrev pub next_output : List ℕ → Output
+next_output input = next_output_from false (listing_of input)
+
 -- the output of a mode, by its options
 abbrev pub output_of : Mode → Options → List ℕ → Output
 output_of Lines options input = lines_output input
@@ -176,3 +193,4 @@ output_of Check options input = checked input options.history options.floor
 output_of Rewrite options input = rewritten input options.history options.floor
 output_of Undo options input = undone_output input options.history options.floor options.steps
 output_of Plan options input = planned_output options.plan input
+output_of Next options input = next_output input

@@ -5,7 +5,7 @@ use Rattle.clap.specs.Words.{App, Rule, Shape, Text, new_app, new_rule}
 use Rattle.clap.specs.declared.builder.value_parser.ValueParser.{ValueParser}
 use Rattle.clap.specs.declared.builder.value_parser.ValueParser.TheVariants.{Unsigned, Names}
 use Rattle.conf_tool.specs.declared.mode.Mode.{Mode}
-use Rattle.conf_tool.specs.declared.mode.Mode.TheVariants.{Lines, Check, Rewrite, Undo, Plan}
+use Rattle.conf_tool.specs.declared.mode.Mode.TheVariants.{Lines, Check, Rewrite, Undo, Plan, Next}
 use Rattle.conf_tool.specs.declared.program.OptionNames.{OptionNames}
 use Rattle.conf_tool.specs.declared.program.ModeOption.{ModeOption}
 
@@ -49,10 +49,11 @@ mode_command names Check = command_with (codes "check") (script_options names)
 mode_command names Rewrite = command_with (codes "rewrite") (script_options names)
 mode_command names Undo = command_with (codes "undo") (undo_options names)
 mode_command names Plan = command_with (codes "plan") (plan_options names)
+mode_command names Next = command_with (codes "next") []
 
 -- the modes, in the order in which the help lists them
 abbrev pub modes : List Mode
-modes = Plan ∷ Lines ∷ Check ∷ Rewrite ∷ Undo ∷ []
+modes = Plan ∷ Next ∷ Lines ∷ Check ∷ Rewrite ∷ Undo ∷ []
 
 -- the program without its modes, where a mode has to be named, and its version can be asked for
 abbrev pub without_modes : App

@@ -9,7 +9,7 @@ use Rattle.dd_file.specs.declared.fault.FileFault.{FileFault}
 use Rattle.dd_file.specs.declared.fault.FileFault.TheVariants.{InputTooLong, Syntax, Read as ReadOfScript, NoMemory as NoMemoryForScript}
 use Rattle.conf_tool.specs.Outputs.{Output}
 use Rattle.conf_tool.specs.declared.mode.Mode.{Mode}
-use Rattle.conf_tool.specs.declared.mode.Mode.TheVariants.{Lines, Check, Rewrite, Undo, Plan}
+use Rattle.conf_tool.specs.declared.mode.Mode.TheVariants.{Lines, Check, Rewrite, Undo, Plan, Next}
 use Rattle.conf_tool.specs.declared.status.Status.{Status}
 use Rattle.conf_tool.specs.declared.status.Status.TheVariants.{Clean, Different}
 use Rattle.conf_tool.specs.declared.tool_fault.ToolFault.{ToolFault}
@@ -63,21 +63,23 @@ IsInputTooLong (InputTooLong line) = ⊤
 IsInputTooLong ReadOfScript = ⊥
 IsInputTooLong NoMemoryForScript = ⊥
 
--- the errors in an input that a mode reports: `lines` and `plan` read lines, which have no syntax error
+-- the errors in an input that a mode reports: `lines`, `plan` and `next` read lines, which have no syntax error
 abbrev pub CanBeFaulty : Mode → FileFault → Type 0
 CanBeFaulty Lines fault = IsInputTooLong fault
 CanBeFaulty Check fault = IsScriptFault fault
 CanBeFaulty Rewrite fault = IsScriptFault fault
 CanBeFaulty Undo fault = IsScriptFault fault
 CanBeFaulty Plan fault = IsInputTooLong fault
+CanBeFaulty Next fault = IsInputTooLong fault
 
--- whether a mode reads configurations: only `plan` does
+-- whether an error in a configuration ends a mode: only `plan`; `next` answers it
 abbrev pub ReadsConfigurations : Mode → Type 0
 ReadsConfigurations Lines = ⊥
 ReadsConfigurations Check = ⊥
 ReadsConfigurations Rewrite = ⊥
 ReadsConfigurations Undo = ⊥
 ReadsConfigurations Plan = ⊤
+ReadsConfigurations Next = ⊥
 
 -- the statuses that a mode has: `lines` and `rewrite` have nothing to compare, and end clean
 abbrev pub CanBe : Mode → Status → Type 0
@@ -87,6 +89,7 @@ CanBe Check Different = ⊤
 CanBe Rewrite Different = ⊥
 CanBe Undo Different = ⊤
 CanBe Plan Different = ⊤
+CanBe Next Different = ⊤
 
 -- the results that a mode has, whatever its reader and writer are
 abbrev pub CanAnswer : Mode → Result Status ToolFault → Type 0

@@ -99,6 +99,7 @@ fn mode_named(name: &str) -> Mode
         "rewrite" => Mode::Rewrite,
         "undo" => Mode::Undo,
         "plan" => Mode::Plan,
+        "next" => Mode::Next,
         _ => Mode::Lines,
     }
 }

@@ -40,7 +40,8 @@ On an etcd cluster, confscript-etcd carries a plan out.
 
 Exit statuses:
   0  done
-  1  check reports a difference, or undo or plan has no plan, or a plan stalls
+  1  check reports a difference, or undo or plan has no plan, or a plan stalls,
+     or next answers a line with an error
   2  the arguments or the input are wrong
   3  a file, a read or a write failed, or memory ran out
 
@@ -239,6 +240,48 @@ and with --strategy one-at-a-time
   simple l5
   simple v5
   simple r1",
+};
+
+/// The mode `next`.
+pub(crate) const NEXT: ModeHelp = ModeHelp {
+    name: "next",
+    about: "Says what to do next on the way to a target",
+    after: "Reads views of a cluster in JSON, one per line, and answers each with one line
+of JSON, before it reads the next: what to do next on the way to a target. Blank
+lines and lines that begin with # are skipped. Nothing is kept between lines: do
+what is answered, and ask again.
+
+Keys of a line, of which the first three have to be there:
+  conf_state     the configuration that the leader has applied, as the JSON of a
+                 ConfState or as etcdctl member list -w json prints it
+  target         the configuration to reach, in the same form
+  strategy       learners-first or one-at-a-time
+  conf_index     who has this index knows that configuration
+  lead           the id of the leader, or 0
+  commit         what is committed
+  pending_conf_index  the index of a change that is not applied, or 0
+  progress       what is known of each member: id, match and recent_active
+  running        ids of the servers that were started
+  retired        ids of the servers that were stopped for good
+  max_lag        how many entries a member that has caught up may lack
+  down           ids of servers that do not come back
+A key that is missing or null is 0, false or empty; other keys are ignored.
+
+Answers:
+  {\"action\":\"start\",\"ids\":[4]}  and stop and transfer in the same form
+  {\"action\":\"propose\",..}       the keys of the first line of plan --output json
+  {\"action\":\"wait\",\"ids\":[4],\"why\":\"behind\"}  or no-leader, pending, heard,
+                              unheard, leaving
+  {\"action\":\"stuck\",\"ids\":[1],\"why\":\"quorum-lost\"}  or stalls, reused
+  {\"action\":\"done\"}
+  {\"error\":\"..\"}              what is wrong with the line, by its key
+The status is 1 if a line was answered with an error.
+
+For the line
+  {\"conf_state\":{\"voters\":[1]},\"lead\":1,\"running\":[1],\"target\":{\"voters\":[1,2]},\"strategy\":\"learners-first\"}
+
+it prints
+  {\"action\":\"start\",\"ids\":[2]}",
 };
 
 /// The option `--history`.

@@ -6,6 +6,7 @@
 //! rewrite   a script                    -> the script with its actual output
 //! undo      a script                    -> a second script that undoes its last changes
 //! plan      pairs of configurations     -> the steps from the first to the second of each
+//! next      views of a cluster in JSON  -> what to do next, for each
 //! ```
 //!
 //! The output of a mode is a function of its input and its options. Each mode is proved to print exactly this output,
@@ -22,6 +23,7 @@ pub mod invocation;
 pub mod laws;
 mod line_reply;
 pub mod mode;
+mod next_reply;
 pub mod options;
 pub mod origin;
 mod pair;

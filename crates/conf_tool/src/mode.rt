@@ -14,4 +14,6 @@ pub enum Mode {
     Undo,
     /// Prints, for each pair of lines, the plan from the configuration of the first to that of the second.
     Plan,
+    /// Answers each line, a view of a cluster with a target, with what to do next.
+    Next,
 }

@@ -4,7 +4,7 @@ ghost use Rattle.clap.specs.Words.{app_of, rule_of};
 ghost use Rattle.conf_tool.specs.Program.{program, without_modes, mode_command, command_with, option_of, script_options, undo_options, plan_options};
 
 use crate::help::{
-    ABOUT, CHECK, DOWN, FROM, HISTORY, LINES, ModeHelp, NEXT_FLOOR, OUTPUT, OptionHelp, PLAN,
+    ABOUT, CHECK, DOWN, FROM, HISTORY, LINES, ModeHelp, NEXT, NEXT_FLOOR, OUTPUT, OptionHelp, PLAN,
     PROGRAM, REWRITE, STEPS, STRATEGY, TO, UNDO,
 };
 use crate::mode::Mode;
@@ -37,6 +37,7 @@ pub(crate) fn program<'a>(alloc: Global, names: OptionNames<'a>) -> Result<Comma
     let mut program = without_modes(alloc);
     for mode in [
         Mode::Plan,
+        Mode::Next,
         Mode::Lines,
         Mode::Check,
         Mode::Rewrite,
@@ -72,6 +73,7 @@ fn mode_command<'a>(
         Mode::Rewrite => command_with(alloc, REWRITE, &script_options(names)),
         Mode::Undo => command_with(alloc, UNDO, &undo_options(names)),
         Mode::Plan => command_with(alloc, PLAN, &plan_options(names)),
+        Mode::Next => command_with(alloc, NEXT, &[]),
     }
 }
 

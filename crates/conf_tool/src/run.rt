@@ -12,6 +12,7 @@ mod clean_unless;
 mod handler;
 mod input;
 mod lines;
+mod next;
 mod plan;
 pub(crate) mod plan_script;
 mod rewrite;
@@ -21,6 +22,7 @@ mod undo;
 use self::check::Checking;
 use self::handler::run_by_part;
 use self::lines::LineByLine;
+use self::next::Deciding;
 use self::plan::{Planning, answer_texts};
 use self::rewrite::Rewriting;
 use self::undo::Undoing;
@@ -85,6 +87,7 @@ pub fn run<R: Source, W: Sink>(
             reader,
             writer,
         ),
+        Mode::Next => run_by_part(Lines::new(alloc)?, Deciding::new(alloc), reader, writer),
     }
 }
 

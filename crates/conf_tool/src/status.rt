@@ -5,6 +5,6 @@
 pub enum Status {
     /// Everything is as expected: exit status 0.
     Clean,
-    /// Something differs, there is no plan, or a plan stalls: exit status 1.
+    /// Something differs, there is no plan, a plan stalls, or a line of `next` is refused: exit status 1.
     Different,
 }

@@ -1,4 +1,4 @@
-//! The parts of an input that a mode replies to one by one: lines for `lines` and `plan`, items of a script for the
+//! The parts of an input that a mode replies to one by one: lines for `lines`, `plan` and `next`, items of a script for the
 //! other modes. A part that is wholly buffered can be returned without a read.
 ghost use Rattle.std.specs.Prelude.{◌≡◌, ℕ, List, Bool};
 ghost use Rattle.dd_file.specs.Position.{Position};

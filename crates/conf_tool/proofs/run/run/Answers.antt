@@ -51,3 +51,9 @@ returns-in_ok-new-in-Undo-2-clause-output g c = rw c.in-Undo.is (c.run_by_part-i
 
 pub returns-in_ok-new-in-Plan-2-clause-output : goal.returns-in_ok-new-in-Plan-2-clause-output
 returns-in_ok-new-in-Plan-2-clause-output g c = rw c.in-Plan.is (c.run_by_part-in-Plan.ensures.output _ c.in_ok-new-in-Plan-2.ensures.unwritten)
+
+pub run_by_part-requires-in-Next-clause-unwritten : goal.run_by_part-requires-in-Next-clause-unwritten
+run_by_part-requires-in-Next-clause-unwritten g c = (_, c.new-in-Next-2.ensures)
+
+pub returns-in_ok-new-in-Next-clause-output : goal.returns-in_ok-new-in-Next-clause-output
+returns-in_ok-new-in-Next-clause-output g c = rw c.in-Next.is (c.run_by_part-in-Next.ensures.output _ c.new-in-Next-2.ensures)
