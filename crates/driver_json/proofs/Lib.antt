@@ -3,3 +3,4 @@ mod Lines
 mod MemberItems
 mod NoFloats
 mod Questions
+mod WorkedExamples
