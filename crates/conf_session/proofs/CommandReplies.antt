@@ -10,11 +10,8 @@ use Rattle.ascii_text.specs.Lines.{newline}
 use Rattle.conf_change.specs.declared.progress.Progress.{Progress}
 use Rattle.conf_session.specs.ReplyTexts.{line, member_line, member_lines, tracker_text}
 use Rattle.conf_session.specs.ReplyLines.{IsValidOutput}
-use Rattle.conf_session.specs.Reply.{Reply, ReplyParts, reply_in}
-
--- a text that is begun with this
-pub append-begun : (old new part whole : List ℕ) → old ≡ [] → new ≡ old ++ part → part ≡ whole → new ≡ whole
-append-begun old new part whole e f g = f ∙ ap (λ t. t ++ part) e ∙ g
+use Rattle.conf_session.specs.Reply.{Reply, reply_in}
+use Rattle.conf_session.specs.declared.session_update.SessionUpdate.{SessionUpdate}
 
 flat_map-suc : {X : Type 0} (f : X → List ℕ) (xs : List X) (i : ℕ) (x : X) → slice_get xs i ≡ Some x → flat_map f (take (suc i) xs) ≡ flat_map f (take i xs) ++ f x
 flat_map-suc f [] i x e = cc
@@ -32,9 +29,9 @@ members-one_more old now new members i id p at so_far more =
     ∙ ap (λ t. old ++ t) (sym (flat_map-prefix member_line members i (id, p) at))
 
 -- what is found can stand, where it can for the reply
-pub reply-valid_output : {E : Type 0} (r : Result ReplyParts E) (changer next : ChangerState) {a b : Reply} → a ≡ b → IsValidOutput b.actual → IfOk r (λ reply. reply_in changer next reply ≡ a) → IfOk r (λ reply. IsValidOutput reply.actual)
-reply-valid_output (Ok reply) changer next e holds h = let P : Reply → Type 0 = λ x. IsValidOutput x.actual in subst P (sym (h ∙ e)) holds
-reply-valid_output (Err fault) changer next e holds h = tt
+pub reply-valid_output : {E : Type 0} (r : Result SessionUpdate E) (changer next : ChangerState) (text : List ℕ) {a b : Reply} → a ≡ b → IsValidOutput b.actual → IfOk r (λ update. reply_in changer next text update ≡ a) → OnOk r (IsValidOutput text)
+reply-valid_output (Ok update) changer next text e holds h = let P : Reply → Type 0 = λ x. IsValidOutput x.actual in subst P (sym (h ∙ e)) holds
+reply-valid_output (Err fault) changer next text e holds h = tt
 
 -- a configuration, a newline and the members after a text
 pub tracker-appended : {E : Type 0} (r : Result (Unit {0}) E) (old one two new : List ℕ) (tracker : TrackerState) (config : Configuration) → config ≡ tracker.config →

@@ -4,6 +4,7 @@ pub mod SessionState
 pub mod Parameter
 pub mod Arguments
 pub mod Values
+pub mod Reading
 pub mod Input
 pub mod IdIndex
 pub mod Quorum

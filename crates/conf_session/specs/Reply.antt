@@ -15,11 +15,6 @@ pub record Reply : Type 0 where
   pub actual : List ℕ
   pub update : SessionChange
 
--- a reply as the code returns it: its update does not hold the changer that the session has afterwards
-pub record ReplyParts : Type 0 where
-  pub actual : List ℕ
-  pub update : SessionUpdate
-
 -- the changer after an acknowledgement; unchanged if it is refused
 abbrev pub after_acknowledgement : ChangerState → ℕ → ℕ → ChangerState
 after_acknowledgement changer id index = unwrap_or (option_map (changer_with_progress changer id) (result_ok (ack_answer changer.tracker id index))) changer
@@ -32,9 +27,9 @@ session_change changer next update.Stepped = Stepped next
 session_change changer next update.Restored = Restored next
 session_change changer next (update.Undone count) = Undone next count
 
--- the reply that the returned parts denote
-abbrev pub reply_in : ChangerState → ChangerState → ReplyParts → Reply
-reply_in changer next parts = record { actual = parts.actual; update = session_change changer next parts.update }
+-- the reply that an output and an update denote
+abbrev pub reply_in : ChangerState → ChangerState → List ℕ → SessionUpdate → Reply
+reply_in changer next actual update = record { actual = actual; update = session_change changer next update }
 
 -- an output after which the session is unchanged
 abbrev pub replied : List ℕ → Reply

@@ -2,7 +2,7 @@
 //! directive's input is read first, then its arguments, and then the command is run. So errors of input and arguments
 //! are reported in one place, and a command gets valid values. A command does not change the session: the update is
 //! part of its reply.
-ghost use Rattle.std.specs.Prelude.{◌≡◌, ◌≤◌, option_map, IfOk};
+ghost use Rattle.std.specs.Prelude.{◌≡◌, ◌≤◌, [], option_map, IfOk, OnOk};
 ghost use Rattle.conf_session.specs.Reply.{reply_in};
 ghost use Rattle.conf_session.specs.ReplyLines.{IsValidOutput};
 ghost use Rattle.conf_session.specs.Commands as spec;
@@ -17,15 +17,14 @@ use crate::buffers::Buffers;
 use crate::input::{Input, InputKind};
 use crate::laws::actual_output_is_valid;
 use crate::parameter::Parameter;
-use crate::reply::Reply;
-use crate::reply_texts::{conf_state_line, line_of};
+use crate::reply_texts::{append_conf_state, append_line};
 use crate::session_ids::SessionIds;
+use crate::session_update::SessionUpdate;
 use crate::state::State;
 use crate::values::Values;
 use conf_change::{Changer, StepKind, taken};
 use dd_file::item::{Argument, Directive};
 use quorum_sets::NoMemory;
-use std::alloc::Global;
 
 /// The command of a directive. `Simple`, `EnterJoint` and `LeaveJoint` are the changes of etcd's package `confchange`.
 /// `ConfChange` makes the one of them that etcd's raft makes for a `ConfChangeV2` with the same changes and transition.
@@ -131,21 +130,23 @@ fn row_of(name: &[u8]) -> Row
     }
 }
 
-/// Runs a directive. If its update replaces the changer, the new one is `next` in the buffers afterwards.
+/// Runs a directive, and prints its output. If its update replaces the changer, the new one is `next` in the buffers
+/// afterwards.
 pub(crate) fn run_directive(
-    alloc: Global,
+    text: &mut Vec<u8>,
     session: &State,
     buffers: &mut Buffers,
     directive: &Directive,
-) -> Result<Reply, NoMemory>
-    ensures reply { IfOk result (λ reply. reply_in session.now.changer buffers.new.next reply
+) -> Result<SessionUpdate, NoMemory>
+    requires { text.old.items ≡ [] }
+    ensures reply { IfOk result (λ update. reply_in session.now.changer buffers.new.next text.new.items update
         ≡ spec.reply_to session.now directive.now) }
-    ensures valid_output { IfOk result (λ reply. IsValidOutput reply.actual) }
+    ensures valid_output { OnOk result (IsValidOutput text.new.items) }
 {
     actual_output_is_valid();
     let row = row_of(directive.command());
     run_row(
-        alloc,
+        text,
         session,
         buffers,
         &row,
@@ -156,74 +157,69 @@ pub(crate) fn run_directive(
 
 // Reads the input and the arguments that the row names, and runs its command, or reports the first error.
 fn run_row(
-    alloc: Global,
+    text: &mut Vec<u8>,
     session: &State,
     buffers: &mut Buffers,
     row: &Row,
-    text: &[u8],
+    input: &[u8],
     arguments: &[Argument],
-) -> Result<Reply, NoMemory>
-    ensures { IfOk result (λ reply. reply_in session.now.changer buffers.new.next reply
-        ≡ spec.reply_by (spec.row_with row.now.command row.now.input (option_map (λ p. p.now) row.now.parameters)) session.now text.now arguments.now) }
+) -> Result<SessionUpdate, NoMemory>
+    requires { text.old.items ≡ [] }
+    ensures { IfOk result (λ update. reply_in session.now.changer buffers.new.next text.new.items update
+        ≡ spec.reply_by (spec.row_with row.now.command row.now.input (option_map (λ p. p.now) row.now.parameters)) session.now input.now arguments.now) }
 {
-    if let Err(actual) = buffers.input.read(row.input, text)? {
-        return Ok(Reply::of_text(actual));
+    if !buffers.input.read(text, row.input, input)? {
+        return Ok(SessionUpdate::Nothing);
     }
-    if let Err(actual) = buffers.values.read_arguments(row.parameters, arguments)? {
-        return Ok(Reply::of_text(actual));
+    if !buffers
+        .values
+        .read_arguments(text, row.parameters, arguments)?
+    {
+        return Ok(SessionUpdate::Nothing);
     }
     let Buffers {
         next,
         input,
         values,
     } = buffers;
-    run_command(alloc, session, next, row.command, input, values)
+    run_command(text, session, next, row.command, input, values)
 }
 
 // Runs a command whose input and arguments are valid.
 fn run_command(
-    alloc: Global,
+    text: &mut Vec<u8>,
     session: &State,
     next: &mut Changer<SessionIds>,
     command: Command,
     input: &Input,
     values: &Values,
-) -> Result<Reply, NoMemory>
-    requires { 1 ≤ values.now.steps }
-    ensures { IfOk result (λ reply. reply_in session.now.changer next.new reply
+) -> Result<SessionUpdate, NoMemory>
+    requires blank { text.old.items ≡ [] }
+    requires some { 1 ≤ values.now.steps }
+    ensures { IfOk result (λ update. reply_in session.now.changer next.new text.new.items update
         ≡ spec.reply_of command session.now input.now values.now) }
 {
     let changer = session.changer();
-    let tracker = changer.tracker();
     let changes = input.changes.as_slice();
     match command {
-        Command::Simple => step::run(alloc, changer, next, StepKind::Simple, changes),
+        Command::Simple => return step::run(text, changer, next, StepKind::Simple, changes),
         Command::EnterJoint => {
-            step::run(
-                alloc,
-                changer,
-                next,
-                StepKind::Enter(values.auto_leave),
-                changes,
-            )
+            let kind = StepKind::Enter(values.auto_leave);
+            return step::run(text, changer, next, kind, changes);
         }
-        Command::LeaveJoint => step::run(alloc, changer, next, StepKind::Leave, changes),
+        Command::LeaveJoint => return step::run(text, changer, next, StepKind::Leave, changes),
         Command::ConfChange => {
-            step::run(
-                alloc,
-                changer,
-                next,
-                taken(values.transition, changes),
-                changes,
-            )
+            let kind = taken(values.transition, changes);
+            return step::run(text, changer, next, kind, changes);
         }
-        Command::ConfState => Ok(Reply::of_text(conf_state_line(alloc, session.current())?)),
-        Command::Restore => restore::run(alloc, changer, next, &input.saved),
-        Command::Undo => undo::run(alloc, session, next, values.steps as usize),
-        Command::Ack => ack::run(alloc, changer, values.id, values.index),
-        Command::CommitIndex => Ok(Reply::of_text(quorums::commit_index(alloc, tracker)?)),
-        Command::Committed => Ok(Reply::of_text(quorums::committed(alloc, values)?)),
-        Command::Vote => Ok(Reply::of_text(quorums::vote(alloc, values)?)),
-        Command::Unknown => Ok(Reply::of_text(line_of(alloc, b"unknown command", b"")?)),
+        Command::ConfState => append_conf_state(text, session.current())?,
+        Command::Restore => return restore::run(text, changer, next, &input.saved),
+        Command::Undo => return undo::run(text, session, next, values.steps as usize),
+        Command::Ack => return ack::run(text, changer, values.id, values.index),
+        Command::CommitIndex => quorums::commit_index(text, changer.tracker())?,
+        Command::Committed => quorums::committed(text, values)?,
+        Command::Vote => quorums::vote(text, values)?,
+        Command::Unknown => append_line(text, b"unknown command", b"")?,
     }
+    Ok(SessionUpdate::Nothing)
 }

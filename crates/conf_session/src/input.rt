@@ -1,9 +1,10 @@
 //! The input of a directive: the lines between the directive line and the separator. It is read before the arguments,
 //! so a command that takes no input reports an input before a bad argument.
-ghost use Rattle.std.specs.Prelude.{◌≡◌, [], Ok, Err, IfOk, MatchResult};
+ghost use Rattle.std.specs.Prelude.{◌≡◌, [], IfOk, OnOk};
 ghost use Rattle.conf_session.specs.Input as spec;
+ghost use Rattle.conf_session.specs.Reading.{IsRead};
 
-use crate::reply_texts::{bad_token_line, line_of};
+use crate::reply_texts::{append_bad_token, append_line};
 use conf_change::{
     Change, ConfState, ConfStateFault, TokenFault, read_changes_into, read_conf_state,
 };
@@ -41,9 +42,6 @@ impl Model for Input {
 }
 
 impl Input {
-    ghost use Rattle.std.specs.Prelude.{◌≡◌, Ok, Err, IfOk, MatchResult};
-    ghost use Rattle.conf_session.specs.Input as spec;
-
     /// An empty input.
     pub(crate) fn new(alloc: Global) -> Input {
         Input {
@@ -52,23 +50,24 @@ impl Input {
         }
     }
 
-    /// Reads an input in place of the previous one, or returns the line that reports its error.
+    /// Reads an input in place of the previous one. If it is not valid, appends the line that reports its error.
     pub(crate) fn read(
         &mut self,
+        reply: &mut Vec<u8>,
         kind: InputKind,
         text: &[u8],
-    ) -> Result<Result<(), Vec<u8>>, NoMemory>
-        ensures { IfOk result (λ read. MatchResult read (λ _. spec.read_input kind text.now ≡ Ok self.new)
-            (λ actual. spec.read_input kind text.now ≡ Err actual.items)) }
+    ) -> Result<bool, NoMemory>
+        requires { reply.old.items ≡ [] }
+        ensures { IfOk result (λ valid. IsRead (spec.read_input kind text.now) valid self.new reply.new.items) }
     {
         let alloc = *self.changes.allocator();
         self.changes.clear();
         self.saved = empty_conf_state(alloc);
         match kind {
-            InputKind::Changes => read_change_list(alloc, &mut self.changes, text),
-            InputKind::NoChange => read_no_change(alloc, &mut self.changes, text),
-            InputKind::ConfStateLine => read_saved(alloc, &mut self.saved, text),
-            InputKind::Nothing => read_nothing(alloc, text),
+            InputKind::Changes => read_change_list(reply, &mut self.changes, text),
+            InputKind::NoChange => read_no_change(reply, &mut self.changes, text),
+            InputKind::ConfStateLine => read_saved(reply, &mut self.saved, text),
+            InputKind::Nothing => read_nothing(reply, text),
         }
     }
 }
@@ -88,73 +87,75 @@ fn empty_conf_state(alloc: Global) -> ConfState
 
 // Reads a list of changes.
 fn read_change_list(
-    alloc: Global,
+    reply: &mut Vec<u8>,
     changes: &mut Vec<Change>,
     text: &[u8],
-) -> Result<Result<(), Vec<u8>>, NoMemory>
-    ensures { IfOk result (λ read. MatchResult read (λ _. spec.read_input InputKind.Changes text.now
-        ≡ Ok (spec.of_changes changes.new.items))
-        (λ actual. spec.read_input InputKind.Changes text.now ≡ Err actual.items)) }
+) -> Result<bool, NoMemory>
+    requires { reply.old.items ≡ [] }
+    ensures { IfOk result (λ valid. IsRead (spec.read_input InputKind.Changes text.now) valid (spec.of_changes changes.new.items) reply.new.items) }
 {
     match read_changes_into(changes, text) {
-        Ok(()) => Ok(Ok(())),
+        Ok(()) => Ok(true),
         Err(TokenFault::NoMemory) => Err(NoMemory),
-        Err(fault) => Ok(Err(bad_token_line(alloc, fault)?)),
+        Err(fault) => {
+            append_bad_token(reply, fault)?;
+            Ok(false)
+        }
     }
 }
 
 // Reads a list of changes that must be empty.
 fn read_no_change(
-    alloc: Global,
+    reply: &mut Vec<u8>,
     changes: &mut Vec<Change>,
     text: &[u8],
-) -> Result<Result<(), Vec<u8>>, NoMemory>
-    ensures { IfOk result (λ read. MatchResult read (λ _. spec.read_input InputKind.NoChange text.now
-        ≡ Ok (spec.of_changes changes.new.items))
-        (λ actual. spec.read_input InputKind.NoChange text.now ≡ Err actual.items)) }
+) -> Result<bool, NoMemory>
+    requires { reply.old.items ≡ [] }
+    ensures { IfOk result (λ valid. IsRead (spec.read_input InputKind.NoChange text.now) valid (spec.of_changes changes.new.items) reply.new.items) }
 {
-    let read = read_change_list(alloc, changes, text)?;
-    if read.is_ok() && !changes.is_empty() {
-        return Ok(Err(no_input_line(alloc)?));
+    let valid = read_change_list(reply, changes, text)?;
+    if valid && !changes.is_empty() {
+        append_no_input(reply)?;
+        return Ok(false);
     }
-    Ok(read)
+    Ok(valid)
 }
 
 // Reads a ConfState line. `restore` checks whether it describes a configuration.
-fn read_saved(
-    alloc: Global,
-    saved: &mut ConfState,
-    text: &[u8],
-) -> Result<Result<(), Vec<u8>>, NoMemory>
-    ensures { IfOk result (λ read. MatchResult read (λ _. spec.read_input InputKind.ConfStateLine text.now
-        ≡ Ok (record { changes = []; saved = saved.new }))
-        (λ actual. spec.read_input InputKind.ConfStateLine text.now ≡ Err actual.items)) }
+fn read_saved(reply: &mut Vec<u8>, saved: &mut ConfState, text: &[u8]) -> Result<bool, NoMemory>
+    requires { reply.old.items ≡ [] }
+    ensures { IfOk result (λ valid. IsRead (spec.read_input InputKind.ConfStateLine text.now) valid (record { changes = []; saved = saved.new }) reply.new.items) }
 {
-    match read_conf_state(alloc, text) {
+    match read_conf_state(*reply.allocator(), text) {
         Ok(read) => {
             *saved = read;
-            Ok(Ok(()))
+            Ok(true)
         }
-        Err(ConfStateFault::BadConfState) => Ok(Err(line_of(alloc, b"bad conf state", b"")?)),
+        Err(ConfStateFault::BadConfState) => {
+            append_line(reply, b"bad conf state", b"")?;
+            Ok(false)
+        }
         Err(ConfStateFault::NoMemory) => Err(NoMemory),
     }
 }
 
 // Accepts only an empty input.
-fn read_nothing(alloc: Global, text: &[u8]) -> Result<Result<(), Vec<u8>>, NoMemory>
-    ensures { IfOk result (λ read. MatchResult read (λ _. spec.read_input InputKind.Nothing text.now
-        ≡ Ok (spec.of_changes [])) (λ actual. spec.read_input InputKind.Nothing text.now ≡ Err actual.items)) }
+fn read_nothing(reply: &mut Vec<u8>, text: &[u8]) -> Result<bool, NoMemory>
+    requires { reply.old.items ≡ [] }
+    ensures { IfOk result (λ valid. IsRead (spec.read_input InputKind.Nothing text.now) valid (spec.of_changes []) reply.new.items) }
 {
     if text.is_empty() {
-        Ok(Ok(()))
+        Ok(true)
     } else {
-        Ok(Err(no_input_line(alloc)?))
+        append_no_input(reply)?;
+        Ok(false)
     }
 }
 
-// The error of a command that takes no input but has one.
-fn no_input_line(alloc: Global) -> Result<Vec<u8>, NoMemory>
-    ensures { IfOk result (λ actual. actual.items ≡ spec.no_input_line) }
+// Appends the error of a command that takes no input but has one.
+fn append_no_input(reply: &mut Vec<u8>) -> Result<(), NoMemory>
+    requires { reply.old.items ≡ [] }
+    ensures { OnOk result (reply.new.items ≡ spec.no_input_line) }
 {
-    line_of(alloc, b"this command takes no input", b"")
+    append_line(reply, b"this command takes no input", b"")
 }

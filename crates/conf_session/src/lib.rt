@@ -35,7 +35,6 @@ mod input;
 pub mod laws;
 mod parameter;
 mod quorum;
-mod reply;
 mod reply_texts;
 pub mod session;
 pub mod session_ids;

@@ -25,6 +25,9 @@ use quorum_sets::NoMemory;
 use std::alloc::Global;
 use std::marker::Model;
 
+// How many bytes an output usually has at most.
+const USUAL_OUTPUT: usize = 256;
+
 /// A configuration with the progress of its members, on which directives act, and the configurations from before its
 /// last accepted changes. A session runs one script, as etcd's tests make one `Changer` for each script file.
 #[derive(Drop)]
@@ -119,8 +122,8 @@ impl Session {
     {
         self.state.is_session();
         answer_keeps_session();
-        let reply = run_directive(self.alloc, &self.state, &mut self.buffers, directive)?;
-        let (actual, update) = reply.into_parts();
+        let mut actual = Vec::with_capacity(self.alloc, USUAL_OUTPUT)?;
+        let update = run_directive(&mut actual, &self.state, &mut self.buffers, directive)?;
         self.state.apply(update, &mut self.buffers.next);
         Ok(actual)
     }

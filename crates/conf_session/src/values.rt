@@ -6,7 +6,7 @@ ghost use Rattle.conf_session.specs.Values as spec;
 
 use crate::arguments::{has_key, missing_argument, parameter_of};
 use crate::parameter::{Listed, Parameter, flag_in, has_only, number_from, transition_in};
-use crate::reply_texts::line_of;
+use crate::reply_texts::append_line;
 use conf_change::Transition;
 use dd_file::item::Argument;
 use quorum_sets::NoMemory;
@@ -56,7 +56,8 @@ impl Model for Values {
 }
 
 impl Values {
-    ghost use Rattle.std.specs.Prelude.{◌≡◌, true, [], None, Ok, Err, option_map, IfOk, MatchResult};
+    ghost use Rattle.std.specs.Prelude.{◌≡◌, true, [], None, option_map, IfOk};
+    ghost use Rattle.conf_session.specs.Reading.{IsRead};
     ghost use Rattle.conf_session.specs.Arguments.{bad_argument, is_allowed};
     ghost use Rattle.conf_session.specs.Parameter.{allows};
     ghost use Rattle.conf_session.specs.Values as spec;
@@ -78,30 +79,31 @@ impl Values {
         }
     }
 
-    /// Reads the arguments of a command that has these parameters, in place of the previous values, or returns the line
-    /// that reports an error: the first bad argument, or else the first that is missing. If the parameters are `None`
-    /// (`simple`, `leave-joint`, unknown commands), the arguments are ignored, as in etcd's tests.
+    /// Reads the arguments of a command that has these parameters, in place of the previous values. If they are not
+    /// valid, appends the line that reports the error: the first bad argument, or else the first that is missing. If the
+    /// parameters are `None` (`simple`, `leave-joint`, unknown commands), the arguments are ignored, as in etcd's tests.
     pub(crate) fn read_arguments(
         &mut self,
+        reply: &mut Vec<u8>,
         parameters: Option<&[Parameter]>,
         arguments: &[Argument],
-    ) -> Result<Result<(), Vec<u8>>, NoMemory>
-        ensures { IfOk result (λ read. MatchResult read (λ _. spec.read_arguments (option_map (λ p. p.now) parameters.entry) arguments.now ≡ Ok self.new)
-            (λ actual. spec.read_arguments (option_map (λ p. p.now) parameters.entry) arguments.now
-            ≡ Err actual.items)) }
+    ) -> Result<bool, NoMemory>
+        requires { reply.old.items ≡ [] }
+        ensures { IfOk result (λ valid. IsRead (spec.read_arguments (option_map (λ p. p.now) parameters.entry) arguments.now) valid self.new reply.new.items) }
     {
         self.clear();
         let Some(parameters) = parameters else {
-            return Ok(Ok(()));
+            return Ok(true);
         };
-        let alloc = *self.incoming.allocator();
         if let Some(key) = self.read(parameters, arguments)? {
-            return Ok(Err(line_of(alloc, b"bad argument: ", key)?));
+            append_line(reply, b"bad argument: ", key)?;
+            return Ok(false);
         }
         if let Some(parameter) = missing_argument(parameters, arguments) {
-            return Ok(Err(line_of(alloc, b"missing argument: ", parameter.key())?));
+            append_line(reply, b"missing argument: ", parameter.key())?;
+            return Ok(false);
         }
-        Ok(Ok(()))
+        Ok(true)
     }
 
     // Resets each value to its default.

@@ -13,4 +13,4 @@ returns-clause-valid_output c =
     let same : reply_by (row_with row.command row.input (option_map (λ p. p.now) row.parameters)) session c.input.result.now c.arguments.result.now ≡ reply_to session directive =
     (λ i. reply_by (row_with (made.command i) (made.input i) (made.parameters i)) session (c.input.ensures i) (c.arguments.ensures.arguments i))
     ∙ ap (λ name. reply_by (row_of name) session directive.input directive.arguments) c.command.ensures in
-    reply-valid_output c.run_row.result session.changer c.run_row.new.buffers.next same (c.actual_output_is_valid.ensures session directive c.arguments.ensures.keys) c.run_row.ensures
+    reply-valid_output c.run_row.result session.changer c.run_row.new.buffers.next c.run_row.new.text.items same (c.actual_output_is_valid.ensures session directive c.arguments.ensures.keys) c.run_row.ensures

@@ -1,10 +1,8 @@
 use Rattle.std.proofs.Common.{◌≡◌, true, cond, sym, ap, ◌∙◌}
 use Rattle.std.specs.Prelude.{is_some}
-use Rattle.std.proofs.lemmas.Result.{IfOk-weaker}
 use Rattle.quorum_sets.specs.Voters.{pair}
 use Rattle.quorum_sets.specs.Votes.{joint_vote_result}
 use Rattle.conf_session.specs.Quorum.{ids_named, voters_named, values_by_id, map_of, is_one_each, vote_text, vote_reply, wrong_number_text}
-use Rattle.conf_session.specs.ReplyTexts.{line}
 use Rattle.conf_session.specs.Values.{Values}
 use Rattle.conf_session.proofs.commands.quorums.vote.Goals as goal
 
@@ -21,4 +19,4 @@ returns-in-Some c =
     let text = vote_text (joint_vote_result (voters_named v) (values_by_id (ids_named v) v.votes)) in
     let same : vote_text (joint_vote_result (pair q.incoming q.outgoing) (map_of q.values)) ≡ vote_reply v =
     (λ i. vote_text (joint_vote_result (voters i) (by_id i))) ∙ sym (ap (λ b. cond b text wrong_number_text) one) in
-    IfOk-weaker c.vote_line.result _ _ (λ actual is. is ∙ ap line same) c.vote_line.ensures
+    rw same at c.append_vote.ensures
