@@ -63,7 +63,7 @@ id_is_reused s = if_any ((member_ids s.target ∖ s.members) ∩ s.retired) (Stu
 abbrev pub not_started : Situation → Option Action
 not_started s = if_any ((member_ids s.after ∪ s.members) ∖ s.voters ∖ s.down ∖ s.running) Start
 
--- 9. who is no member, and not of the target, runs, and each voter that is not down knows the configuration
+-- 9. a server that is not a member, now or of the target, runs, and each voter that is not down knows the configuration
 abbrev pub not_stopped : Situation → Option Action
 not_stopped s = if is_empty s.lack_configuration then if_any (s.running ∖ s.members ∖ member_ids s.target) Stop else None
 

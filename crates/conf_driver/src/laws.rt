@@ -70,7 +70,7 @@ pub fn nothing_is_done_twice()
         → next_of strategy target down (record view { lead = id }) ≢ Transfer other }
 {}
 
-/// A server is stopped only if it is no member on any path to the target and each voter that is not down knows the
+/// A server is stopped only if it is not a member on any path to the target and each voter that is not down knows the
 /// configuration in force. One is started only if it is a member now or of the target, does not run, does not vote, is not
 /// down, and is not added after it was stopped for good.
 pub fn no_server_is_stopped_early()
