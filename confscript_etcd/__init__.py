@@ -9,6 +9,7 @@
     refusals    what is refused before a change
     running     a run: it plans, shows, asks, and carries out
     carrying    taking the steps of a task, one after another
+    deciding    what to do next: the mode `confscript next`, asked with what is seen of the cluster
     dry_run     the calls that would change the cluster
     status      the command status
     table       how a plan and the members are shown

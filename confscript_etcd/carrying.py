@@ -1,14 +1,22 @@
-"""Taking the steps of a task, one after another."""
+"""Taking the steps of a task: doing what is next, and saying what is waited for."""
 import os
 import subprocess
 from typing import NamedTuple, Optional
 
+from .deciding import Decider
 from .output import note, say
 from .plan import Call
 from .reasons import NotYet, Stop, listed, verb, wait
 from .refusals import refuse_cut_off, refuse_up
 from .servers import NewServer, address, is_address, unreachable
 from .table import step_text
+
+
+STUCK = {
+    "quorum-lost": "without {} no majority of the voters is left",
+    "stalls": "with {} down, nothing can be committed on the way",
+    "reused": "an id never comes back without its log and its vote: {}",
+}
 
 
 class Options(NamedTuple):
@@ -26,16 +34,6 @@ def words_of(step, etcd_id, new):
         return ["member", "promote" if step.call is Call.PROMOTE else "remove", etcd_id]
     learner = ["--learner"] if step.call is Call.ADD_LEARNER else []
     return ["member", "add", new.name, f"--peer-urls={','.join(new.peers)}", *learner]
-
-
-def successor(step, later, voters):
-    """Which of these voters leads when the member that a step removes no longer does: one that stays a voter for as many
-    of the later steps as possible. None if there is none."""
-
-    def steps_as_voter(id):
-        return next((count for count, each in enumerate(later) if id not in each.after.voters), len(later))
-
-    return max(sorted(id for id in voters if id in step.after.voters), key=steps_as_voter, default=None)
 
 
 def settings(new, members):
@@ -65,9 +63,21 @@ def listening(new, members):
 class Carrying:
     """A task while its steps are taken in a cluster."""
 
-    def __init__(self, cluster, task, options, lock):
+    def __init__(self, cluster, task, options, lock, mode):
         self.cluster, self.task, self.options, self.lock = cluster, task, options, lock
+        self.decider = Decider(mode, task, options.is_proxied)
         self.starting, self.described = {}, set()
+        # How many steps were announced, the command that was shown last, and the new server that is waited for.
+        self.announced, self.shown, self.awaited = 0, None, None
+
+    def take_all(self):
+        """Does what is next until nothing is left."""
+        try:
+            while not self.wait(self.advance):
+                pass
+        except Stop as reason:
+            at = f"step {self.announced} of {len(self.task.steps)}: " if self.announced else ""
+            raise Stop(f"{at}{reason}{self.way_out()}") from None
 
     def wait(self, attempt):
         def renewing():
@@ -76,65 +86,79 @@ class Carrying:
 
         return wait(self.options.limit, renewing)
 
-    def take_all(self):
-        """Takes the steps, and starts the members that were added before and have not started."""
-        for member in self.task.pending():
-            self.bring_up(self.task.number_of(member))
-        for at, step in enumerate(self.task.steps, 1):
-            note(f"{at} {step_text(self.task, step)}")
-            try:
-                self.take(step, self.task.steps[at:])
-            except Stop as reason:
-                raise Stop(f"step {at} of {len(self.task.steps)}: {reason}") from None
+    def way_out(self):
+        """How a new server is taken out again that was waited for in vain."""
+        member = self.awaited
+        if member is None or not member.is_learner:
+            return ""
+        name = self.task.name(self.task.number_of(member))
+        return f". To take {name} out again: {self.cluster.suggestion('remove', f'{member.id:x}', '--healthy')}"
 
-    def take(self, step, later):
-        if step.call is Call.REMOVE:
-            self.move_leadership(step, later)
-        elif step.call is Call.PROMOTE:
-            self.bring_up(step.id)
-        else:
-            self.show_settings(self.task.new[step.id], self.wait(self.cluster.look).members)
-        self.make(step, later)
+    def advance(self):
+        """Does what is next in the cluster as it is now. Whether nothing is left."""
+        view, self.awaited = self.cluster.look(), None
+        if not self.is_known(view):
+            return False
+        answer = self.decider.answer(view)
+        if answer.action == "propose":
+            self.make(answer.step, view)
+        elif answer.action == "transfer":
+            self.move_leadership(answer.numbers[0], view)
+        elif answer.action == "stuck":
+            raise Stop(STUCK[answer.why].format(listed(self.task.names(answer.numbers))))
+        elif answer.action != "done":  # start, or wait
+            self.wait_for(answer, view)
+        return answer.action == "done"
+
+    def is_known(self, view):
+        """Whether the members are those of the last look. If not, they are those after a later step: another run of the same
+        command may have gone on meanwhile. Refused if someone else changes them."""
+        decider, now = self.decider, self.task.configuration(view.members)
+        done = decider.steps_to(now)
+        if done is None:
+            self.refuse_others(now, view)
+        if now != decider.now:
+            decider.goes_on(done, now)
+            return False
+        if decider.committed is None:
+            decider.committed = max(status.committed for status in view.statuses.values())
+            return False
+        return True
+
+    def refuse_others(self, now, view):
+        """Stops if someone else changed the members. A list that may be old is read again."""
+        if not view.is_current and self.decider.done and now == self.task.steps[self.decider.done - 1].before:
+            raise NotYet("the list of members does not show it yet")
+        text = f"the members are {now.named(self.task.name)}, and before this step they were {self.decider.now.named(self.task.name)}"
+        raise Stop(f"{text}: someone else changes them") if view.is_current else NotYet(text)
+
+    def announce(self):
+        """Says which step comes, once."""
+        at = self.decider.done + 1
+        if self.announced < at <= len(self.task.steps):
+            self.announced, self.shown = at, None
+            note(f"{at} {step_text(self.task, self.decider.step)}")
+
+    def show(self, words, endpoints):
+        if words != self.shown:
+            note(f"  {self.cluster.etcdctl.shown(words, endpoints)}", is_command=True)
+            self.shown = words
+
+    # A change
+
+    def make(self, step, view):
+        """Makes the change of a step."""
+        member, new = self.task.member(view, step.id), self.task.new.get(step.id)
+        if step.promotes():
+            self.bring_up(member, view)
+            self.check_reached(member)
+        self.announce()
         if step.call.adds():
-            self.bring_up(step.id)
-
-    def show_settings(self, new, members):
-        """Prints the settings of a new server, once: before it is added, or before it is started if an earlier run added it."""
-        if new.name not in self.described:
-            self.described.add(new.name)
-            note(f"  {new.name} joins with these settings and an empty data directory; fill in its client URL:")
-            for name, value in {**settings(new, members), **listening(new, members)}.items():
-                say(f'    {name}="{value}"')
-
-    def make(self, step, later):
-        """Makes the change of a step. It is done when the list of members shows it, or shows what a later step makes of it:
-        another run of the same command may have gone on meanwhile."""
-        done = [each.after for each in (step, *later)]
-        is_accepted, shown = False, None
-
-        def attempt():
-            nonlocal is_accepted, shown
-            view = self.cluster.look()
-            now = self.task.configuration(view.members)
-            if now in done:
-                return
-            if now != step.before:
-                self.refuse_others(step, now, view)
-            if is_accepted:
-                raise NotYet("the list of members does not show it yet")
-            self.check(step, view)
-            member = self.task.member(view, step.id)
-            words = words_of(step, member and f"{member.id:x}", self.task.new.get(step.id))
-            endpoints = self.endpoints(view, member)
-            if words != shown:
-                note(f"  {self.cluster.etcdctl.shown(words, endpoints)}", is_command=True)
-                shown = words
-            self.change(words, endpoints, view)
-            is_accepted = True
-            if self.task.configuration(self.cluster.look().members) not in done:
-                raise NotYet("the list of members does not show it yet")
-
-        self.wait(attempt)
+            self.show_settings(new, view.members)
+        words, endpoints = words_of(step, member and f"{member.id:x}", new), self.endpoints(view, member)
+        self.show(words, endpoints)
+        self.change(words, endpoints, view)
+        self.decider.goes_on(self.decider.done + 1, step.after)
 
     def change(self, words, endpoints, view):
         try:
@@ -152,94 +176,60 @@ class Carrying:
         leader = view.leader()
         return [view.statuses[voter.id].url for voter in ([leader] if leader in voters else voters)]
 
-    def refuse_others(self, step, now, view):
-        """Stops if someone else changed the members. A list that may be old is read again."""
-        text = f"the members are {self.named(now)}, and before this step they were {self.named(step.before)}"
-        raise Stop(f"{text}: someone else changes them") if view.is_current else NotYet(text)
+    def check_reached(self, member):
+        """A server is promoted if the others reach it at its peer URLs. etcd does not look at that."""
+        for url in member.peers:
+            reason = unreachable(url)
+            if reason:
+                self.awaited = member
+                raise NotYet(f"nothing listens at {url}, where the others are to reach {member.label}: {reason}")
 
-    def named(self, configuration):
-        return configuration.named(self.task.name)
+    def move_leadership(self, number, view):
+        """Moves leadership to a member."""
+        self.announce()
+        leader, chosen = view.leader(), self.task.member(view, number)
+        if not view.answers(leader):
+            raise NotYet(f"{leader.label} leads, and does not answer at {' or '.join(self.cluster.clients_of(leader))}")
+        words, endpoints = ["move-leader", f"{chosen.id:x}"], [view.statuses[leader.id].url]
+        self.show(words, endpoints)
+        self.cluster.etcdctl.run(words, endpoints)
+        raise NotYet(f"leadership moves from {leader.label} to {chosen.label}")
 
-    def check(self, step, view):
-        """What has to hold before a change: a server that failed does not answer again, no other voter is silent, and all
-        have applied the change before. A learner that is in sync is promoted while a voter is silent, too, since no
-        configuration tolerates less then."""
-        if step.call is Call.REMOVE and step.id in self.task.failed and step.id in step.before.voters:
-            refuse_up(self.task.member(view, step.id), view, self.cluster, self.options.is_proxied)
-        silent = [it.label for it in self.task.unexpected(view)]
-        if silent and step.call is not Call.PROMOTE:
+    # Waiting
+
+    def wait_for(self, answer, view):
+        """Says what is waited for. A new server that has not started is started."""
+        members = [self.task.member(view, number) for number in answer.numbers]
+        if not answer.waits_for("no-leader"):
+            for member in members:
+                if self.task.number_of(member) in self.task.new:
+                    self.bring_up(member, view)
+        self.announce()
+        if answer.waits_for("no-leader"):
+            raise NotYet("there is no leader")
+        if answer.waits_for("heard"):
+            for member in members:
+                refuse_up(member, view, self.cluster, self.options.is_proxied)
+            raise NotYet(f"{listed(member.label for member in members)} {verb(members, 'was', 'were')} heard from just now")
+        silent = [member.label for member in members if not view.answers(member)]
+        if silent:
             raise NotYet(f"{listed(silent)} {verb(silent, 'does', 'do')} not answer")
-        if step.call is not Call.PROMOTE:
-            refuse_cut_off(view)
-        self.check_applied(view)
+        refuse_cut_off(view)
+        raise NotYet(f"{listed(member.label for member in members)} {verb(members, 'has', 'have')} not applied the last change yet")
 
-    def check_applied(self, view):
-        """Each voter that answers has applied the last change. What etcd's raft promises of changes rests on that (ETCD.md),
-        and a new server asks any of them for the members."""
-        behind = self.cluster.behind(view)
-        if behind:
-            raise NotYet(f"{listed(member.label for member in behind)} {verb(behind, 'has', 'have')} not applied the last change yet")
-
-    def move_leadership(self, step, later):
-        """Moves leadership from the member that a step removes, if it leads, to one that stays."""
-        shown = None
-
-        def attempt():
-            nonlocal shown
-            view = self.cluster.look()
-            leader = view.leader()
-            if leader is None:
-                raise NotYet("there is no leader")
-            if self.task.number_of(leader) != step.id:
-                return
-            if not view.answers(leader):
-                raise NotYet(f"{leader.label} leads, and does not answer at {' or '.join(self.cluster.clients_of(leader))}")
-            voters = {self.task.number_of(member): member for member in view.answering_voters()}
-            chosen = voters.get(successor(step, later, voters))
-            if chosen is None:
-                raise NotYet(f"no voter answers that could lead in place of {leader.label}")
-            words, endpoints = ["move-leader", f"{chosen.id:x}"], [view.statuses[leader.id].url]
-            if words != shown:
-                note(f"  {self.cluster.etcdctl.shown(words, endpoints)}", is_command=True)
-                shown = words
-            self.cluster.etcdctl.run(words, endpoints)
-            raise NotYet(f"leadership moves from {leader.label} to {chosen.label}")
-
-        self.wait(attempt)
-
-    def bring_up(self, number):
-        """Waits until a member that was added has started, has all that was committed before, and is reached by its
-        peers. Where it never does, it is said how it is taken out again."""
-        view = self.wait(self.cluster.look)
-        committed = max(status.committed for status in view.statuses.values())
-        try:
-            self.wait(lambda: self.check_up(number, committed))
-        except Stop as reason:
-            member = self.task.member(view, number)
-            if member is None or not member.is_learner:
-                raise
-            out = self.cluster.suggestion("remove", f"{member.id:x}", "--healthy")
-            raise Stop(f"{reason}. To take {self.task.name(number)} out again: {out}") from None
-
-    def check_up(self, number, committed):
-        view = self.cluster.look()
-        member = self.task.member(view, number)
-        if member is None:
-            raise NotYet(f"{self.task.name(number)} is not a member yet")
-        new = self.task.new.get(number, NewServer(member.label, member.peers))
+    def bring_up(self, member, view):
+        """Waits until a member that joins has started, answers, and has all that was committed before."""
+        self.awaited = member
         if not member.has_started:
+            new = self.task.new.get(self.task.number_of(member), NewServer(member.label, member.peers))
             self.start(new, member, view)
             raise NotYet(f"{new.name} has not started: see its log; its data directory must be empty")
         status = view.statuses.get(member.id)
         if status is None:
             urls = ", ".join(self.cluster.clients_of(member))
             raise NotYet(f"{member.label} does not answer at {urls} ({self.cluster.client_hint(member)} if it is reached elsewhere)")
-        if status.applied < committed:
-            raise NotYet(f"{member.label} has not applied all that was committed when it joined", f": {status.applied} of {committed} entries")
-        for url in member.peers:
-            reason = unreachable(url)
-            if reason:
-                raise NotYet(f"nothing listens at {url}, where the others are to reach {member.label}: {reason}")
+        if member.is_learner and status.applied < self.decider.committed:
+            raise NotYet(f"{member.label} has not applied all that was committed when it joined", f": {status.applied} of {self.decider.committed} entries")
 
     def start(self, new, member, view):
         """Starts the server of a new member, once, by the command or by the operator. One at whose peer URL something
@@ -249,7 +239,10 @@ class Carrying:
             raise Stop(f"the start command failed with status {process.returncode}")
         if member.id in self.starting:
             return
-        self.check_applied(view)
+        # It asks any of the others for the members.
+        behind = [voter for voter in view.answering_voters() if view.statuses[voter.id].applied < self.decider.committed]
+        if behind:
+            raise NotYet(f"{listed(voter.label for voter in behind)} {verb(behind, 'has', 'have')} not applied the last change yet")
         self.starting[member.id] = None
         if not self.options.is_proxied and not all(unreachable(url) for url in member.peers):
             note(f"  something listens at {', '.join(member.peers)} already, so {new.name} is not started again")
@@ -261,3 +254,11 @@ class Carrying:
             environment = {**os.environ, **settings(new, view.members)}
             self.starting[member.id] = subprocess.Popen(
                 self.options.start, shell=True, stdin=subprocess.DEVNULL, env=environment, start_new_session=True)
+
+    def show_settings(self, new, members):
+        """Prints the settings of a new server, once: before it is added, or before it is started if an earlier run added it."""
+        if new.name not in self.described:
+            self.described.add(new.name)
+            note(f"  {new.name} joins with these settings and an empty data directory; fill in its client URL:")
+            for name, value in {**settings(new, members), **listening(new, members)}.items():
+                say(f'    {name}="{value}"')

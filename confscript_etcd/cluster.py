@@ -119,20 +119,6 @@ class Cluster:
         return {it.id: tuple(member for member, heard in zip(here, peers) if statuses[member.id].leader == it.id or it.id in (heard or ()))
                 for it in silent}
 
-    def behind(self, view):
-        """The voters that answer and have not applied the last change: they list other members than the view has, or, from
-        3.5 on, none."""
-        def roles(members):
-            return {(member.id, member.is_learner) for member in members}
-
-        def lists(voter):
-            try:
-                return roles(self.list_at([view.statuses[voter.id].url]))
-            except NotYet:
-                return None
-
-        return [voter for voter in view.answering_voters() if lists(voter) != roles(view.members)]
-
     def alarms(self, view):
         """The alarms of the cluster, each as the name of a member and of the alarm. None are known if etcd does not say."""
         try:

@@ -107,7 +107,8 @@ class CarryOut:
                 raise Stop(f"{member.label} is down in the plan, and answers: plan without it in --down, or stop it")
             if member.id in named and not view.answers(member):
                 refuse_up(member, view, cluster, options.peer_proxy)
-        return task._replace(failed=frozenset(member.id for member in view.silent_voters() if member.id in named)), {}
+        failed = frozenset(member.id for member in view.silent_voters() if member.id in named)
+        return task._replace(steps=tuple(each for step in task.steps for each in step.learner_first(failed)), failed=failed), {}
 
 
 def numbered(values):

@@ -1,7 +1,7 @@
 """The calls that would change the cluster, for --dry-run."""
 import shlex
 
-from .carrying import settings, successor, words_of
+from .carrying import settings, words_of
 from .plan import Call
 from .servers import Member
 
@@ -22,7 +22,8 @@ def calls(task, cluster):
     for at, step in enumerate(task.steps):
         up = [number for number in sorted(step.before.voters & step.after.voters) if number not in task.failed]
         if step.call is Call.REMOVE and step.id == leader:
-            leader = successor(step, task.steps[at + 1:], [*voters, *(number for number in step.before.voters if number not in members)])
+            could = [number for number in step.after.voters if number in voters or number not in members]
+            leader = min(could, key=lambda number: task.stay(number, at), default=None)
             yield cluster.etcdctl.shown(["move-leader", id_of(leader)] if leader is not None else ["move-leader", "ID"], clients(step.id))
         yield cluster.etcdctl.shown(words_of(step, id_of(step.id), task.new.get(step.id)),
                                     [url for number in up for url in clients(number)])

@@ -17,6 +17,13 @@ class Configuration(NamedTuple):
     def __str__(self):
         return self.named(str)
 
+    def members(self):
+        return self.voters | self.learners
+
+    def spare(self, down):
+        """How many may be down besides these. Negative if nothing commits."""
+        return len(self.voters - down) - (len(self.voters) // 2 + 1)
+
     def named(self, name):
         """The text of the configuration, with a name for each number."""
         parts = [f"voters=({' '.join(map(name, sorted(self.voters)))})"]
@@ -50,6 +57,18 @@ class Step(NamedTuple):
     after: Configuration
     may_be_down: Optional[int]
     besides: Optional[int]
+
+    def promotes(self):
+        return self.call is Call.PROMOTE
+
+    def learner_first(self, down):
+        """The step, or if it adds a voter at once, two by which the server is a learner first."""
+        if self.call is not Call.ADD:
+            return [self]
+        call = call_for("ConfChangeAddLearnerNode", self.id, self.before)
+        between = after_call(call, self.id, self.before)
+        besides = None if self.besides is None else between.spare(down)
+        return [Step(call, self.id, self.before, between, between.spare(frozenset()), besides), self._replace(call=Call.PROMOTE, before=between)]
 
 
 class Plan(NamedTuple):

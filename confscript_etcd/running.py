@@ -3,6 +3,7 @@ import sys
 
 from . import output, table
 from .carrying import Carrying, Options
+from .deciding import Mode
 from .dry_run import calls
 from .lock import Lock
 from .output import note, paragraph, say
@@ -75,11 +76,14 @@ class Run:
         self.has_begun = True
         if kept:
             self.record.keep(kept, task.view)
+        mode = Mode(self.program)
         try:
-            Carrying(self.cluster, task, Options(self.options.start, self.options.limit, self.options.peer_proxy), lock).take_all()
+            Carrying(self.cluster, task, Options(self.options.start, self.options.limit, self.options.peer_proxy), lock, mode).take_all()
             self.show_end(task, wait(self.options.limit, self.cluster.look))
         except Stop as reason:
             raise Halted(str(reason)) from None
+        finally:
+            mode.end()
 
     def save_snapshot(self, file):
         """Saves a snapshot, and checks it."""

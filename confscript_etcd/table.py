@@ -19,12 +19,6 @@ def majority(configuration):
     return f"{count // 2 + 1} of {count}"
 
 
-def spare(configuration, down):
-    """How many may be down besides these. Negative if nothing commits."""
-    voters = configuration.voters
-    return len(voters - down) - (len(voters) // 2 + 1)
-
-
 def number(count):
     return "stalls" if count is None or count < 0 else str(count)
 
@@ -41,7 +35,7 @@ def plan_lines(task):
         return [label, marks, majority(configuration), number(may_be_down), *([number(besides)] if down else [])]
 
     rows = [["step", " ".join(columns.values()), "majority", "may be down", *([f"besides {','.join(task.names(down))}"] if down else [])],
-            row("now", now, spare(now, frozenset()), spare(now, down))]
+            row("now", now, now.spare(frozenset()), now.spare(down))]
     rows += [row(f"{at} {step_text(task, step)}", step.after, step.may_be_down, step.besides) for at, step in enumerate(task.steps, 1)]
     return lines_of(rows)
 

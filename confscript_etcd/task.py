@@ -46,6 +46,10 @@ class Task(NamedTuple):
     def names(self, numbers):
         return [self.name(number) for number in sorted(numbers)]
 
+    def stay(self, number, done):
+        """A key by which those come first that stay voters for more of the steps after so many."""
+        return -sum(number in step.after.voters for step in self.steps[done:]), number
+
     def leaving(self):
         """The members that the steps remove."""
         return [step.id for step in self.steps if step.call is Call.REMOVE]

@@ -48,8 +48,9 @@ class View(NamedTuple):
         return [other.label for other in self.hearers.get(member.id, ())]
 
     def leader(self) -> Optional[Member]:
-        """The member that all who answer and have a leader take as theirs. It may not answer here. None if there is none."""
-        leaders = {status.leader for status in self.statuses.values()} - {0}
+        """The member that all voters which answer and have a leader take as theirs. It may not answer here. None if there is
+        none. A learner that is cut off never gives up its leader."""
+        leaders = {self.statuses[member.id].leader for member in self.answering_voters()} - {0}
         return next((member for member in self.voters if {member.id} == leaders), None)
 
     def is_cut_off(self, member):

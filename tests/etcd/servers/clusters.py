@@ -24,7 +24,7 @@ UNANSWERED = (OSError, ValueError, http.client.HTTPException)  # a server refuse
 
 # The ports that a test takes, below those that the system gives to connections. Tests that run beside each other have
 # others each.
-PORT_RANGES = [range(first, first + 300) for first in range(20000, 32300, 300)]
+PORT_RANGES = [range(first, first + 200) for first in range(20000, 32000, 200)]
 ports = PORT_RANGES[0]
 
 

@@ -5,7 +5,7 @@ import socket
 
 from checks import holds, wait_for
 from clusters import Cluster, encoded
-from runs import TOP, begin, lines, lists_are_current, refuses, run, settings_in, start_command, succeeds, suggested, watched
+from runs import TOP, Gate, begin, lines, lists_are_current, refuses, run, settings_in, start_command, succeeds, suggested, watched
 
 
 def failed_server():
@@ -121,6 +121,42 @@ def two_failed_servers():
         cluster.check_end("n1 n2 n3 n6 n7")
 
 
+def back_on_the_way():
+    """Two of five servers are replaced as failed. One comes back while the other one is removed: it stays, and the run stops."""
+    with Cluster(5, ["n6", "n7"]).running() as cluster:
+        dead = sorted((cluster["n4"], cluster["n5"]), key=cluster.id)
+        for server in dead:
+            server.kill()
+        cluster.wait_until_missed(*dead)
+        removed, back = [], dead[1]
+
+        def start_again(call, process, status):
+            if status == 0 and call[:2] == ["member", "remove"]:
+                removed.append(call)
+                back.start_again()
+                wait_for("it follows a leader", lambda: (back.status() or {}).get("leader"))
+
+        pairs = f"n6={cluster['n6'].peer},n7={cluster['n7'].peer}"
+        with Gate(cluster, after=start_again) as gate:
+            status, output, error = run(cluster, "replace", "n4,n5", "--with", pairs, "--yes", etcdctl=gate.etcdctl)
+        holds(f"status {status}: {error}\n{output}", (status, error) == (3, f"confscript-etcd: step 2 of 6: {back.name} answers, so nothing is changed. Stop it if it "
+                                                                  "failed; a healthy one needs --healthy\n"))
+        holds("one was removed", len(removed) == 1)
+        cluster.check_end(f"n1 n2 n3 {back.name}")
+
+
+def learner_of_others():
+    """A failed server is removed while another operator's learner has not started. It is left alone."""
+    with Cluster(3, ["n4"]).running() as cluster:
+        new = cluster["n4"]
+        leader = wait_for("a server leads", cluster.leader)
+        wait_for("a learner is added", lambda: cluster.etcdctl_at(leader, "member", "add", "n4", "--learner", f"--peer-urls={new.peer}"))
+        cluster["n3"].kill()
+        output = succeeds(cluster, "remove", "n3", "--yes", "--limit", "60")
+        holds(f"the learner is not waited for:\n{output}", "waiting" not in output and "starting" not in output)
+        cluster.check_end("n1 n2 +n4")
+
+
 def quorum_is_lost():
     """With two of three servers down, no plan is made."""
     with Cluster(3, ["n4"]).running() as cluster:
@@ -199,4 +235,4 @@ def keys(cluster, server):
     return None
 
 
-TESTS = (failed_server, failed_server_comes_back, two_failed_servers, quorum_is_lost, started_too_early)
+TESTS = (failed_server, failed_server_comes_back, two_failed_servers, back_on_the_way, learner_of_others, quorum_is_lost, started_too_early)

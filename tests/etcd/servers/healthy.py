@@ -164,8 +164,41 @@ def plan_from_a_file():
         cluster.check_end(" ".join(sorted([of[b].name, of[c].name])) + " n4")
 
 
+def voter_added_at_once():
+    """A server that a plan adds as a voter at once is a learner first."""
+    with Cluster(1, ["n4"]).running() as cluster:
+        words = ["carry-out", "-", "--new", "4", "n4", cluster["n4"].peer, "--yes", "--start", start_command(cluster)]
+        shortest = plan(f"voters=({cluster.id(cluster['n1'])})", "v4", strategy="shortest")
+        holds(f"the plan has one step: {shortest}", len(shortest.splitlines()) == 1)
+        watch = Watch(cluster, "n1", "n1 +n4", "n1 n4")
+        with Gate(cluster, before=watch) as gate:
+            output = succeeds(cluster, *words, etcdctl=gate.etcdctl, answer=shortest)
+        watch.check()
+        holds(f"it is added, and promoted:\n{output}", watch.at == 3)
+        cluster.check_end("n1 n4")
+
+
+def down_and_back():
+    """A server that is down in a plan which keeps it comes back on the way. Until then etcd adds no member."""
+    with Cluster(3, ["n4"]).running() as cluster:
+        back = cluster["n3"]
+        members = f"voters=({' '.join(str(cluster.id(server)) for server in cluster.first)})"
+        with open(f"{cluster.folder}/plan", "w", encoding="utf-8") as file:
+            file.write(plan(members, "v4", "--down", str(cluster.id(back))))
+        back.kill()
+        cluster.wait_until_missed(back)
+        it = begin(cluster, "carry-out", file.name, "--new", "4", "n4", cluster["n4"].peer, "--yes", "--start", start_command(cluster))
+        shown = []
+        for line in lines(it):
+            shown.append(line)
+            if line == "  waiting: etcd changes no members now: n3 does not answer\n":
+                back.start_again()
+        holds(f"status {it.wait()}:\n{''.join(shown)}", it.returncode == 0 and "  waiting: etcd changes no members now: n3 does not answer\n" in shown)
+        cluster.check_end("n1 n2 n3 n4")
+
+
 def text_of(lines):
     return "".join(line if isinstance(line, str) else json.dumps(line) + "\n" for line in lines)
 
 
-TESTS = (all_healthy_servers, growing_and_shrinking, plan_from_a_file)
+TESTS = (all_healthy_servers, growing_and_shrinking, plan_from_a_file, voter_added_at_once, down_and_back)

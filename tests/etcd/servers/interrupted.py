@@ -1,9 +1,10 @@
 """Runs that are killed, and two operators at once."""
+import os
 import signal
 
 from checks import Broken, holds
 from clusters import Cluster
-from runs import Gate, begin, refuses, run, start_command, succeeds
+from runs import Gate, begin, built_program, refuses, run, start_command, succeeds
 
 # etcdctl, which kills the run that called it after a number of calls.
 KILLING = """#!/bin/sh
@@ -134,5 +135,19 @@ def two_operators():
         cluster.check_end(f"n1 n2 {('n4', 'n5')[statuses.index(0)] if 0 in statuses else 'n4'}")
 
 
+def no_answer():
+    """Where the program does not say what is next, nothing is changed."""
+    with Cluster(1, ["n2"]).running() as cluster:
+        script = f"{cluster.folder}/confscript"
+        for text, wanted in (("echo 'confscript: out of memory' >&2; exit 3", "next gives no answer: confscript: out of memory"),
+                             ("exit 0", "next gives no answer: it has ended"),
+                             ("""while read line; do echo '{"error":"bad key"}'; done""", "next: bad key")):
+            with open(script, "w", encoding="utf-8") as file:
+                file.write(f'#!/bin/sh\n[ "$1" = next ] || exec {built_program()} "$@"\n{text}\n')
+            os.chmod(script, 0o755)
+            refuses(cluster, text, f"{script} {wanted}", "add", f"n2={cluster['n2'].peer}", "--yes", status=3, program=script)
+        cluster.check_end("n1")
+
+
 TESTS = (killed_while_the_leader_is_replaced, killed_while_a_failed_server_comes_back, killed_while_a_failed_server_is_replaced,
-         one_run_at_a_time, two_operators)
+         one_run_at_a_time, two_operators, no_answer)

@@ -30,12 +30,12 @@ def lists_are_current():
     return tuple(int(part) for part in answer.split()[2].split(".")[:2]) >= (3, 5)
 
 
-def command(cluster, *words, endpoints=None, state="state", etcdctl=None):
+def command(cluster, *words, endpoints=None, state="state", etcdctl=None, program=None):
     """The command line of a run, and its environment. It asks the first servers, and keeps its record in the folder of
     the cluster."""
     urls = ",".join(server.client for server in (endpoints or cluster.first))
     line = [COMMAND, words[0], "--limit", str(LIMIT), "--endpoints", urls, "--etcdctl", shlex.join(etcdctl or cluster.etcdctl), *words[1:]]
-    return line, {**ENVIRONMENT, **cluster.variables, "CONFSCRIPT": built_program(), "XDG_STATE_HOME": f"{cluster.folder}/{state}"}
+    return line, {**ENVIRONMENT, **cluster.variables, "CONFSCRIPT": program or built_program(), "XDG_STATE_HOME": f"{cluster.folder}/{state}"}
 
 
 def run(cluster, *words, answer="", **others):

@@ -7,7 +7,7 @@ import struct
 import subprocess
 import termios
 
-from checks import holds
+from checks import Broken, holds
 from clusters import ENVIRONMENT, Cluster
 from runs import begin, command, lines
 
@@ -49,7 +49,7 @@ def printed_settings():
     """A new server is started with nothing but the settings that are printed, with its client URL filled in."""
     with Cluster(1, ["n2"]).running() as cluster:
         new = cluster["n2"]
-        it = begin(cluster, "add", f"n2={new.peer}", "--yes", "--limit", "60")
+        it = begin(cluster, "add", f"n2={new.peer}", "--yes", "--limit", "30")
         settings, shown = {}, []
         for line in lines(it):
             shown.append(line)
@@ -60,7 +60,8 @@ def printed_settings():
                 new.process = subprocess.Popen(["etcd", "--data-dir", new.data, "--log-outputs", new.log, "--logger=zap"], env={**ENVIRONMENT, **settings},
                                                start_new_session=True, stdin=subprocess.DEVNULL, stdout=subprocess.DEVNULL, stderr=subprocess.DEVNULL)
                 cluster.groups.append(new.process)
-        holds(f"status {it.wait()}:\n{''.join(shown)}", it.returncode == 0)
+        if it.wait():
+            raise Broken(f"status {it.returncode}:\n{''.join(shown)}")
         cluster.check_end("n1 n2")
 
 
