@@ -103,7 +103,7 @@ def runs_python(process):
     """Whether a process has become Python."""
     try:
         with open(f"/proc/{process}/cmdline", "rb") as file:
-            return b"python3\0" in file.read()
+            return file.read().startswith(b"python3\0")
     except OSError:
         return True  # it has ended
 
