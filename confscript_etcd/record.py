@@ -32,7 +32,7 @@ class Record:
 
     def removed(self, words, view, joining=()):
         """The id of the server that these words named when an interrupted run was to remove it. None if there was no such
-        run. Refused if others have changed the members since: then nobody knows what is left to do."""
+        run. Refused if others have changed the members since: then it is not known what is left to do."""
         id, members = self.read().get(words, (None, ()))
         others = [it.label for it in view.members if it.id not in members and not any(it.shares_url(new) for new in joining)]
         if id is not None and id not in {it.id for it in view.members} and others:

@@ -34,7 +34,7 @@ class Wish:
         """A member leaves that the operator named by these words, and a server takes its place, if one is given."""
         if member in self.leaving:
             raise Stop(f"{member.label} is named twice")
-        # A learner that does not answer votes for nobody, so it may be up.
+        # A learner has no vote, so one that does not answer is removed even if it is up.
         is_free = self.is_healthy if self.view.answers(member) else member.is_learner
         if not is_free:
             refuse_up(member, self.view, self.cluster, self.is_proxied)

@@ -103,7 +103,7 @@ func (c *cluster) foremost() *server {
 	return foremost
 }
 
-// view returns what the server knows of its cluster. If it does not lead, nobody is known to.
+// view returns what the server knows of its cluster. If it does not lead, no leader is known.
 func (s *server) view() confscript.View {
 	status := s.node.Status()
 	state, err := confscript.ConfStateOf(&s.state)
