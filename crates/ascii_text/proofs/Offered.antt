@@ -1,6 +1,6 @@
 -- The lemmas of this crate that the proofs of the crates above cite. No other module of its proofs is public.
 
-pub use Rattle.ascii_text.proofs.AppendedTexts.{Extends-append}
+pub use Rattle.ascii_text.proofs.AppendedTexts.{Extends-append, join-one_more}
 pub use Rattle.ascii_text.proofs.LineEnds.{is_blank-without_last, list-by_last, without_last-append, without_last-push, without_trailing_space-without_last}
 pub use Rattle.ascii_text.proofs.NumberLemmas.{ParsesToNumber-from_some, number_in-none, number_in-ok}
 pub use Rattle.ascii_text.proofs.FullLines.{first_len-bound, first_len-some, first_len-take, length-first, full_lines-first}

@@ -13,7 +13,8 @@ before_first_line b (full_line ∷ full_lines) = (b ∷ full_line) ∷ full_line
 -- the full lines of a text: it is split after each newline; the last one has no newline if the text does not end in one
 abbrev pub full_lines : List ℕ → List (List ℕ)
 full_lines [] = []
-full_lines (b ∷ bs) = if b == 10 then newline ∷ full_lines bs else before_first_line b (full_lines bs)
+full_lines (b ∷ bs) =
+    if b == 10 then newline ∷ full_lines bs else before_first_line b (full_lines bs)
 
 -- the length of the first full line
 abbrev pub first_len : List ℕ → ℕ

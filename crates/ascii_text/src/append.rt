@@ -3,7 +3,7 @@
 //! A printed text has many parts, and memory may run out between two of them. A public call that appends several parts
 //! notes the length first and ends with [`undo_if_failed`], so that it appends all of them or none.
 ghost use Rattle.std.specs.Prelude.{◌≡◌, ◌<◌, ◌^◌, ◌++◌, length, take, replicate, decimal, OnOk, OnErr};
-ghost use Rattle.ascii_text.specs.Append.{Extends};
+ghost use Rattle.ascii_text.specs.Append.{Extends, gap};
 
 use crate::no_memory::NoMemory;
 use itoa::write_digits;
@@ -28,6 +28,18 @@ pub fn append_times(text: &mut Vec<u8>, byte: u8, count: usize) -> Result<(), No
 {
     text.resize(text.len() + count, byte)?;
     Ok(())
+}
+
+/// Appends the space before the part at this index, if parts have one space between them: none before the first.
+pub fn append_gap(text: &mut Vec<u8>, index: usize) -> Result<(), NoMemory>
+    ensures ok { OnOk result (text.new.items ≡ text.old.items ++ gap index) }
+    ensures extends { Extends text.old.items text.new.items }
+{
+    if index > 0 {
+        append(text, b" ")
+    } else {
+        Ok(())
+    }
 }
 
 /// Appends a number in decimal, without leading zeros.

@@ -34,9 +34,11 @@ pub fn find_far_byte(text: &[u8], byte: u8) -> usize
 pub fn split_at_first(text: &[u8], byte: u8) -> (&[u8], &[u8])
     ensures before { result.0.now ≡ take (position_or_len (λ b. b == byte) text.now) text.now }
     ensures from { result.1.now ≡ drop (position_or_len (λ b. b == byte) text.now) text.now }
-    ensures last { length result.1.now ≡ 0 → slice_split (λ b. b == byte) text.now ≡ result.0.now ∷ [] }
+    ensures last { length result.1.now ≡ 0
+        → slice_split (λ b. b == byte) text.now ≡ result.0.now ∷ [] }
     ensures more { 0 < length result.1.now
-        → slice_split (λ b. b == byte) text.now ≡ result.0.now ∷ slice_split (λ b. b == byte) (drop 1 result.1.now) }
+        → slice_split (λ b. b == byte) text.now
+        ≡ result.0.now ∷ slice_split (λ b. b == byte) (drop 1 result.1.now) }
     ensures within { length result.1.now ≤ length text.now }
 {
     text.split_at(position_of(text, byte))

@@ -17,8 +17,10 @@ fn token_len(text: &[u8]) -> usize
 /// The first token of a text, and the text after it. A blank text has none. For ` v1 l2` they are `v1` and ` l2`.
 pub fn next_token(text: &[u8]) -> Option<(&[u8], &[u8])>
     ensures none { IsNone result ↔ (tokens_in text.now ≡ []) }
-    ensures token { IfSome result (λ parts. tokens_in text.now ≡ parts.0.now ∷ tokens_in parts.1.now) }
-    ensures whole { IfSome result (λ parts. without_leading_space text.now ≡ parts.0.now ++ parts.1.now) }
+    ensures token { IfSome result (λ parts.
+        tokens_in text.now ≡ parts.0.now ∷ tokens_in parts.1.now) }
+    ensures whole { IfSome result (λ parts.
+        without_leading_space text.now ≡ parts.0.now ++ parts.1.now) }
     ensures not_empty { IfSome result (λ parts. 0 < length parts.0.now) }
     ensures shorter { IfSome result (λ parts. length parts.1.now < length text.now) }
 {

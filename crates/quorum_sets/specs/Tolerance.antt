@@ -6,11 +6,11 @@ use Rattle.quorum_sets.specs.Voters.{Voters, majority, is_quorum}
 -- ---- over every set of ids
 -- the voters of both sets other than these ids
 abbrev pub voters_without : Voters → Ids → Ids
-voters_without voters away = ids_where (λ id. not (has away id)) (ascending voters.incoming ++ ascending voters.outgoing)
+voters_without voters uncounted = ids_where (λ id. not (has uncounted id)) (ascending voters.incoming ++ ascending voters.outgoing)
 
 -- whether the voters other than these ids are a quorum
 abbrev pub commits_without : Voters → Ids → Bool
-commits_without voters away = is_quorum voters (voters_without voters away)
+commits_without voters uncounted = is_quorum voters (voters_without voters uncounted)
 
 -- whenever at most k ids are down besides the uncounted ones, the other voters are still a quorum
 abbrev pub Tolerates : Voters → Ids → ℕ → Type 0

@@ -52,7 +52,8 @@ pub fn joint_chart<S: MemberSet, A: AckSource>(
     acks: &A,
 ) -> Result<(), NoMemory>
     ensures ok { OnOk result (text.new.items
-        ≡ text.old.items ++ chart_text (ascending (spec.union (S.ids incoming.now) (S.ids outgoing.now)))
+        ≡ text.old.items
+        ++ chart_text (ascending (spec.union (S.ids incoming.now) (S.ids outgoing.now)))
         (A.acks acks.now)) }
     ensures err { OnErr result (text.new.items ≡ text.old.items) }
 {
@@ -62,7 +63,8 @@ pub fn joint_chart<S: MemberSet, A: AckSource>(
 
 // Appends the chart of the ids.
 fn append_chart<A: AckSource>(text: &mut Vec<u8>, ids: &[u64], acks: &A) -> Result<(), NoMemory>
-    ensures ok { OnOk result (text.new.items ≡ text.old.items ++ chart_text ids.now (A.acks acks.now)) }
+    ensures ok { OnOk result
+        (text.new.items ≡ text.old.items ++ chart_text ids.now (A.acks acks.now)) }
     ensures extends { Extends text.old.items text.new.items }
 {
     if ids.is_empty() {

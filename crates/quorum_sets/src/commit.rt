@@ -48,23 +48,29 @@ pub fn joint_committed<S: MemberSet, A: AckSource>(
     ensures counted { IfOk result (IsJointCommitted (pair (S.ids incoming.now) (S.ids outgoing.now))
         (A.acks acks.now)) }
     ensures index { IfOk result (λ k.
-        k ≡ joint_committed_index (pair (S.ids incoming.now) (S.ids outgoing.now)) (A.acks acks.now)) }
-    ensures no_memory { size (S.ids incoming.now) ≤ 8 → size (S.ids outgoing.now) ≤ 8 → IsOk result }
+        k ≡ joint_committed_index (pair (S.ids incoming.now) (S.ids outgoing.now))
+        (A.acks acks.now)) }
+    ensures no_memory { size (S.ids incoming.now) ≤ 8 → size (S.ids outgoing.now) ≤ 8
+        → IsOk result }
 {
     let first = committed(alloc, incoming, acks)?;
     let second = committed(alloc, outgoing, acks)?;
     Ok(first.min(second))
 }
 
+// Acknowledged indexes. Up to 8, as many as a small set has ids, take no memory.
+type Indexes = SmallVec<u64, 8>;
+
 // Fills an empty list with the acknowledged index of each id of the set.
 fn gather<S: MemberSet, A: AckSource>(
-    indexes: &mut SmallVec<u64, 8>,
+    indexes: &mut Indexes,
     set: &S,
     acks: &A,
 ) -> Result<(), NoMemory>
     requires empty { indexes.old.items ≡ [] }
     requires room { 8 ≤ indexes.old.capacity }
-    ensures items { OnOk result (indexes.new.items ≡ acked_indexes (S.ids set.now) (A.acks acks.now)) }
+    ensures items { OnOk result
+        (indexes.new.items ≡ acked_indexes (S.ids set.now) (A.acks acks.now)) }
     ensures no_memory { size (S.ids set.now) ≤ 8 → IsOk result }
 {
     indexes.reserve(set.len())?;
@@ -85,8 +91,10 @@ const FEW: usize = 64;
 pub fn committed_of(indexes: &[u64]) -> u64
     ensures index { result ≡ committed_of indexes.now }
     ensures of_none { length indexes.now ≡ 0 → result ≡ greatest_index }
-    ensures reached { 0 < length indexes.now → length indexes.now < 2 * count_by (nat_le result) indexes.now }
-    ensures not_passed { 0 < length indexes.now → 2 * count_by (nat_lt result) indexes.now ≤ length indexes.now }
+    ensures reached { 0 < length indexes.now
+        → length indexes.now < 2 * count_by (nat_le result) indexes.now }
+    ensures not_passed { 0 < length indexes.now
+        → 2 * count_by (nat_lt result) indexes.now ≤ length indexes.now }
 {
     if indexes.is_empty() {
         return u64::MAX;
@@ -110,7 +118,8 @@ pub fn committed_of(indexes: &[u64]) -> u64
 // The first index above `least` and not above `greatest`, if there is one.
 fn index_between(indexes: &[u64], least: u64, greatest: u64) -> Option<u64>
     ensures some { IfSome result (λ index. (least < index) × (index ≤ greatest)) }
-    ensures none { result ≡ None → count_by (nat_lt least) indexes.now ≤ count_by (nat_lt greatest) indexes.now }
+    ensures none { result ≡ None
+        → count_by (nat_lt least) indexes.now ≤ count_by (nat_lt greatest) indexes.now }
 {
     for index in indexes {
         if least < *index && *index <= greatest {

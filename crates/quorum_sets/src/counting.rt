@@ -9,7 +9,8 @@ use crate::member_set::MemberSet;
 /// The number of ids that pass the test.
 pub fn count_where<S: MemberSet, F: Fn(u64) -> bool>(set: &S, test: F) -> usize
     requires { F.IsAlwaysCallable test }
-    ensures { (passes : ℕ → Bool) → Computes (F.post test) passes → result ≡ count_of passes (S.ids set.now) }
+    ensures { (passes : ℕ → Bool) → Computes (F.post test) passes
+        → result ≡ count_of passes (S.ids set.now) }
 {
     let mut count = 0;
     for position in 0..set.len() {
@@ -23,7 +24,8 @@ pub fn count_where<S: MemberSet, F: Fn(u64) -> bool>(set: &S, test: F) -> usize
 /// Whether a majority of the ids passes the test. The empty set has no majority.
 pub fn majority_passes<S: MemberSet, F: Fn(u64) -> bool>(set: &S, test: F) -> bool
     requires { F.IsAlwaysCallable test }
-    ensures { (passes : ℕ → Bool) → Computes (F.post test) passes → result ≡ majority_passes passes (S.ids set.now) }
+    ensures { (passes : ℕ → Bool) → Computes (F.post test) passes
+        → result ≡ majority_passes passes (S.ids set.now) }
 {
     count_where(set, test) >= quorum(set.len())
 }

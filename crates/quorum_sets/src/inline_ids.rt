@@ -1,6 +1,6 @@
 //! A set of ids as a sorted list.
 ghost use Rattle.std.specs.Prelude.{◌≡◌, ◌<◌, ◌≤◌, true, not, length, insert, remove, IfOk, OnOk, OnErr, IsOk, MatchResult};
-ghost use Rattle.quorum_sets.specs.Ids.{no_ids, has, with_id, size, ids_of};
+ghost use Rattle.quorum_sets.specs.Ids.{no_ids, ascending, has, with_id, size, ids_of};
 ghost use Rattle.quorum_sets.specs.AscendingLists.{IsAscending, IsAtPosition, IsInsertionPoint};
 
 use crate::member_set::MemberSet;
@@ -10,11 +10,13 @@ use smallvec::SmallVec;
 use std::alloc::Global;
 use std::marker::Model;
 
-/// A set of ids as a sorted list. A cluster has few members, so the list keeps up to 8 ids in the value itself; only a
-/// longer list can run out of memory.
+// A cluster has few members, so the list keeps up to 8 ids in the value itself.
+type SmallList = SmallVec<u64, 8>;
+
+/// A set of ids as a sorted list. Only a set of more than 8 ids can run out of memory.
 #[derive(Drop)]
 pub struct InlineIds {
-    list: SmallVec<u64, 8>,
+    list: SmallList,
 }
 
 impl Model for InlineIds {
@@ -121,6 +123,16 @@ impl MemberSet for InlineIds {
     }
 }
 
+impl InlineIds {
+    /// The ids, in ascending order.
+    pub fn as_slice(&self) -> &[u64]
+        ensures ids { result.now ≡ ascending self.now }
+        ensures ascends { IsAscending result.now }
+    {
+        self.list.as_slice()
+    }
+}
+
 // Whether the list is strictly ascending, as most lists of ids are written.
 fn is_ascending(list: &[u64]) -> bool
     ensures { result ≡ true → IsAscending list.now }
@@ -134,7 +146,7 @@ fn is_ascending(list: &[u64]) -> bool
 }
 
 // Sorts the ids and removes repeats.
-fn make_ascending(list: &mut SmallVec<u64, 8>)
+fn make_ascending(list: &mut SmallList)
     ensures ascends { IsAscending list.new.items }
     ensures same { ids_of list.new.items ≡ ids_of list.old.items }
     ensures capacity { list.new.capacity ≡ list.old.capacity }

@@ -49,7 +49,7 @@ pub use charts::{chart, joint_chart};
 pub use commit::{committed, committed_of, joint_committed, joint_committed_of};
 pub use difference::symdiff;
 pub use inline_ids::InlineIds;
-pub use lists::{add_ids, list_of};
+pub use lists::{IdList, add_ids, list_of};
 pub use lookup::contains_from;
 pub use majority::{is_quorum, quorum};
 pub use member_set::MemberSet;

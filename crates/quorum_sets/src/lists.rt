@@ -7,6 +7,9 @@ use ascii_text::NoMemory;
 use smallvec::SmallVec;
 use std::alloc::Global;
 
+/// A list of ids. Up to 16 are kept in the list itself: as many as two small sets have.
+pub type IdList = SmallVec<u64, 16>;
+
 /// The ids of a set, in ascending order.
 pub fn list_of<S: MemberSet>(alloc: Global, set: &S) -> Result<Vec<u64>, NoMemory>
     ensures { IfOk result (λ list. list.items ≡ ascending (S.ids set.now)) }
@@ -21,7 +24,7 @@ pub fn list_of<S: MemberSet>(alloc: Global, set: &S) -> Result<Vec<u64>, NoMemor
 }
 
 /// Appends the ids of a set to a list, in ascending order.
-pub fn add_ids<S: MemberSet>(ids: &mut SmallVec<u64, 16>, set: &S) -> Result<(), NoMemory>
+pub fn add_ids<S: MemberSet>(ids: &mut IdList, set: &S) -> Result<(), NoMemory>
     ensures ok { OnOk result (ids.new.items ≡ ids.old.items ++ ascending (S.ids set.now)) }
     ensures err { OnErr result (ids.new.items ≡ ids.old.items) }
 {

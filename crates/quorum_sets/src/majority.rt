@@ -18,7 +18,8 @@ pub fn quorum(n: usize) -> usize
 /// of the incoming voters and, if there are outgoing voters, more than half of these. Ids that are not voters do not
 /// count. In (2 3 4)&&(1 2 3) the ids 2 and 3 are a quorum, and 1 and 4 are not.
 pub fn is_quorum<S: MemberSet>(voters: (&S, &S), ids: &S) -> bool
-    ensures { result ≡ is_quorum (pair (S.ids voters.entry.0.now) (S.ids voters.entry.1.now)) (S.ids ids.now) }
+    ensures { result
+        ≡ is_quorum (pair (S.ids voters.entry.0.now) (S.ids voters.entry.1.now)) (S.ids ids.now) }
 {
     let (incoming, outgoing) = voters;
     majority_passes(incoming, |id| ids.contains(id))

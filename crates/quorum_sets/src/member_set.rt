@@ -43,7 +43,8 @@ pub trait MemberSet: Drop {
     ) -> Result<(), NoMemory>
         requires { IsAscending (map (λ e. e.0) edits.now) }
         ensures { OnOk result ((id : ℕ)
-            → has (ids self.new) id ≡ edited (λ e _. E.is_in e set.now) edits.now id (has (ids other.now) id)) };
+            → has (ids self.new) id
+            ≡ edited (λ e _. E.is_in e set.now) edits.now id (has (ids other.now) id)) };
 
     /// Adds the id to the set, and returns whether the set changed.
     fn insert(&mut self, id: u64) -> Result<bool, NoMemory>

@@ -22,7 +22,8 @@ pub fn may_be_down<S: MemberSet>(voters: (&S, &S), uncounted: &S) -> Option<usiz
     ensures most { IsMostDown (pair (S.ids voters.entry.0.now) (S.ids voters.entry.1.now))
         (S.ids uncounted.now) result }
     ensures counted { result
-        ≡ may_be_down (pair (S.ids voters.entry.0.now) (S.ids voters.entry.1.now)) (S.ids uncounted.now) }
+        ≡ may_be_down (pair (S.ids voters.entry.0.now) (S.ids voters.entry.1.now))
+        (S.ids uncounted.now) }
 {
     let (incoming, outgoing) = voters;
     let of_incoming = surplus(incoming, uncounted)?;
@@ -32,12 +33,13 @@ pub fn may_be_down<S: MemberSet>(voters: (&S, &S), uncounted: &S) -> Option<usiz
     Some(of_incoming.min(surplus(outgoing, uncounted)?))
 }
 
-/// Whether the voters that are not in `away` are a quorum of the pair of incoming and outgoing voters, so that they
-/// commit while those in `away` are down or have empty logs (own).
-pub fn commits_without<S: MemberSet>(voters: (&S, &S), away: &S) -> bool
-    ensures { result ≡ commits_without (pair (S.ids voters.entry.0.now) (S.ids voters.entry.1.now)) (S.ids away.now) }
+/// Whether the voters that are not in `uncounted` are a quorum of the pair of incoming and outgoing voters, so that they
+/// commit while those in `uncounted` are down or have empty logs (own).
+pub fn commits_without<S: MemberSet>(voters: (&S, &S), uncounted: &S) -> bool
+    ensures { result ≡ commits_without (pair (S.ids voters.entry.0.now) (S.ids voters.entry.1.now))
+        (S.ids uncounted.now) }
 {
-    may_be_down(voters, away).is_some()
+    may_be_down(voters, uncounted).is_some()
 }
 
 // By how many the counted ids of the set exceed a majority; `None` if they are not a majority.

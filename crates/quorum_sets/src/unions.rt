@@ -11,6 +11,9 @@ use smallvec::SmallVec;
 pub fn union<S: MemberSet>(a: &S, b: &S) -> Result<S, NoMemory>
     ensures { IfOk result (λ both. S.ids both ≡ spec.union (S.ids a.now) (S.ids b.now)) }
 {
+    if b.len() == 0 {
+        return a.try_clone();
+    }
     let alloc = a.allocator();
     let mut ids = SmallVec::new(alloc);
     add_ids(&mut ids, a)?;

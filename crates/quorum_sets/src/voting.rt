@@ -68,7 +68,8 @@ impl Tally {
 fn count_votes<S: MemberSet, V: VoteSource>(set: &S, votes: &V) -> Tally
     ensures voters { result.voters ≡ size (S.ids set.now) }
     ensures yes_votes { result.yes_votes ≡ count_of (is_yes (V.votes votes.now)) (S.ids set.now) }
-    ensures possible_yes_votes { result.possible_yes_votes ≡ count_of (may_be_yes (V.votes votes.now)) (S.ids set.now) }
+    ensures possible_yes_votes { result.possible_yes_votes
+        ≡ count_of (may_be_yes (V.votes votes.now)) (S.ids set.now) }
 {
     let voters = set.len();
     let mut yes_votes = 0;
@@ -90,7 +91,8 @@ fn count_votes<S: MemberSet, V: VoteSource>(set: &S, votes: &V) -> Tally
 /// The result of the vote of a joint configuration: won if both sets win it, lost if one loses it, else pending
 /// (`JointConfig.VoteResult` of etcd's package `quorum`).
 pub fn joint_vote<S: MemberSet, V: VoteSource>(incoming: &S, outgoing: &S, votes: &V) -> VoteResult
-    ensures { result ≡ joint_vote_result (pair (S.ids incoming.now) (S.ids outgoing.now)) (V.votes votes.now) }
+    ensures { result
+        ≡ joint_vote_result (pair (S.ids incoming.now) (S.ids outgoing.now)) (V.votes votes.now) }
 {
     joint_result(vote(incoming, votes), vote(outgoing, votes))
 }
@@ -99,7 +101,8 @@ pub fn joint_vote<S: MemberSet, V: VoteSource>(incoming: &S, outgoing: &S, votes
 /// (`JointConfig.VoteResult` of etcd's package `quorum`).
 pub fn joint_result(incoming: VoteResult, outgoing: VoteResult) -> VoteResult
     ensures both { result ≡ both incoming outgoing }
-    ensures listed { (first second : List (Option Bool)) → incoming ≡ vote_of first → outgoing ≡ vote_of second
+    ensures listed { (first second : List (Option Bool)) → incoming ≡ vote_of first
+        → outgoing ≡ vote_of second
         → result ≡ joint_vote_of first second }
 {
     match (incoming, outgoing) {

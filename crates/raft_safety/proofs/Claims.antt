@@ -7,24 +7,14 @@ use Rattle.std.proofs.lemmas.Bool.Decides.{nat_tests}
 use Rattle.conf_change.specs.Configuration.{Configuration}
 use Rattle.raft_safety.specs.Logs.{Entry, Log, IsPrefix, entry_at}
 use Rattle.raft_safety.specs.Cluster.{Commitment, Cluster, In}
-use Rattle.raft_safety.specs.Claims.{LeaderCompleteness, CommittedIsStored, LogMatching, StateMachineSafety, IsCommittedIn, CommitOneLog}
+use Rattle.raft_safety.specs.Claims.{ElectionSafety, LeaderCompleteness, CommittedIsStored, LogMatching, StateMachineSafety, IsCommittedIn, CommitOneLog}
 use Rattle.raft_safety.proofs.Logs.{IsPrefix-length}
 use Rattle.raft_safety.proofs.Invariants.{IsKnown, AreInvariants, IsElectedWith-leads}
+use Rattle.raft_safety.proofs.Safety.OneLeader.{ElectionSafety-from_invariants}
 use Rattle.raft_safety.proofs.Safety.CommittedChain.{AreAlike}
 use Rattle.raft_safety.proofs.Safety.CompleteLeaders.{IsComplete-each_term}
 use Rattle.raft_safety.proofs.Safety.KnownCommitted.{IsKnown-one_chain}
 use Rattle.raft_safety.proofs.FromLeaders.{logs-match}
-
--- ---- one state
-pub LeaderCompleteness-from_invariants : (first : Configuration) (c : Cluster) → AreInvariants first c → LeaderCompleteness c
-LeaderCompleteness-from_invariants first c i m term leader in_m leads below = IsComplete-each_term first c i term m leader in_m below leads
-
-pub LogMatching-from_invariants : (first : Configuration) (c : Cluster) → AreInvariants first c → LogMatching c
-LogMatching-from_invariants first c i one other a b before_a before_b p q place same =
-    logs-match first c i (c.servers one).log (c.servers other).log (i.servers one).from_leaders (i.servers other).from_leaders a b before_a before_b p q place same
-
-pub CommittedIsStored-from_invariants : (first : Configuration) (c : Cluster) → AreInvariants first c → CommittedIsStored c
-CommittedIsStored-from_invariants first c i server = (i.servers server).stored
 
 -- ---- two states
 -- each commitment of the first state is one of the second
@@ -44,7 +34,7 @@ known_committed : (first : Configuration) (c : Cluster) → AreInvariants first 
 known_committed first c i log (inl at) = ((c.servers at.0).term + 1, subst (IsKnown c ((c.servers at.0).term + 1)) (sym at.1) (i.servers at.0).known)
 known_committed first c i log (inr at) = (at.2.0.request.term + 1, subst (IsKnown c (at.2.0.request.term + 1)) (sym at.3) (IsElectedWith-leads first c i at.0 at.1 at.2).known)
 
-pub CommitOneLog-from_invariants : (first : Configuration) (c d : Cluster) → AreInvariants first c → AreInvariants first d → AreCommitmentsKept c d → CommitOneLog c d
+CommitOneLog-from_invariants : (first : Configuration) (c d : Cluster) → AreInvariants first c → AreInvariants first d → AreCommitmentsKept c d → CommitOneLog c d
 CommitOneLog-from_invariants first c d i j kept one other at_one at_other =
     let a = known_committed first c i one at_one in
     let b = known_committed first d j other at_other in
@@ -74,8 +64,25 @@ same_entries : (a b : Log) (index : ℕ) (one other : Entry) → AreAlike a b �
 same_entries a b index one other (inl p) x y = let e : entry_at b index ≡ Some one = entry_at_prefix a b index one p x in cc
 same_entries a b index one other (inr p) x y = let e : entry_at a index ≡ Some other = entry_at_prefix b a index other p y in cc
 
-pub StateMachineSafety-from_invariants : (first : Configuration) (c d : Cluster) → AreInvariants first c → AreInvariants first d → AreCommitmentsKept c d → StateMachineSafety c d
-StateMachineSafety-from_invariants first c d i j kept one other index a b at_one at_other =
-    same_entries (c.servers one).committed (d.servers other).committed index a b
-    (CommitOneLog-from_invariants first c d i j kept (c.servers one).committed (d.servers other).committed (inl (one, refl)) (inl (other, refl)))
-    at_one at_other
+-- all claims of a run: of its end, and of an earlier moment and its end
+pub record AreClaims (early late : Cluster) : Type 0 where
+  pub election_safety : ElectionSafety late
+  pub leader_completeness : LeaderCompleteness late
+  pub log_matching : LogMatching late
+  pub stored : CommittedIsStored late
+  pub state_machine_safety : StateMachineSafety early late
+  pub one_log : CommitOneLog early late
+
+pub AreClaims-from_invariants : (first : Configuration) (c d : Cluster) → AreInvariants first c → AreInvariants first d → AreCommitmentsKept c d → AreClaims c d
+AreClaims-from_invariants first c d i j kept = record {
+  election_safety = ElectionSafety-from_invariants first d j;
+  leader_completeness = λ m term leader in_m leads below. IsComplete-each_term first d j term m leader in_m below leads;
+  log_matching = λ one other a b before_a before_b p q place same.
+      logs-match first d j (d.servers one).log (d.servers other).log (j.servers one).from_leaders (j.servers other).from_leaders a b before_a before_b p q place same;
+  stored = λ server. (j.servers server).stored;
+  state_machine_safety = λ one other index a b at_one at_other.
+      same_entries (c.servers one).committed (d.servers other).committed index a b
+      (CommitOneLog-from_invariants first c d i j kept (c.servers one).committed (d.servers other).committed (inl (one, refl)) (inl (other, refl)))
+      at_one at_other;
+  one_log = CommitOneLog-from_invariants first c d i j kept;
+}

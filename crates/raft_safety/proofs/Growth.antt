@@ -4,8 +4,8 @@ use Rattle.std.proofs.Common.{◌≡◌, ℕ, ◌+◌, ◌≤◌, ◌<◌, ◌�
 use Rattle.quorum_sets.specs.Ids.{has}
 use Rattle.conf_change.specs.Configuration.{Configuration}
 use Rattle.raft_safety.specs.Logs.{Log, IsPrefix, last_term}
-use Rattle.raft_safety.specs.Cluster.{VoteRequest, Election, Acknowledgement, Commitment, Cluster, In, Leads, Server, Vote, Leadership, with_value}
-use Rattle.raft_safety.proofs.Invariants.{IsKept, IsKnown, HasVoted, AreInvariants, log_of, HasAcknowledged, IsServer, IsRequest, IsElectedWith, IsVote, IsCommitment, IsFromLeaders, IsAcknowledged, DoVotersKeep}
+use Rattle.raft_safety.specs.Cluster.{VoteRequest, Election, Acknowledgement, Commitment, Cluster, In, Leads, Server, Vote, Leadership, with_value, HasVoted, HasAcknowledged}
+use Rattle.raft_safety.proofs.Invariants.{IsKept, IsKnown, AreInvariants, log_of, IsServer, IsRequest, IsElectedWith, IsVote, IsCommitment, IsFromLeaders, IsAcknowledged, DoVotersKeep}
 use Rattle.raft_safety.proofs.Updates.{with_value-each}
 use Rattle.raft_safety.proofs.Logs.{IsPrefix-trans}
 

@@ -5,7 +5,7 @@ use Rattle.quorum_sets.specs.Ids.{has}
 use Rattle.conf_change.specs.Configuration.{Configuration}
 use Rattle.raft_safety.specs.Logs.{Entry, Log, IsPrefix, last_term}
 use Rattle.raft_safety.specs.Configurations.{IsQuorumAfter, IsOneChangeBeyond}
-use Rattle.raft_safety.specs.Cluster.{Server, Vote, VoteRequest, Election, Leadership, Acknowledgement, Commitment, Cluster, In, Leads}
+use Rattle.raft_safety.specs.Cluster.{Server, Vote, VoteRequest, Election, Leadership, Acknowledgement, Commitment, Cluster, In, Leads, HasVoted, HasAcknowledged}
 
 -- ---- words
 -- the log of a term's leader
@@ -34,14 +34,6 @@ IsKept c log after before = (term leader : ℕ) → after < term → term < befo
 -- the log is empty, or was committed, as a part, by a leader of a term below the bound
 abbrev pub IsKnown : Cluster → ℕ → Log → Type 0
 IsKnown c bound log = (log ≡ []) ⊎ ((m : Commitment) × In m c.commitments × (m.term < bound) × IsPrefix log m.log)
-
--- the voter voted for the candidate in the term
-abbrev pub HasVoted : Cluster → ℕ → ℕ → ℕ → Type 0
-HasVoted c term voter candidate = In (record { term = term; voter = voter; candidate = candidate }) c.votes
-
--- the server acknowledged at least the log in the term
-abbrev pub HasAcknowledged : Cluster → ℕ → ℕ → Log → Type 0
-HasAcknowledged c term server log = (more : Log) × In (record { term = term; server = server; log = more }) c.acknowledgements × IsPrefix log more
 
 -- ---- invariants
 -- of the state of a server

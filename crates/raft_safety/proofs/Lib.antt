@@ -8,6 +8,7 @@ mod FromLeaders
 mod Safety
 mod Steps
 mod Claims
+mod Runs
 mod Theorem
 mod Appending
 mod Etcd
@@ -15,4 +16,3 @@ mod Disk
 mod Waiting
 mod NoVoters
 mod Library
-mod WorkedExamples

@@ -3,7 +3,6 @@ pub mod OneServer
 pub mod Campaign
 pub mod GrantVote
 pub mod BecomeLeader
-pub mod Learn
-pub mod Propose
+pub mod OneLeader
 pub mod Receive
 pub mod Commit

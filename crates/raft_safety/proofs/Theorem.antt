@@ -1,20 +1,18 @@
 -- The theorem: the invariants hold before anything happens, each action keeps them, and the claims follow.
-use Rattle.std.proofs.Common.{◌≡◌, List, [], ◌∷◌, ◌++◌, refl, sym, subst, inl, inr, arith}
+use Rattle.std.proofs.Common.{List, ◌++◌, refl, inl, inr, arith}
 use Rattle.conf_change.specs.Configuration.{Configuration}
-use Rattle.raft_safety.specs.Cluster.{Commitment, Cluster, In, new_cluster}
+use Rattle.raft_safety.specs.Cluster.{Cluster, new_cluster}
 use Rattle.raft_safety.specs.Steps.{Action, Campaign, SeeTerm, GrantVote, BecomeLeader, Learn, Propose, Receive, Commit, Restart, IsAllowed, AreAllowed, after_action, after_actions}
-use Rattle.raft_safety.specs.Claims.{ElectionSafety, LeaderCompleteness, CommittedIsStored, LogMatching, StateMachineSafety, CommitOneLog}
 use Rattle.raft_safety.proofs.Invariants.{AreInvariants}
-use Rattle.raft_safety.proofs.Safety.OneLeader.{ElectionSafety-from_invariants}
 use Rattle.raft_safety.proofs.Steps.OneServer.{restart-keeps, see_term-keeps}
 use Rattle.raft_safety.proofs.Steps.Campaign.{campaign-keeps}
 use Rattle.raft_safety.proofs.Steps.GrantVote.{grant_vote-keeps}
 use Rattle.raft_safety.proofs.Steps.BecomeLeader.{become_leader-keeps}
-use Rattle.raft_safety.proofs.Steps.Learn.{learn-keeps}
-use Rattle.raft_safety.proofs.Steps.Propose.{propose-keeps}
+use Rattle.raft_safety.proofs.Steps.OneLeader.{learn-keeps, propose-keeps}
 use Rattle.raft_safety.proofs.Steps.Receive.{receive-keeps}
 use Rattle.raft_safety.proofs.Steps.Commit.{commit-keeps}
-use Rattle.raft_safety.proofs.Claims.{AreCommitmentsKept, LeaderCompleteness-from_invariants, LogMatching-from_invariants, CommittedIsStored-from_invariants, CommitOneLog-from_invariants, StateMachineSafety-from_invariants}
+use Rattle.raft_safety.proofs.Claims.{AreCommitmentsKept, AreClaims}
+use Rattle.raft_safety.proofs.Runs.{all-keep, claims-of_run}
 
 -- ---- every state that is reached
 pub AreInvariants-new : (first : Configuration) → AreInvariants first new_cluster
@@ -43,62 +41,14 @@ action_keeps first c (Receive server term leader sent known after) may i = recei
 action_keeps first c (Commit leader commitment) may i = commit-keeps first c leader commitment may i
 action_keeps first c (Restart server known) may i = restart-keeps first c server known may i
 
-actions_keep : (first : Configuration) (c : Cluster) (actions : List Action) → AreAllowed first c actions → AreInvariants first c → AreInvariants first (after_actions c actions)
-actions_keep first c [] allowed i = i
-actions_keep first c (action ∷ actions) allowed i = actions_keep first (after_action c action) actions allowed.1 (action_keeps first c action allowed.0 i)
-
 pub AreInvariants-reached : (first : Configuration) (actions : List Action) → AreAllowed first new_cluster actions → AreInvariants first (after_actions new_cluster actions)
-AreInvariants-reached first actions allowed = actions_keep first new_cluster actions allowed (AreInvariants-new first)
-
--- ---- two moments
-commitments_after_action : (c : Cluster) (action : Action) (m : Commitment) → In m c.commitments → In m (after_action c action).commitments
-commitments_after_action c (Campaign server term counted) m x = x
-commitments_after_action c (SeeTerm server term) m x = x
-commitments_after_action c (GrantVote voter request) m x = x
-commitments_after_action c (BecomeLeader request votes) m x = x
-commitments_after_action c (Learn term leader known) m x = x
-commitments_after_action c (Propose term leader entry) m x = x
-commitments_after_action c (Receive server term leader sent known after) m x = x
-commitments_after_action c (Commit leader commitment) m x = inr x
-commitments_after_action c (Restart server known) m x = x
-
-commitments_after_actions : (c : Cluster) (actions : List Action) (m : Commitment) → In m c.commitments → In m (after_actions c actions).commitments
-commitments_after_actions c [] m x = x
-commitments_after_actions c (action ∷ actions) m x = commitments_after_actions (after_action c action) actions m (commitments_after_action c action m x)
-
-after_append_of : (c : Cluster) (early late : List Action) → after_actions c (early ++ late) ≡ after_actions (after_actions c early) late
-after_append_of c [] late = refl
-after_append_of c (action ∷ early) late = after_append_of (after_action c action) early late
-
-allowed_first : (first : Configuration) (c : Cluster) (early late : List Action) → AreAllowed first c (early ++ late) → AreAllowed first c early
-allowed_first first c [] late allowed = tt
-allowed_first first c (action ∷ early) late allowed = (allowed.0, allowed_first first (after_action c action) early late allowed.1)
-
-commitments_kept : (early late : List Action) → AreCommitmentsKept (after_actions new_cluster early) (after_actions new_cluster (early ++ late))
-commitments_kept early late m x =
-    subst (λ (c : Cluster). In m c.commitments) (sym (after_append_of new_cluster early late)) (commitments_after_actions (after_actions new_cluster early) late m x)
+AreInvariants-reached first actions allowed = all-keep after_action (IsAllowed first) (AreInvariants first) (action_keeps first) new_cluster actions allowed (AreInvariants-new first)
 
 -- ---- the claims
-pub ElectionSafety-reached : (first : Configuration) (actions : List Action) → AreAllowed first new_cluster actions → ElectionSafety (after_actions new_cluster actions)
-ElectionSafety-reached first actions allowed = ElectionSafety-from_invariants first (after_actions new_cluster actions) (AreInvariants-reached first actions allowed)
+stay : (c : Cluster) (action : Action) → AreCommitmentsKept c (after_action c action)
+stay c (Commit leader commitment) m x = inr x
+stay c action m x = x
 
-pub LeaderCompleteness-reached : (first : Configuration) (actions : List Action) → AreAllowed first new_cluster actions → LeaderCompleteness (after_actions new_cluster actions)
-LeaderCompleteness-reached first actions allowed = LeaderCompleteness-from_invariants first (after_actions new_cluster actions) (AreInvariants-reached first actions allowed)
-
-pub LogMatching-reached : (first : Configuration) (actions : List Action) → AreAllowed first new_cluster actions → LogMatching (after_actions new_cluster actions)
-LogMatching-reached first actions allowed = LogMatching-from_invariants first (after_actions new_cluster actions) (AreInvariants-reached first actions allowed)
-
-pub CommittedIsStored-reached : (first : Configuration) (actions : List Action) → AreAllowed first new_cluster actions → CommittedIsStored (after_actions new_cluster actions)
-CommittedIsStored-reached first actions allowed = CommittedIsStored-from_invariants first (after_actions new_cluster actions) (AreInvariants-reached first actions allowed)
-
-pub CommitOneLog-reached : (first : Configuration) (early late : List Action) → AreAllowed first new_cluster (early ++ late)
-    → CommitOneLog (after_actions new_cluster early) (after_actions new_cluster (early ++ late))
-CommitOneLog-reached first early late allowed =
-    CommitOneLog-from_invariants first (after_actions new_cluster early) (after_actions new_cluster (early ++ late))
-    (AreInvariants-reached first early (allowed_first first new_cluster early late allowed)) (AreInvariants-reached first (early ++ late) allowed) (commitments_kept early late)
-
-pub StateMachineSafety-reached : (first : Configuration) (early late : List Action) → AreAllowed first new_cluster (early ++ late)
-    → StateMachineSafety (after_actions new_cluster early) (after_actions new_cluster (early ++ late))
-StateMachineSafety-reached first early late allowed =
-    StateMachineSafety-from_invariants first (after_actions new_cluster early) (after_actions new_cluster (early ++ late))
-    (AreInvariants-reached first early (allowed_first first new_cluster early late allowed)) (AreInvariants-reached first (early ++ late) allowed) (commitments_kept early late)
+pub claims-reached : (first : Configuration) (early late : List Action) → AreAllowed first new_cluster (early ++ late) → AreClaims (after_actions new_cluster early) (after_actions new_cluster (early ++ late))
+claims-reached first =
+    claims-of_run after_action (IsAllowed first) (AreInvariants first) (action_keeps first) (λ c. c) (λ c action may i. stay c action) first (λ c i. i) new_cluster (AreInvariants-new first)

@@ -24,4 +24,5 @@ with_entries log index (entry ∷ entries) = with_entry (with_entries log index 
 -- the log has entries of these terms already, at the places after the index: with them it is as it was
 abbrev pub has_entries : Log → ℕ → List Entry → Bool
 has_entries log index [] = true
-has_entries log index (entry ∷ entries) = has_entries log index entries && nat_eq (term_at log (index + length entries + 1)) entry.term
+has_entries log index (entry ∷ entries) =
+    has_entries log index entries && nat_eq (term_at log (index + length entries + 1)) entry.term

@@ -2,7 +2,7 @@
 -- lost its term, its log or its votes is not this server any more.
 use Rattle.std.specs.Prelude.{◌≡◌, ℕ, ◌⊎◌, List, [], ◌∷◌, nat_eq, if◌then◌else◌}
 use Rattle.quorum_sets.specs.Ids.{Ids}
-use Rattle.raft_safety.specs.Logs.{Log}
+use Rattle.raft_safety.specs.Logs.{Log, IsPrefix}
 
 -- a server: its term, its log, and the part of the log that it knows to be committed. The first two are durable; of the
 -- third, what the rule Restart asks
@@ -81,4 +81,15 @@ new_cluster = record {
 
 -- the server leads the term
 abbrev pub Leads : Cluster → ℕ → ℕ → Type 0
-Leads c term server = (election : Election) × In election c.elections × (election.request.term ≡ term) × (election.request.candidate ≡ server)
+Leads c term server =
+    (election : Election) × In election c.elections × (election.request.term ≡ term)
+    × (election.request.candidate ≡ server)
+
+-- the voter voted for the candidate in the term
+abbrev pub HasVoted : Cluster → ℕ → ℕ → ℕ → Type 0
+HasVoted c term voter candidate = In (record { term = term; voter = voter; candidate = candidate }) c.votes
+
+-- the server acknowledged a log that begins with this one, in the term
+abbrev pub HasAcknowledged : Cluster → ℕ → ℕ → Log → Type 0
+HasAcknowledged c term server log =
+    (more : Log) × In (record { term = term; server = server; log = more }) c.acknowledgements × IsPrefix log more

@@ -1,8 +1,8 @@
 -- The state of a cluster where memory and disk are apart: the cluster of EtcdCluster.antt, and what that leaves out, which is
 -- what servers have done and not saved, what they said, and what applications were given.
 use Rattle.std.specs.Prelude.{ℕ, Bool, List, []}
-use Rattle.raft_safety.specs.Logs.{Log}
-use Rattle.raft_safety.specs.Cluster.{Vote, VoteRequest, Acknowledgement, Commitment, Server}
+use Rattle.raft_safety.specs.Logs.{Log, IsPrefix}
+use Rattle.raft_safety.specs.Cluster.{Vote, VoteRequest, Acknowledgement, Commitment, Server, In}
 use Rattle.raft_safety.specs.EtcdCluster.{EtcdCluster, new_etcd_cluster}
 use Rattle.raft_safety.specs.EtcdRules.{EtcdAction}
 use Rattle.raft_safety.specs.EtcdRuns.{after_etcd_actions}
@@ -56,3 +56,12 @@ new_disk_cluster looks = record {
   applied = λ server. [];
   configured = λ server. [];
 }
+
+-- the voter said that it voted for the candidate in the term
+abbrev pub HasSaidVote : DiskCluster → ℕ → ℕ → ℕ → Type 0
+HasSaidVote d term voter candidate = In (Grant (record { term = term; voter = voter; candidate = candidate })) d.said
+
+-- the server said that its log begins with this one of the term's leader
+abbrev pub HasSaidAcknowledged : DiskCluster → ℕ → ℕ → Log → Type 0
+HasSaidAcknowledged d term server log =
+    (more : Log) × In (Acknowledge (record { term = term; server = server; log = more })) d.said × IsPrefix log more

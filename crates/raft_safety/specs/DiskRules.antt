@@ -16,12 +16,12 @@ use Rattle.quorum_sets.specs.Ids.{Ids, has}
 use Rattle.conf_change.specs.Configuration.{Configuration}
 use Rattle.raft_safety.specs.Logs.{Entry, Log, IsPrefix, last_term}
 use Rattle.raft_safety.specs.Configurations.{IsQuorumAfter, IsOneChangeBeyond}
-use Rattle.raft_safety.specs.Cluster.{In, Leads}
+use Rattle.raft_safety.specs.Cluster.{HasAcknowledged, In, Leads}
 use Rattle.raft_safety.specs.EtcdCluster.{Candidacy, EtcdCluster}
 use Rattle.raft_safety.specs.EtcdRules.{EtcdAction, HasAppliedSince, MayCampaignApplied, MayProposeApplied, MaySend, MayApply, MayRestartDurable, IsAllowedByEtcd}
 use Rattle.raft_safety.specs.EtcdRules as etcd
 use Rattle.raft_safety.specs.EtcdRuns.{after_etcd_actions}
-use Rattle.raft_safety.specs.DiskCluster.{Message, Ask, Grant, Acknowledge, Raised, DiskCluster, memory, in_memory}
+use Rattle.raft_safety.specs.DiskCluster.{Message, Ask, Grant, Acknowledge, Raised, DiskCluster, HasSaidAcknowledged, HasSaidVote, memory, in_memory}
 
 -- what a message speaks of is on disk: the term and the vote; the term and the entries
 abbrev pub IsSaved : EtcdCluster → Message → Type 0
@@ -34,15 +34,10 @@ abbrev pub IsOwn : ℕ → EtcdAction → Type 0
 IsOwn server (etcd.Campaign s term applied) = s ≡ server
 IsOwn server (etcd.SeeTerm s term) = s ≡ server
 IsOwn server (etcd.GrantVote voter request) = voter ≡ server
-IsOwn server (etcd.BecomeLeader candidacy votes) = ⊥
-IsOwn server (etcd.Propose term leader entry) = ⊥
-IsOwn server (etcd.Send term leader before entries) = ⊥
 IsOwn server (etcd.Receive s append) = s ≡ server
 IsOwn server (etcd.Answer s term leader) = s ≡ server
 IsOwn server (etcd.Heartbeat s term leader known) = s ≡ server
-IsOwn server (etcd.Commit term leader log servers) = ⊥
-IsOwn server (etcd.Apply term leader log) = ⊥
-IsOwn server (etcd.Restart s known) = ⊥
+IsOwn server action = ⊥
 
 -- the server has heard what the action answers. Campaign is no answer
 abbrev pub IsHeard : DiskCluster → EtcdAction → Type 0
@@ -90,7 +85,8 @@ pub record MaySay (d : DiskCluster) (message : Message) : Type 0 where
 pub record MayLead (first : Configuration) (d : DiskCluster) (candidacy : Candidacy) (votes : Ids) : Type 0 where
   pub asked : In candidacy d.disk.candidacies
   pub not_yet : ¬ Leads d.disk.cluster candidacy.request.term candidacy.request.candidate
-  pub voted : (voter : ℕ) → has votes voter ≡ true → In (Grant (record { term = candidacy.request.term; voter = voter; candidate = candidacy.request.candidate })) d.said
+  pub voted : (voter : ℕ) → has votes voter ≡ true
+      → HasSaidVote d candidacy.request.term voter candidacy.request.candidate
   pub counted : Log
   pub in_force : HasAppliedSince candidacy counted
   pub quorum : IsQuorumAfter first counted votes
@@ -101,16 +97,17 @@ pub record MayRaise (first : Configuration) (d : DiskCluster) (term leader : ℕ
   pub in_log : IsPrefix log (d.disk.cluster.leaderships term leader).log
   pub own_term : last_term log ≡ term
   pub acknowledged : (server : ℕ) → has servers server ≡ true → ¬ (server ≡ leader)
-      → (more : Log) × In (Acknowledge (record { term = term; server = server; log = more })) d.said × IsPrefix log more
+      → HasSaidAcknowledged d term server log
   pub quorum : IsQuorumAfter first (d.disk.applied term leader) servers
 
 -- a leader may use a commit index: from here on it may send it and apply up to it
 pub record MayUse (d : DiskCluster) (raised : Raised) : Type 0 where
   pub rose : In raised d.raised
-  pub rises : length (d.disk.cluster.leaderships raised.commitment.term raised.leader).committed < length raised.commitment.log
+  pub rises :
+      length (d.disk.cluster.leaderships raised.commitment.term raised.leader).committed < length raised.commitment.log
   -- if its own server was counted, that has the entries on disk
   pub own_saved : has raised.commitment.servers raised.leader ≡ true
-      → (more : Log) × In (record { term = raised.commitment.term; server = raised.leader; log = more }) d.disk.cluster.acknowledgements × IsPrefix raised.commitment.log more
+      → HasAcknowledged d.disk.cluster raised.commitment.term raised.leader raised.commitment.log
 
 -- a server may apply what it knows to be committed, on disk or not: a leader has committed that
 pub record MayApplyInMemory (d : DiskCluster) (server : ℕ) (log : Log) : Type 0 where
@@ -125,7 +122,8 @@ pub record MayCrash (d : DiskCluster) (server : ℕ) (known applied configured :
 
 -- the rules allow the action
 abbrev pub IsAllowedOnDisk : Configuration → DiskCluster → DiskAction → Type 0
-IsAllowedOnDisk first d (Campaign server term) = MayCampaignApplied first (memory d server) server term (d.applied server)
+IsAllowedOnDisk first d (Campaign server term) =
+    MayCampaignApplied first (memory d server) server term (d.applied server)
 IsAllowedOnDisk first d (Take server action) = MayTakeInMemory first d server action
 IsAllowedOnDisk first d (Save server saved rest commit) = MaySave first d server saved rest commit
 IsAllowedOnDisk first d (Say message) = MaySay d message

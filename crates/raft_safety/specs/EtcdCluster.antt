@@ -43,4 +43,5 @@ new_etcd_cluster looks = record {
 
 -- the cluster after the leader has applied up to the log
 abbrev pub with_applied : EtcdCluster → ℕ → ℕ → Log → EtcdCluster
-with_applied e term leader log = record e { applied = with_value e.applied term (with_value (e.applied term) leader log) }
+with_applied e term leader log =
+    record e { applied = with_value e.applied term (with_value (e.applied term) leader log) }

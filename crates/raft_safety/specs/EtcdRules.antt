@@ -20,7 +20,7 @@ use Rattle.quorum_sets.specs.Ids.{Ids, has}
 use Rattle.conf_change.specs.Configuration.{Configuration}
 use Rattle.raft_safety.specs.Logs.{Entry, Log, IsPrefix, last_term}
 use Rattle.raft_safety.specs.Configurations.{IsQuorumAfter, IsOneChangeBeyond, voter_changes}
-use Rattle.raft_safety.specs.Cluster.{Server, VoteRequest, In, Leads}
+use Rattle.raft_safety.specs.Cluster.{Server, VoteRequest, HasAcknowledged, HasVoted, In, Leads}
 use Rattle.raft_safety.specs.Steps.{MaySeeTerm, MayGrantVote}
 use Rattle.raft_safety.specs.Appending.{term_at}
 use Rattle.raft_safety.specs.EtcdCluster.{Append, Candidacy, EtcdCluster}
@@ -67,7 +67,8 @@ pub record MayBecomeLeaderApplied (first : Configuration) (e : EtcdCluster) (can
   -- and does not lead the term yet
   pub not_yet : ¬ Leads e.cluster candidacy.request.term candidacy.request.candidate
   -- these servers voted for it in its term
-  pub voted : (voter : ℕ) → has votes voter ≡ true → In (record { term = candidacy.request.term; voter = voter; candidate = candidacy.request.candidate }) e.cluster.votes
+  pub voted : (voter : ℕ) → has votes voter ≡ true
+      → HasVoted e.cluster candidacy.request.term voter candidacy.request.candidate
   -- votes are counted by the configuration in force at the candidate
   pub counted : Log
   pub in_force : HasAppliedSince candidacy counted
@@ -82,7 +83,8 @@ pub record MayProposeApplied (first : Configuration) (e : EtcdCluster) (term lea
   -- once it is applied (as the joint configuration left twice) is not one
   pub one_at_a_time :
       let log = (e.cluster.leaderships term leader).log in
-      (voter_changes first (entry ∷ log) ≡ voter_changes first log) ⊎ (voter_changes first log ≡ voter_changes first (e.applied term leader))
+      (voter_changes first (entry ∷ log) ≡ voter_changes first log)
+      ⊎ (voter_changes first log ≡ voter_changes first (e.applied term leader))
 
 -- a leader may send entries
 pub record MaySend (e : EtcdCluster) (term leader : ℕ) (before entries : Log) : Type 0 where
@@ -113,7 +115,7 @@ pub record MayTakeHeartbeat (e : EtcdCluster) (server term leader : ℕ) (known 
   -- a heartbeat has no more than the leader's commit index
   pub committed : IsPrefix known (e.cluster.leaderships term leader).committed
   -- nor more than what the server acknowledged in the term
-  pub acknowledged : (log : Log) × In (record { term = term; server = server; log = log }) e.cluster.acknowledgements × IsPrefix known log
+  pub acknowledged : HasAcknowledged e.cluster term server known
 
 -- a leader may commit its log up to an entry
 pub record MayCommitApplied (first : Configuration) (e : EtcdCluster) (term leader : ℕ) (log : Log) (servers : Ids) : Type 0 where
@@ -124,7 +126,7 @@ pub record MayCommitApplied (first : Configuration) (e : EtcdCluster) (term lead
   -- a leader counts acknowledgements only for an entry of its own term
   pub own_term : last_term log ≡ term
   -- these servers acknowledged it, in this term
-  pub acknowledged : (server : ℕ) → has servers server ≡ true → (more : Log) × In (record { term = term; server = server; log = more }) e.cluster.acknowledgements × IsPrefix log more
+  pub acknowledged : (server : ℕ) → has servers server ≡ true → HasAcknowledged e.cluster term server log
   -- acknowledgements are counted by the configuration in force at the leader, which is the one that it has applied
   pub quorum : IsQuorumAfter first (e.applied term leader) servers
 

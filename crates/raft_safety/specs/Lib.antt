@@ -1,3 +1,4 @@
+pub mod Runs
 pub mod Logs
 pub mod Configurations
 pub mod Cluster

@@ -35,7 +35,9 @@ entry_at (entry ∷ log) index = if nat_eq index (length (entry ∷ log)) then S
 
 -- the candidate's log is at least as up to date as the voter's (Raft's rule for votes)
 abbrev pub IsUpToDate : Log → Log → Type 0
-IsUpToDate candidate voter = (last_term voter < last_term candidate) ⊎ ((last_term candidate ≡ last_term voter) × (length voter ≤ length candidate))
+IsUpToDate candidate voter =
+    (last_term voter < last_term candidate)
+    ⊎ ((last_term candidate ≡ last_term voter) × (length voter ≤ length candidate))
 
 -- the longer of two logs; the first if they have one length
 abbrev pub longer : Log → Log → Log

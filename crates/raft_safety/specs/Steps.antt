@@ -18,12 +18,13 @@
 -- - a restart: Restart. What was not durable yet, and so was not answered, was not taken
 -- - PreVote, CheckQuorum, reads, and a leader that steps down: nothing; a transfer of leadership: Campaign of its target
 -- - a server that is added: a server with an empty log. One that is removed may go on, vote and campaign
-use Rattle.std.specs.Prelude.{◌≡◌, ℕ, ◌<◌, ◌≤◌, ◌⊎◌, true, List, [], ◌∷◌, length}
+use Rattle.std.specs.Prelude.{◌≡◌, ℕ, ◌<◌, ◌≤◌, ◌⊎◌, true, List, ◌∷◌, length}
 use Rattle.quorum_sets.specs.Ids.{Ids, has}
 use Rattle.conf_change.specs.Configuration.{Configuration}
+use Rattle.raft_safety.specs.Runs.{after_all, AfterEach, AreAllAllowed, AtTwo}
 use Rattle.raft_safety.specs.Logs.{Entry, Log, IsPrefix, IsUpToDate, last_term, longer}
 use Rattle.raft_safety.specs.Configurations.{IsQuorumAfter, IsOneChangeBeyond}
-use Rattle.raft_safety.specs.Cluster.{Server, Vote, VoteRequest, Leadership, Commitment, Cluster, In, Leads, with_value}
+use Rattle.raft_safety.specs.Cluster.{Server, Vote, VoteRequest, Leadership, Commitment, Cluster, HasAcknowledged, HasVoted, In, Leads, new_cluster, with_value}
 
 -- what may happen next. Receive names the log that it leaves, so that no entries have to be compared
 pub data Action : Type 0 where
@@ -54,14 +55,15 @@ pub record MaySeeTerm (c : Cluster) (server term : ℕ) : Type 0 where
 pub record MayGrantVote (c : Cluster) (voter : ℕ) (request : VoteRequest) : Type 0 where
   pub asked : In request c.requests
   pub not_past : (c.servers voter).term ≤ request.term
-  pub once : (vote : Vote) → In vote c.votes → vote.term ≡ request.term → vote.voter ≡ voter → vote.candidate ≡ request.candidate
+  pub once : (vote : Vote) → In vote c.votes → vote.term ≡ request.term
+      → vote.voter ≡ voter → vote.candidate ≡ request.candidate
   pub up_to_date : IsUpToDate request.log (c.servers voter).log
 
 -- a candidate becomes leader by the votes of a quorum of the configuration by which it campaigned to count
 pub record MayBecomeLeader (first : Configuration) (c : Cluster) (request : VoteRequest) (votes : Ids) : Type 0 where
   pub asked : In request c.requests
   pub not_yet : ¬ Leads c request.term request.candidate
-  pub voted : (voter : ℕ) → has votes voter ≡ true → In (record { term = request.term; voter = voter; candidate = request.candidate }) c.votes
+  pub voted : (voter : ℕ) → has votes voter ≡ true → HasVoted c request.term voter request.candidate
   pub quorum : IsQuorumAfter first request.committed votes
 
 -- a leader takes what its server knows to be committed, of which it may have counted by a part alone
@@ -97,7 +99,7 @@ pub record MayCommit (first : Configuration) (c : Cluster) (leader : ℕ) (m : C
   pub longer_than : length (c.leaderships m.term leader).committed < length m.log
   pub in_log : IsPrefix m.log (c.leaderships m.term leader).log
   pub own_term : last_term m.log ≡ m.term
-  pub acknowledged : (server : ℕ) → has m.servers server ≡ true → (log : Log) × In (record { term = m.term; server = server; log = log }) c.acknowledgements × IsPrefix m.log log
+  pub acknowledged : (server : ℕ) → has m.servers server ≡ true → HasAcknowledged c m.term server m.log
   pub counted : IsPrefix m.counted (c.leaderships m.term leader).committed
   pub one_change_beyond : IsOneChangeBeyond first m.log m.counted
   pub quorum : IsQuorumAfter first m.counted m.servers
@@ -124,7 +126,8 @@ with_server c server state = record c { servers = with_value c.servers server st
 
 -- the cluster with another state of a leader
 abbrev pub with_leadership : Cluster → ℕ → ℕ → Leadership → Cluster
-with_leadership c term leader state = record c { leaderships = with_value c.leaderships term (with_value (c.leaderships term) leader state) }
+with_leadership c term leader state =
+    record c { leaderships = with_value c.leaderships term (with_value (c.leaderships term) leader state) }
 
 -- what an action leaves
 abbrev pub after_action : Cluster → Action → Cluster
@@ -166,12 +169,16 @@ after_action c (Restart server known) =
     let old = c.servers server in
     with_server c server (record old { committed = known })
 
--- what actions leave, one after another
 abbrev pub after_actions : Cluster → List Action → Cluster
-after_actions c [] = c
-after_actions c (action ∷ actions) = after_actions (after_action c action) actions
+after_actions = after_all after_action
 
--- each action may be taken where the ones before it lead
 abbrev pub AreAllowed : Configuration → Cluster → List Action → Type 0
-AreAllowed first c [] = Unit {0}
-AreAllowed first c (action ∷ actions) = IsAllowed first c action × AreAllowed first (after_action c action) actions
+AreAllowed first = AreAllAllowed after_action (IsAllowed first)
+
+-- the claim holds after each run that is allowed, whatever the first configuration is
+abbrev pub AfterEachRun : (Cluster → Type 0) → Type 0
+AfterEachRun Claim = (first : Configuration) → AfterEach after_action (IsAllowed first) new_cluster Claim
+
+-- the claim holds of an earlier moment of each such run and its end
+abbrev pub AtTwoMoments : (Cluster → Cluster → Type 0) → Type 0
+AtTwoMoments Claim = (first : Configuration) → AtTwo after_action (IsAllowed first) new_cluster Claim

@@ -1,15 +1,16 @@
 -- Waiting where memory and disk are apart: members campaign, and leaders propose, as in Waiting.antt, but that only members
 -- propose changes of the voters; all else is as in DiskRules.antt for servers that look at their own log, which need keep no
 -- commit index. These do not look. A leader that is not a member may commit.
-use Rattle.std.specs.Prelude.{◌≡◌, ℕ, ◌<◌, ◌≤◌, ◌⊎◌, true, List, [], ◌∷◌}
+use Rattle.std.specs.Prelude.{◌≡◌, ℕ, ◌<◌, ◌⊎◌, true, List, [], ◌∷◌}
 use Rattle.conf_change.specs.Configuration.{Configuration}
+use Rattle.raft_safety.specs.Runs.{AreAllAllowed}
 use Rattle.raft_safety.specs.Logs.{Entry, Log, IsPrefix}
 use Rattle.raft_safety.specs.Configurations.{voter_changes}
 use Rattle.raft_safety.specs.Cluster.{In, Leads, with_value}
 use Rattle.raft_safety.specs.DiskCluster.{DiskCluster, in_memory, new_disk_cluster}
 use Rattle.raft_safety.specs.DiskRules.{DiskAction, Campaign, Propose, IsAllowedOnDisk}
 use Rattle.raft_safety.specs.DiskRuns.{after_disk_action}
-use Rattle.raft_safety.specs.Waiting.{HasChanges, without}
+use Rattle.raft_safety.specs.Waiting.{HasChanges, HaveStored, without}
 
 -- a cluster; up to where each server has applied and stored that, so that no crash takes it back; and the members, who may
 -- campaign and propose changes of the voters
@@ -43,7 +44,8 @@ pub record MayProposeStored (first : Configuration) (w : WaitingDisks) (term lea
   pub own_term : entry.term ≡ term
   pub waits : let log = (w.cluster.disk.cluster.leaderships term leader).log in
       (voter_changes first (entry ∷ log) ≡ voter_changes first log)
-      ⊎ (In leader w.members × IsPrefix (w.stored leader) (w.cluster.disk.applied term leader) × ((member : ℕ) → In member w.members → voter_changes first log ≤ voter_changes first (w.stored member)))
+      ⊎ (In leader w.members × IsPrefix (w.stored leader) (w.cluster.disk.applied term leader)
+      × HaveStored first log w.stored w.members)
 
 abbrev pub IsAllowedWaitingOnDisk : Configuration → WaitingDisks → WaitingDiskAction → Type 0
 IsAllowedWaitingOnDisk first w (Join server) = HasChanges first w.cluster.disk.cluster (w.stored server)
@@ -60,8 +62,7 @@ after_waiting_on_disk w (Store server log) = record w { stored = with_value w.st
 after_waiting_on_disk w (Do action) = record w { cluster = after_disk_action w.cluster action }
 
 abbrev pub AreAllowedWaitingOnDisk : Configuration → WaitingDisks → List WaitingDiskAction → Type 0
-AreAllowedWaitingOnDisk first w [] = Unit {0}
-AreAllowedWaitingOnDisk first w (action ∷ actions) = IsAllowedWaitingOnDisk first w action × AreAllowedWaitingOnDisk first (after_waiting_on_disk w action) actions
+AreAllowedWaitingOnDisk first = AreAllAllowed after_waiting_on_disk (IsAllowedWaitingOnDisk first)
 
 -- what is done to the cluster
 abbrev pub done : List WaitingDiskAction → List DiskAction

@@ -63,8 +63,9 @@
 //! # Where to read on
 //!
 //! `specs/` is what has to be believed: what a log is (`Logs`), the configuration after it (`Configurations`), the state
-//! of a cluster (`Cluster`), the rules, and what of etcd's raft they stand for (`Steps`), and what is claimed (`Claims`).
-//! A run in which a voter is added is worked out in `proofs/WorkedExamples`, and so is what goes wrong without a rule.
+//! of a cluster (`Cluster`), the rules, and what of etcd's raft they stand for (`Steps`), what a run is (`Runs`), and what is
+//! claimed (`Claims`).
+//! A run in which a voter is added is worked out in the crate `safety_examples`, and so is what goes wrong without a rule.
 //!
 //! The second law is about the rules as etcd's raft means them, in which a server sees no log but its own: appends,
 //! heartbeats and snapshots (`EtcdCluster`, `EtcdRules`, `EtcdRuns`, `Appending`). Who counts does not look into its log,

@@ -28,24 +28,24 @@ passes_in-alike voters p q alike = λ i.
     && (is_empty voters.outgoing || majority_passes-alike p q voters.outgoing (λ x here. alike x (or_right (has voters.incoming x) _ here)) i)
 
 abbrev pub stay : Ids → ℕ → Bool
-stay away id = not (has away id)
+stay uncounted id = not (has uncounted id)
 
--- the voters that are left are a quorum where, in both sets, more than half are not away
-pub commits_without-majority_passes : (voters : Voters) (away : Ids) → commits_without voters away ≡ (majority_passes (stay away) voters.incoming && (is_empty voters.outgoing || majority_passes (stay away) voters.outgoing))
-commits_without-majority_passes voters away = passes_in-alike voters (has (voters_without voters away)) (stay away) (λ x here.
+-- the voters that are left are a quorum where, in both sets, more than half are counted
+pub commits_without-majority_passes : (voters : Voters) (uncounted : Ids) → commits_without voters uncounted ≡ (majority_passes (stay uncounted) voters.incoming && (is_empty voters.outgoing || majority_passes (stay uncounted) voters.outgoing))
+commits_without-majority_passes voters uncounted = passes_in-alike voters (has (voters_without voters uncounted)) (stay uncounted) (λ x here.
     grind (
       arith,
       here,
-      has-ids_where (stay away) (ascending voters.incoming ++ ascending voters.outgoing) x,
+      has-ids_where (stay uncounted) (ascending voters.incoming ++ ascending voters.outgoing) x,
       list_any-append (λ y. x == y) (ascending voters.incoming) (ascending voters.outgoing),
       has-ascending voters.incoming x,
       has-ascending voters.outgoing x,
     ))
 
--- any ids that have just the voters that are not away are a quorum where these commit
-pub is_quorum-without : (voters : Voters) (away ids : Ids) → ((q : ℕ) → (has voters.incoming q || has voters.outgoing q) ≡ true → has ids q ≡ not (has away q))
-    → is_quorum voters ids ≡ commits_without voters away
-is_quorum-without voters away ids stays = passes_in-alike voters (has ids) (stay away) stays ∙ sym (commits_without-majority_passes voters away)
+-- any ids that have just the counted voters are a quorum where these commit
+pub is_quorum-without : (voters : Voters) (uncounted ids : Ids) → ((q : ℕ) → (has voters.incoming q || has voters.outgoing q) ≡ true → has ids q ≡ not (has uncounted q))
+    → is_quorum voters ids ≡ commits_without voters uncounted
+is_quorum-without voters uncounted ids stays = passes_in-alike voters (has ids) (stay uncounted) stays ∙ sym (commits_without-majority_passes voters uncounted)
 
 -- ---- a set, and how many are down
 -- the counted ids of a set
@@ -162,8 +162,8 @@ may_be_down-no_voter voters uncounted no_voter =
     cond_both (is_empty voters.outgoing) _ _ (λ answer. answer ≡ None) (λ single. no_surplus) (λ joint. ap (λ a. least a (surplus voters.outgoing uncounted)) no_surplus)
 
 -- ---- whether the voters commit
-is_some-surplus : (ids away : Ids) → majority_passes (stay away) ids ≡ is_some (surplus ids away)
-is_some-surplus ids away = grind (arith, nat_tests)
+is_some-surplus : (ids uncounted : Ids) → majority_passes (stay uncounted) ids ≡ is_some (surplus ids uncounted)
+is_some-surplus ids uncounted = grind (arith, nat_tests)
 
 is_some-least : (single : Bool) (a b : Option ℕ) → (is_some a && (single || is_some b)) ≡ is_some (cond single a (least a b))
 is_some-least true a b = grind arith
@@ -171,8 +171,8 @@ is_some-least false (Some a) (Some b) = refl
 is_some-least false (Some a) None = refl
 is_some-least false None b = refl
 
-pub commits_without-is_some : (voters : Voters) (away : Ids) → commits_without voters away ≡ is_some (may_be_down voters away)
-commits_without-is_some voters away =
-    commits_without-majority_passes voters away
-    ∙ (λ i. is_some-surplus voters.incoming away i && (is_empty voters.outgoing || is_some-surplus voters.outgoing away i))
-    ∙ is_some-least (is_empty voters.outgoing) (surplus voters.incoming away) (surplus voters.outgoing away)
+pub commits_without-is_some : (voters : Voters) (uncounted : Ids) → commits_without voters uncounted ≡ is_some (may_be_down voters uncounted)
+commits_without-is_some voters uncounted =
+    commits_without-majority_passes voters uncounted
+    ∙ (λ i. is_some-surplus voters.incoming uncounted i && (is_empty voters.outgoing || is_some-surplus voters.outgoing uncounted i))
+    ∙ is_some-least (is_empty voters.outgoing) (surplus voters.incoming uncounted) (surplus voters.outgoing uncounted)

@@ -6,7 +6,7 @@ use Rattle.quorum_sets.specs.Ids.{Ids, has}
 use Rattle.conf_change.specs.Configuration.{Configuration}
 use Rattle.raft_safety.specs.Logs.{Entry, Log, IsPrefix}
 use Rattle.raft_safety.specs.Configurations.{IsOneChangeBeyond, voter_changes}
-use Rattle.raft_safety.specs.Cluster.{Commitment, Cluster, Server, In, with_value}
+use Rattle.raft_safety.specs.Cluster.{Commitment, Cluster, Server, In, with_value, HasAcknowledged}
 use Rattle.raft_safety.specs.Steps.{MayCommit, after_action}
 use Rattle.raft_safety.specs.Steps as core
 use Rattle.raft_safety.specs.EtcdCluster.{Candidacy, EtcdCluster}
@@ -16,18 +16,18 @@ use Rattle.raft_safety.specs.EtcdRuns.{commitment_of, after_etcd_action, after_e
 use Rattle.raft_safety.specs.DiskCluster.{Message, Raised, Given, DiskCluster, memory, in_memory}
 use Rattle.raft_safety.specs.DiskRules.{DiskAction, Campaign, Take, Save, Say, Lead, Propose, Send, Raise, Use, ApplyAsLeader, Apply, Crash, IsSaved, IsOwn, MaySave, MaySay, MayLead, MayRaise, MayUse, MayApplyInMemory, MayCrash, IsAllowedOnDisk}
 use Rattle.raft_safety.specs.DiskRuns.{with_unsaved, after_save, after_disk_action}
-use Rattle.raft_safety.proofs.Logs.{IsPrefix-refl}
 use Rattle.raft_safety.proofs.Configurations.{voter_changes-prefix}
-use Rattle.raft_safety.proofs.Updates.{with_value-there, with_value-each}
+use Rattle.raft_safety.proofs.Updates.{with_value-each}
+use Rattle.raft_safety.proofs.Runs.{allowed-first, allowed-then, allowed-both}
 use Rattle.raft_safety.proofs.Growth.{IsKnown-prefix}
-use Rattle.raft_safety.proofs.Invariants.{IsKnown, IsElectedWith-leads, HasAcknowledged, log_of}
+use Rattle.raft_safety.proofs.Invariants.{IsKnown, IsElectedWith-leads, log_of}
 use Rattle.raft_safety.proofs.Steps.Commit.{commit-rises}
 use Rattle.raft_safety.proofs.Etcd.Invariants.{IsDurable, AreEtcdInvariants}
 use Rattle.raft_safety.proofs.Etcd.Growth.{with_value-both, DoLeadersGrow, become_leader-grows, propose-grows, commit-grows}
 use Rattle.raft_safety.proofs.Etcd.ServerActions.{restart-keeps_etcd}
 use Rattle.raft_safety.proofs.Etcd.LeaderActions.{become_leader-keeps_etcd, propose-keeps_etcd, send-keeps, commitment-keeps, apply-keeps}
 use Rattle.raft_safety.proofs.Etcd.Theorem.{actions_keep}
-use Rattle.raft_safety.proofs.Disk.Memory.{GoesOn, GoesOn-refl, GoesOn-durable, AreOwn, all_allowed_later, all_beside}
+use Rattle.raft_safety.proofs.Disk.Memory.{GoesOn, GoesOn-refl, GoesOn-sent, AreOwn, all_allowed_later, all_beside, changed_beside, new_state}
 use Rattle.raft_safety.proofs.Disk.Invariants.{IsRaised, AreDiskInvariants, Grows, Grows-refl, leaders_stay, all_own_grow, known_on_disk, looks-stay, IsSaved-later, IsRaised-later, IsKnown-later}
 
 -- ---- lists of actions
@@ -42,18 +42,6 @@ own_first server (action ∷ one) other a = (a.0, own_first server one other a.1
 own_rest : (server : ℕ) (one other : List EtcdAction) → AreOwn server (one ++ other) → AreOwn server other
 own_rest server [] other a = a
 own_rest server (action ∷ one) other a = own_rest server one other a.1
-
-allowed_both : (first : Configuration) (e : EtcdCluster) (one other : List EtcdAction) → AreAllowedByEtcd first e one → AreAllowedByEtcd first (after_etcd_actions e one) other → AreAllowedByEtcd first e (one ++ other)
-allowed_both first e [] other a b = b
-allowed_both first e (action ∷ one) other a b = (a.0, allowed_both first (after_etcd_action e action) one other a.1 b)
-
-allowed_start : (first : Configuration) (e : EtcdCluster) (one other : List EtcdAction) → AreAllowedByEtcd first e (one ++ other) → AreAllowedByEtcd first e one
-allowed_start first e [] other a = tt
-allowed_start first e (action ∷ one) other a = (a.0, allowed_start first (after_etcd_action e action) one other a.1)
-
-allowed_rest : (first : Configuration) (e : EtcdCluster) (one other : List EtcdAction) → AreAllowedByEtcd first e (one ++ other) → AreAllowedByEtcd first (after_etcd_actions e one) other
-allowed_rest first e [] other a = a
-allowed_rest first e (action ∷ one) other a = allowed_rest first (after_etcd_action e action) one other a.1
 
 -- ---- what all steps of the disks and of leaders share
 -- where each server goes on with what it has done in memory
@@ -84,19 +72,32 @@ goes_over_at first d f server rest i disk g own allowed on = record {
   configured = i.configured;
 }
 
--- what a leader does is nothing that servers see, but that it leads, commits and sends more
-led_on : (e : EtcdCluster) (d : Cluster) (applied : ℕ → ℕ → Log) → d.servers ≡ e.cluster.servers → d.votes ≡ e.cluster.votes → d.requests ≡ e.cluster.requests → d.acknowledgements ≡ e.cluster.acknowledgements
-    → DoLeadersGrow e.cluster d → (k : ℕ) → GoesOn k e (record e { cluster = d; applied = applied })
-led_on e d applied servers votes requests acknowledgements g k = record {
-  same = ap (λ (h : ℕ → Server). h k) servers;
-  looks = refl;
-  own_votes = λ v x o. subst (In v) votes x;
-  requests = λ r x. subst (In r) (sym requests) x;
-  appends = λ a x. x;
-  acknowledgements = λ a x. subst (In a) (sym acknowledgements) x;
-  leads = g.leads;
-  committed = g.committed;
-}
+-- what a leader does is nothing that servers see, but that it leads and commits more
+leader_acts : (first : Configuration) (d : DiskCluster) (h : Cluster) (applied : ℕ → ℕ → Log) → AreDiskInvariants first d → AreEtcdInvariants first (record d.disk { cluster = h; applied = applied })
+    → DoLeadersGrow d.disk.cluster h → h.servers ≡ d.disk.cluster.servers → h.votes ≡ d.disk.cluster.votes → h.requests ≡ d.disk.cluster.requests → h.acknowledgements ≡ d.disk.cluster.acknowledgements
+    → ((m : Commitment) → In m d.disk.cluster.commitments → In m h.commitments)
+    → AreDiskInvariants first (record d { disk = record d.disk { cluster = h; applied = applied } }) × Grows d.disk.cluster h
+leader_acts first d h applied i disk leaders servers votes requests acknowledgements commitments =
+    let e : EtcdCluster = d.disk in
+    let g : Grows e.cluster h = record {
+      leaders = leaders;
+      requests = λ r x. subst (In r) (sym requests) x;
+      votes = λ v x. subst (In v) (sym votes) x;
+      acknowledgements = λ a x. subst (In a) (sym acknowledgements) x;
+      commitments = commitments;
+    } in (
+      goes_over first d (record e { cluster = h; applied = applied }) i disk g (λ k. record {
+        same = ap (λ (f : ℕ → Server). f k) servers;
+        looks = refl;
+        own_votes = λ v x o. subst (In v) votes x;
+        requests = g.requests;
+        appends = λ a x. x;
+        acknowledgements = g.acknowledgements;
+        leads = leaders.leads;
+        committed = leaders.committed;
+      }),
+      g,
+    )
 
 -- ---- in memory
 unsaved-keeps : (first : Configuration) (d : DiskCluster) (server : ℕ) (action : EtcdAction) → AreDiskInvariants first d → IsOwn server action → etcd.IsAllowedByEtcd first (memory d server) action
@@ -108,7 +109,7 @@ unsaved-keeps first d server action i own may =
       own = λ k. with_value-each (AreOwn k) d.unsaved server more k
           (λ same. subst (λ (q : ℕ). AreOwn q more) (sym same) (own_both server (d.unsaved server) (action ∷ []) (i.own server) (own, tt))) (λ other. i.own k);
       allowed = λ k. with_value-each (AreAllowedByEtcd first d.disk) d.unsaved server more k
-          (λ same. allowed_both first d.disk (d.unsaved server) (action ∷ []) (i.allowed server) (may, tt)) (λ other. i.allowed k);
+          (λ same. allowed-both after_etcd_action (etcd.IsAllowedByEtcd first) d.disk (d.unsaved server) (action ∷ []) (i.allowed server) (may, tt)) (λ other. i.allowed k);
       said = i.said;
       raised = i.raised;
       given = i.given;
@@ -145,13 +146,13 @@ save-keeps first d server saved rest commit may i =
     let allowed : AreAllowedByEtcd first d.disk (saved ++ rest) = subst (AreAllowedByEtcd first d.disk) order (i.allowed server) in
     let own_saved : AreOwn server saved = own_first server saved rest own in
     let own_left : AreOwn server rest = own_rest server saved rest own in
-    let kept : AreEtcdInvariants first after = actions_keep first d.disk saved (allowed_start first d.disk saved rest allowed) i.disk in
+    let kept : AreEtcdInvariants first after = actions_keep first d.disk saved (allowed-first after_etcd_action (etcd.IsAllowedByEtcd first) d.disk saved rest allowed) i.disk in
     let grown : Grows d.disk.cluster after.cluster = all_own_grow server d.disk saved own_saved in
     let g : Grows d.disk.cluster f.cluster = record { leaders = grown.leaders; requests = grown.requests; votes = grown.votes; acknowledgements = grown.acknowledgements; commitments = grown.commitments } in
     let durable : ℕ → Log = with_value after.durable server commit in (
       goes_over_at first d f server rest i (durable-keeps first after server commit kept may.committed (λ not. may.commit_kept (subst (λ (h : ℕ → Bool). h server ≡ false) (looks-stay d.disk saved) not))) g own_left
-          (all_allowed_later first server after f (GoesOn-durable server after after durable (GoesOn-refl server after)) rest own_left (allowed_rest first d.disk saved rest allowed))
-          (λ k other. GoesOn-durable k d.disk after durable (all_beside server k other d.disk saved own_saved)),
+          (all_allowed_later first server after f (GoesOn-refl server after) rest own_left (allowed-then after_etcd_action (etcd.IsAllowedByEtcd first) d.disk saved rest allowed))
+          (λ k other. all_beside server k other d.disk saved own_saved),
       g,
     )
 
@@ -171,26 +172,16 @@ lead-keeps : (first : Configuration) (d : DiskCluster) (k : Candidacy) (votes : 
     → AreDiskInvariants first (after_disk_action d (Lead k votes)) × Grows d.disk.cluster (after_disk_action d (Lead k votes)).disk.cluster
 lead-keeps first d k votes may i =
     let e : EtcdCluster = d.disk in
-    let c : Cluster = e.cluster in
     let f : EtcdCluster = after_etcd_action e (etcd.BecomeLeader k votes) in
-    let leaders : DoLeadersGrow c f.cluster = become_leader-grows c k.request votes may.not_yet in
-    let g : Grows c f.cluster = record { leaders = leaders; requests = λ r x. x; votes = λ v x. x; acknowledgements = λ a x. x; commitments = λ m x. x } in
-    let allowed : MayBecomeLeaderApplied first e k votes = record { asked = may.asked; not_yet = may.not_yet; voted = λ voter x. i.said _ (may.voted voter x); counted = may.counted; in_force = may.in_force; quorum = may.quorum } in (
-      goes_over first d f i (become_leader-keeps_etcd first e k votes allowed i.disk) g (led_on e f.cluster f.applied refl refl refl refl leaders),
-      g,
-    )
+    let allowed : MayBecomeLeaderApplied first e k votes = record { asked = may.asked; not_yet = may.not_yet; voted = λ voter x. i.said _ (may.voted voter x); counted = may.counted; in_force = may.in_force; quorum = may.quorum } in
+    leader_acts first d f.cluster f.applied i (become_leader-keeps_etcd first e k votes allowed i.disk) (become_leader-grows e.cluster k.request votes may.not_yet) refl refl refl refl (λ m x. x)
 
 propose-keeps_disk : (first : Configuration) (d : DiskCluster) (term leader : ℕ) (entry : Entry) → MayProposeApplied first d.disk term leader entry → AreDiskInvariants first d
     → AreDiskInvariants first (after_disk_action d (Propose term leader entry)) × Grows d.disk.cluster (after_disk_action d (Propose term leader entry)).disk.cluster
 propose-keeps_disk first d term leader entry may i =
     let e : EtcdCluster = d.disk in
-    let c : Cluster = e.cluster in
-    let f : EtcdCluster = after_etcd_action e (etcd.Propose term leader entry) in
-    let leaders : DoLeadersGrow c f.cluster = propose-grows c term leader entry in
-    let g : Grows c f.cluster = record { leaders = leaders; requests = λ r x. x; votes = λ v x. x; acknowledgements = λ a x. x; commitments = λ m x. x } in (
-      goes_over first d f i (propose-keeps_etcd first e term leader entry may i.disk) g (led_on e f.cluster e.applied refl refl refl refl leaders),
-      g,
-    )
+    leader_acts first d (after_etcd_action e (etcd.Propose term leader entry)).cluster e.applied i (propose-keeps_etcd first e term leader entry may i.disk)
+    (propose-grows e.cluster term leader entry) refl refl refl refl (λ m x. x)
 
 send-keeps_disk : (first : Configuration) (d : DiskCluster) (term leader : ℕ) (before entries : Log) → MaySend d.disk term leader before entries → AreDiskInvariants first d
     → AreDiskInvariants first (after_disk_action d (Send term leader before entries)) × Grows d.disk.cluster (after_disk_action d (Send term leader before entries)).disk.cluster
@@ -198,16 +189,7 @@ send-keeps_disk first d term leader before entries may i =
     let e : EtcdCluster = d.disk in
     let f : EtcdCluster = after_etcd_action e (etcd.Send term leader before entries) in (
       goes_over first d f i (send-keeps first e term leader before entries may i.disk) (Grows-refl e.cluster)
-          (λ k. record {
-            same = refl;
-            looks = refl;
-            own_votes = λ v x o. x;
-            requests = λ r x. x;
-            appends = λ a x. inr x;
-            acknowledgements = λ a x. x;
-            leads = λ t l x. x;
-            committed = λ t l x. IsPrefix-refl (e.cluster.leaderships t l).committed;
-          }),
+          (λ k. GoesOn-sent k e.cluster e.appends f.appends e.looks (λ a x. inr x)),
       Grows-refl e.cluster,
     )
 
@@ -252,7 +234,6 @@ use-keeps first d raised may i =
     let m : Commitment = raised.commitment in
     let its : IsRaised first c leader m = i.raised raised may.rose in
     let h : Cluster = after_action c (core.Commit leader m) in
-    let f : EtcdCluster = record e { cluster = h } in
     let allowed : MayCommit first c leader m = record {
       leads = its.leads;
       longer_than = may.rises;
@@ -266,11 +247,7 @@ use-keeps first d raised may i =
       one_change_beyond = its.one_change_beyond;
       quorum = its.quorum;
     } in
-    let leaders : DoLeadersGrow c h = commit-grows c leader m (commit-rises first c leader m allowed i.disk.core) in
-    let g : Grows c h = record { leaders = leaders; requests = λ r x. x; votes = λ v x. x; acknowledgements = λ a x. x; commitments = λ n x. inr x } in (
-      goes_over first d f i (commitment-keeps first e leader m allowed i.disk) g (led_on e h e.applied refl refl refl refl leaders),
-      g,
-    )
+    leader_acts first d h e.applied i (commitment-keeps first e leader m allowed i.disk) (commit-grows c leader m (commit-rises first c leader m allowed i.disk.core)) refl refl refl refl (λ n x. inr x)
 
 -- ---- what applications are given
 given-keeps : (first : Configuration) (d : DiskCluster) (server : ℕ) (log : Log) → AreDiskInvariants first d → (bound : ℕ) × IsKnown d.disk.cluster bound log
@@ -287,7 +264,7 @@ apply_as_leader-keeps first d term leader log may i =
     let c : Cluster = e.cluster in
     let f : EtcdCluster = after_etcd_action e (etcd.Apply term leader log) in
     let over : AreDiskInvariants first (record d { disk = f }) =
-    goes_over first d f i (apply-keeps first e term leader log may i.disk) (Grows-refl c) (led_on e c f.applied refl refl refl refl (leaders_stay c c refl refl)) in
+    (leader_acts first d c f.applied i (apply-keeps first e term leader log may i.disk) (leaders_stay c c refl refl) refl refl refl refl (λ m x. x)).0 in
     let bound : ℕ = may.leads.0.request.term + 1 in
     record {
       disk = over.disk;
@@ -326,16 +303,7 @@ crash-keeps first d server known applied configured may i =
     let f : EtcdCluster = after_etcd_action e (etcd.Restart server known) in
     let g : Grows c f.cluster = record { leaders = leaders_stay c f.cluster refl refl; requests = λ r x. x; votes = λ v x. x; acknowledgements = λ a x. x; commitments = λ m x. x } in
     let over : AreDiskInvariants first (record d { disk = f; unsaved = with_value d.unsaved server [] }) =
-    goes_over_at first d f server [] i (restart-keeps_etcd first e server known may.restarts i.disk) g tt tt (λ k other. record {
-      same = with_value-there c.servers server (record (c.servers server) { committed = known }) k other;
-      looks = refl;
-      own_votes = λ v x o. x;
-      requests = λ r x. x;
-      appends = λ a x. x;
-      acknowledgements = λ a x. x;
-      leads = λ t l x. x;
-      committed = λ t l x. IsPrefix-refl (c.leaderships t l).committed;
-    }) in (
+    goes_over_at first d f server [] i (restart-keeps_etcd first e server known may.restarts i.disk) g tt tt (λ k other. changed_beside k server other (new_state (λ old. record old { committed = known })) e) in (
       record {
         disk = over.disk;
         own = over.own;

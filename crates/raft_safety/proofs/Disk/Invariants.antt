@@ -4,17 +4,17 @@ use Rattle.quorum_sets.specs.Ids.{has}
 use Rattle.conf_change.specs.Configuration.{Configuration}
 use Rattle.raft_safety.specs.Logs.{Log, IsPrefix, last_term}
 use Rattle.raft_safety.specs.Configurations.{IsQuorumAfter, IsOneChangeBeyond}
-use Rattle.raft_safety.specs.Cluster.{Vote, VoteRequest, Leadership, Acknowledgement, Commitment, Cluster, In, Leads}
+use Rattle.raft_safety.specs.Cluster.{Vote, VoteRequest, Leadership, Acknowledgement, Commitment, Cluster, In, Leads, HasAcknowledged}
 use Rattle.raft_safety.specs.EtcdCluster.{EtcdCluster}
-use Rattle.raft_safety.specs.EtcdRules.{EtcdAction, Campaign, SeeTerm, GrantVote, BecomeLeader, Propose, Send, Receive, Answer, Heartbeat, Commit, Apply, Restart}
+use Rattle.raft_safety.specs.EtcdRules.{EtcdAction, Campaign, SeeTerm, GrantVote, Receive, Answer, Heartbeat, Commit}
 use Rattle.raft_safety.specs.EtcdRuns.{after_etcd_action, after_etcd_actions, AreAllowedByEtcd}
 use Rattle.raft_safety.specs.DiskCluster.{Message, Ask, Grant, Acknowledge, Raised, Given, DiskCluster}
 use Rattle.raft_safety.specs.DiskRules.{IsSaved, IsOwn}
 use Rattle.raft_safety.proofs.Logs.{IsPrefix-refl, IsPrefix-trans}
-use Rattle.raft_safety.proofs.Invariants.{IsKnown, HasAcknowledged, log_of}
+use Rattle.raft_safety.proofs.Invariants.{IsKnown, log_of}
 use Rattle.raft_safety.proofs.Etcd.Invariants.{AreEtcdInvariants}
 use Rattle.raft_safety.proofs.Etcd.Growth.{DoLeadersGrow}
-use Rattle.raft_safety.proofs.Disk.Memory.{AreOwn}
+use Rattle.raft_safety.proofs.Disk.Memory.{AreOwn, OwnChange, In-more, change_of, changed, votes_of}
 
 -- a commit index that rose in a leader's memory: a quorum of a configuration that the leader has applied has the entries, of
 -- its own server maybe in memory only
@@ -72,30 +72,24 @@ leaders_stay c d elections leaderships = record {
 pub Grows-refl : (c : Cluster) → Grows c c
 Grows-refl c = record { leaders = leaders_stay c c refl refl; requests = λ r x. x; votes = λ v x. x; acknowledgements = λ a x. x; commitments = λ m x. x }
 
--- where only more votes, requests or acknowledgements were said
-only_said : (c d : Cluster) → d.elections ≡ c.elections → d.leaderships ≡ c.leaderships → ((r : VoteRequest) → In r c.requests → In r d.requests) → ((v : Vote) → In v c.votes → In v d.votes)
-    → ((a : Acknowledgement) → In a c.acknowledgements → In a d.acknowledgements) → d.commitments ≡ c.commitments → Grows c d
-only_said c d elections leaderships requests votes acknowledgements commitments = record {
-  leaders = leaders_stay c d elections leaderships;
-  requests = requests;
-  votes = votes;
-  acknowledgements = acknowledgements;
-  commitments = λ m x. subst (In m) (sym commitments) x;
+-- what a server does by itself
+changed_grows : (server : ℕ) (o : OwnChange) (c : Cluster) → Grows c (changed server o c)
+changed_grows server o c = record {
+  leaders = leaders_stay c (changed server o c) refl refl;
+  requests = λ r x. In-more r (o.requests (c.servers server)) c.requests x;
+  votes = λ v x. In-more v (votes_of server o.votes) c.votes x;
+  acknowledgements = λ a x. In-more a (o.acknowledgements (c.servers server)) c.acknowledgements x;
+  commitments = λ m x. x;
 }
 
 own_grows : (server : ℕ) (e : EtcdCluster) (action : EtcdAction) → IsOwn server action → Grows e.cluster (after_etcd_action e action).cluster
-own_grows server e (Campaign s term applied) own = only_said e.cluster (after_etcd_action e (Campaign s term applied)).cluster refl refl (λ r x. inr x) (λ v x. inr x) (λ a x. x) refl
-own_grows server e (SeeTerm s term) own = only_said e.cluster (after_etcd_action e (SeeTerm s term)).cluster refl refl (λ r x. x) (λ v x. x) (λ a x. x) refl
-own_grows server e (GrantVote s request) own = only_said e.cluster (after_etcd_action e (GrantVote s request)).cluster refl refl (λ r x. x) (λ v x. inr x) (λ a x. x) refl
-own_grows server e (Receive s append) own = only_said e.cluster (after_etcd_action e (Receive s append)).cluster refl refl (λ r x. x) (λ v x. x) (λ a x. inr x) refl
-own_grows server e (Answer s term leader) own = only_said e.cluster (after_etcd_action e (Answer s term leader)).cluster refl refl (λ r x. x) (λ v x. x) (λ a x. inr x) refl
-own_grows server e (Heartbeat s term leader known) own = only_said e.cluster (after_etcd_action e (Heartbeat s term leader known)).cluster refl refl (λ r x. x) (λ v x. x) (λ a x. x) refl
-own_grows server e (BecomeLeader candidacy votes) own = absurd own
-own_grows server e (Propose term leader entry) own = absurd own
-own_grows server e (Send term leader before entries) own = absurd own
-own_grows server e (Commit term leader log servers) own = absurd own
-own_grows server e (Apply term leader log) own = absurd own
-own_grows server e (Restart s known) own = absurd own
+own_grows server e (Campaign s term applied) own = changed_grows s (change_of (Campaign s term applied)) e.cluster
+own_grows server e (SeeTerm s term) own = changed_grows s (change_of (SeeTerm s term)) e.cluster
+own_grows server e (GrantVote s request) own = changed_grows s (change_of (GrantVote s request)) e.cluster
+own_grows server e (Receive s append) own = changed_grows s (change_of (Receive s append)) e.cluster
+own_grows server e (Answer s term leader) own = changed_grows s (change_of (Answer s term leader)) e.cluster
+own_grows server e (Heartbeat s term leader known) own = changed_grows s (change_of (Heartbeat s term leader known)) e.cluster
+own_grows server e action own = absurd own
 
 pub all_own_grow : (server : ℕ) (e : EtcdCluster) (actions : List EtcdAction) → AreOwn server actions → Grows e.cluster (after_etcd_actions e actions).cluster
 all_own_grow server e [] own = Grows-refl e.cluster
@@ -105,18 +99,8 @@ all_own_grow server e (action ∷ actions) own =
 
 -- a server commits nothing by itself
 commits_nothing : (server : ℕ) (e : EtcdCluster) (action : EtcdAction) → IsOwn server action → (m : Commitment) → In m (after_etcd_action e action).cluster.commitments → In m e.cluster.commitments
-commits_nothing server e (Campaign s term applied) own m x = x
-commits_nothing server e (SeeTerm s term) own m x = x
-commits_nothing server e (GrantVote s request) own m x = x
-commits_nothing server e (Receive s append) own m x = x
-commits_nothing server e (Answer s term leader) own m x = x
-commits_nothing server e (Heartbeat s term leader known) own m x = x
-commits_nothing server e (BecomeLeader candidacy votes) own m x = absurd own
-commits_nothing server e (Propose term leader entry) own m x = absurd own
-commits_nothing server e (Send term leader before entries) own m x = absurd own
 commits_nothing server e (Commit term leader log servers) own m x = absurd own
-commits_nothing server e (Apply term leader log) own m x = absurd own
-commits_nothing server e (Restart s known) own m x = absurd own
+commits_nothing server e action own m x = x
 
 pub all_commit_nothing : (server : ℕ) (e : EtcdCluster) (actions : List EtcdAction) → AreOwn server actions → (m : Commitment) → In m (after_etcd_actions e actions).cluster.commitments → In m e.cluster.commitments
 all_commit_nothing server e [] own m x = x
@@ -129,17 +113,7 @@ known_on_disk server e actions own bound log (inr m) = inr (m.0, all_commit_noth
 -- who looks stays as it is
 looks-after : (e : EtcdCluster) (action : EtcdAction) → (after_etcd_action e action).looks ≡ e.looks
 looks-after e (Campaign s term applied) = refl
-looks-after e (SeeTerm s term) = refl
-looks-after e (GrantVote s request) = refl
-looks-after e (BecomeLeader candidacy votes) = refl
-looks-after e (Propose term leader entry) = refl
-looks-after e (Send term leader before entries) = refl
-looks-after e (Receive s append) = refl
-looks-after e (Answer s term leader) = refl
-looks-after e (Heartbeat s term leader known) = refl
-looks-after e (Commit term leader log servers) = refl
-looks-after e (Apply term leader log) = refl
-looks-after e (Restart s known) = refl
+looks-after e action = refl
 
 pub looks-stay : (e : EtcdCluster) (actions : List EtcdAction) → (after_etcd_actions e actions).looks ≡ e.looks
 looks-stay e [] = refl

@@ -14,7 +14,7 @@ use Rattle.raft_safety.proofs.Logs.{IsPrefix-refl, IsPrefix-trans}
 use Rattle.raft_safety.proofs.Configurations.{voter_changes-prefix, voter_changes-entry}
 use Rattle.raft_safety.proofs.Invariants.{IsElectedWith-leads, log_of}
 use Rattle.raft_safety.proofs.Steps.BecomeLeader.{become_leader_by-keeps}
-use Rattle.raft_safety.proofs.Steps.Propose.{propose-keeps}
+use Rattle.raft_safety.proofs.Steps.OneLeader.{propose-keeps}
 use Rattle.raft_safety.proofs.Steps.Commit.{commit-rises, commit-keeps}
 use Rattle.raft_safety.proofs.Etcd.Invariants.{IsApplied, IsAppend, AreEtcdInvariants}
 use Rattle.raft_safety.proofs.Etcd.CoreSteps.{MayBecomeLeader-applied, MayCommit-applied}

@@ -1,18 +1,17 @@
 -- The theorem for etcd's rules: the invariants hold before anything happens, each action keeps them, and the claims follow.
-use Rattle.std.proofs.Common.{◌≡◌, ℕ, ◌+◌, List, [], ◌∷◌, ◌++◌, refl, sym, subst, inl, inr, arith}
+use Rattle.std.proofs.Common.{ℕ, ◌+◌, List, ◌++◌, refl, sym, subst, inl, inr, arith}
 use Rattle.std.specs.Prelude.{Bool}
 use Rattle.conf_change.specs.Configuration.{Configuration}
 use Rattle.raft_safety.specs.Logs.{Log}
-use Rattle.raft_safety.specs.Cluster.{Commitment, In, Leads}
-use Rattle.raft_safety.specs.Claims.{ElectionSafety, LeaderCompleteness, CommittedIsStored, LogMatching, StateMachineSafety, CommitOneLog}
+use Rattle.raft_safety.specs.Cluster.{Leads}
 use Rattle.raft_safety.specs.EtcdCluster.{Candidacy, EtcdCluster, new_etcd_cluster}
 use Rattle.raft_safety.specs.EtcdRules.{EtcdAction, Campaign, SeeTerm, GrantVote, BecomeLeader, Propose, Send, Receive, Answer, Heartbeat, Commit, Apply, Restart, IsAllowedByEtcd}
 use Rattle.raft_safety.specs.EtcdRuns.{after_etcd_action, after_etcd_actions, AreAllowedByEtcd}
 use Rattle.raft_safety.specs.EtcdClaims.{AppliedIsCommitted, IsAppliedIn, ApplyOneLog}
 use Rattle.raft_safety.proofs.Growth.{IsKnown-prefix}
 use Rattle.raft_safety.proofs.Invariants.{IsKnown, IsElectedWith-leads}
-use Rattle.raft_safety.proofs.Safety.OneLeader.{ElectionSafety-from_invariants}
-use Rattle.raft_safety.proofs.Claims.{AreCommitmentsKept, IsKnown-two_states, LeaderCompleteness-from_invariants, LogMatching-from_invariants, CommittedIsStored-from_invariants, CommitOneLog-from_invariants, StateMachineSafety-from_invariants}
+use Rattle.raft_safety.proofs.Claims.{AreCommitmentsKept, AreClaims, IsKnown-two_states}
+use Rattle.raft_safety.proofs.Runs.{all-keep, allowed-first, commitments-kept, claims-of_run}
 use Rattle.raft_safety.proofs.Theorem.{AreInvariants-new}
 use Rattle.raft_safety.proofs.Etcd.Invariants.{AreEtcdInvariants}
 use Rattle.raft_safety.proofs.Etcd.ServerActions.{campaign-keeps_etcd, see_term-keeps_etcd, grant_vote-keeps_etcd, take-keeps, answer-keeps, heartbeat-keeps, restart-keeps_etcd}
@@ -43,67 +42,21 @@ action_keeps first e (Apply term leader log) may i = apply-keeps first e term le
 action_keeps first e (Restart server known) may i = restart-keeps_etcd first e server known may i
 
 pub actions_keep : (first : Configuration) (e : EtcdCluster) (actions : List EtcdAction) → AreAllowedByEtcd first e actions → AreEtcdInvariants first e → AreEtcdInvariants first (after_etcd_actions e actions)
-actions_keep first e [] allowed i = i
-actions_keep first e (action ∷ actions) allowed i = actions_keep first (after_etcd_action e action) actions allowed.1 (action_keeps first e action allowed.0 i)
+actions_keep first = all-keep after_etcd_action (IsAllowedByEtcd first) (AreEtcdInvariants first) (action_keeps first)
 
 reached : (first : Configuration) (looks : ℕ → Bool) (actions : List EtcdAction) → AreAllowedByEtcd first (new_etcd_cluster looks) actions → AreEtcdInvariants first (after_etcd_actions (new_etcd_cluster looks) actions)
 reached first looks actions allowed = actions_keep first (new_etcd_cluster looks) actions allowed (new_holds first looks)
 
--- ---- two moments
-commitments_after : (e : EtcdCluster) (action : EtcdAction) (m : Commitment) → In m e.cluster.commitments → In m (after_etcd_action e action).cluster.commitments
-commitments_after e (Campaign server term applied) m x = x
-commitments_after e (SeeTerm server term) m x = x
-commitments_after e (GrantVote voter request) m x = x
-commitments_after e (BecomeLeader candidacy votes) m x = x
-commitments_after e (Propose term leader entry) m x = x
-commitments_after e (Send term leader before entries) m x = x
-commitments_after e (Receive server append) m x = x
-commitments_after e (Answer server term leader) m x = x
-commitments_after e (Heartbeat server term leader known) m x = x
-commitments_after e (Commit term leader log servers) m x = inr x
-commitments_after e (Apply term leader log) m x = x
-commitments_after e (Restart server known) m x = x
-
-commitments_stay : (e : EtcdCluster) (actions : List EtcdAction) (m : Commitment) → In m e.cluster.commitments → In m (after_etcd_actions e actions).cluster.commitments
-commitments_stay e [] m x = x
-commitments_stay e (action ∷ actions) m x = commitments_stay (after_etcd_action e action) actions m (commitments_after e action m x)
-
-after_both : (e : EtcdCluster) (early late : List EtcdAction) → after_etcd_actions e (early ++ late) ≡ after_etcd_actions (after_etcd_actions e early) late
-after_both e [] late = refl
-after_both e (action ∷ early) late = after_both (after_etcd_action e action) early late
-
-allowed_first : (first : Configuration) (e : EtcdCluster) (early late : List EtcdAction) → AreAllowedByEtcd first e (early ++ late) → AreAllowedByEtcd first e early
-allowed_first first e [] late allowed = tt
-allowed_first first e (action ∷ early) late allowed = (allowed.0, allowed_first first (after_etcd_action e action) early late allowed.1)
-
-commitments_kept : (looks : ℕ → Bool) (early late : List EtcdAction) → AreCommitmentsKept (after_etcd_actions (new_etcd_cluster looks) early).cluster (after_etcd_actions (new_etcd_cluster looks) (early ++ late)).cluster
-commitments_kept looks early late m x =
-    subst (λ (e : EtcdCluster). In m e.cluster.commitments) (sym (after_both (new_etcd_cluster looks) early late)) (commitments_stay (after_etcd_actions (new_etcd_cluster looks) early) late m x)
-
 -- ---- the claims
-pub ElectionSafety-reached_etcd : (first : Configuration) (looks : ℕ → Bool) (actions : List EtcdAction) → AreAllowedByEtcd first (new_etcd_cluster looks) actions → ElectionSafety (after_etcd_actions (new_etcd_cluster looks) actions).cluster
-ElectionSafety-reached_etcd first looks actions allowed = ElectionSafety-from_invariants first (after_etcd_actions (new_etcd_cluster looks) actions).cluster (reached first looks actions allowed).core
+stay : (e : EtcdCluster) (action : EtcdAction) → AreCommitmentsKept e.cluster (after_etcd_action e action).cluster
+stay e (Commit term leader log servers) m x = inr x
+stay e action m x = x
 
-pub LeaderCompleteness-reached_etcd : (first : Configuration) (looks : ℕ → Bool) (actions : List EtcdAction) → AreAllowedByEtcd first (new_etcd_cluster looks) actions → LeaderCompleteness (after_etcd_actions (new_etcd_cluster looks) actions).cluster
-LeaderCompleteness-reached_etcd first looks actions allowed = LeaderCompleteness-from_invariants first (after_etcd_actions (new_etcd_cluster looks) actions).cluster (reached first looks actions allowed).core
-
-pub LogMatching-reached_etcd : (first : Configuration) (looks : ℕ → Bool) (actions : List EtcdAction) → AreAllowedByEtcd first (new_etcd_cluster looks) actions → LogMatching (after_etcd_actions (new_etcd_cluster looks) actions).cluster
-LogMatching-reached_etcd first looks actions allowed = LogMatching-from_invariants first (after_etcd_actions (new_etcd_cluster looks) actions).cluster (reached first looks actions allowed).core
-
-pub CommittedIsStored-reached_etcd : (first : Configuration) (looks : ℕ → Bool) (actions : List EtcdAction) → AreAllowedByEtcd first (new_etcd_cluster looks) actions → CommittedIsStored (after_etcd_actions (new_etcd_cluster looks) actions).cluster
-CommittedIsStored-reached_etcd first looks actions allowed = CommittedIsStored-from_invariants first (after_etcd_actions (new_etcd_cluster looks) actions).cluster (reached first looks actions allowed).core
-
-pub CommitOneLog-reached_etcd : (first : Configuration) (looks : ℕ → Bool) (early late : List EtcdAction) → AreAllowedByEtcd first (new_etcd_cluster looks) (early ++ late)
-    → CommitOneLog (after_etcd_actions (new_etcd_cluster looks) early).cluster (after_etcd_actions (new_etcd_cluster looks) (early ++ late)).cluster
-CommitOneLog-reached_etcd first looks early late allowed =
-    CommitOneLog-from_invariants first (after_etcd_actions (new_etcd_cluster looks) early).cluster (after_etcd_actions (new_etcd_cluster looks) (early ++ late)).cluster
-    (reached first looks early (allowed_first first (new_etcd_cluster looks) early late allowed)).core (reached first looks (early ++ late) allowed).core (commitments_kept looks early late)
-
-pub StateMachineSafety-reached_etcd : (first : Configuration) (looks : ℕ → Bool) (early late : List EtcdAction) → AreAllowedByEtcd first (new_etcd_cluster looks) (early ++ late)
-    → StateMachineSafety (after_etcd_actions (new_etcd_cluster looks) early).cluster (after_etcd_actions (new_etcd_cluster looks) (early ++ late)).cluster
-StateMachineSafety-reached_etcd first looks early late allowed =
-    StateMachineSafety-from_invariants first (after_etcd_actions (new_etcd_cluster looks) early).cluster (after_etcd_actions (new_etcd_cluster looks) (early ++ late)).cluster
-    (reached first looks early (allowed_first first (new_etcd_cluster looks) early late allowed)).core (reached first looks (early ++ late) allowed).core (commitments_kept looks early late)
+pub claims-reached_etcd : (first : Configuration) (looks : ℕ → Bool) (early late : List EtcdAction) → AreAllowedByEtcd first (new_etcd_cluster looks) (early ++ late)
+    → AreClaims (after_etcd_actions (new_etcd_cluster looks) early).cluster (after_etcd_actions (new_etcd_cluster looks) (early ++ late)).cluster
+claims-reached_etcd first looks =
+    claims-of_run after_etcd_action (IsAllowedByEtcd first) (AreEtcdInvariants first) (action_keeps first) (λ e. e.cluster) (λ e action may i. stay e action) first (λ e i. i.core)
+    (new_etcd_cluster looks) (new_holds first looks)
 
 -- ---- what is applied
 pub AppliedIsCommitted-reached_etcd : (first : Configuration) (looks : ℕ → Bool) (actions : List EtcdAction) → AreAllowedByEtcd first (new_etcd_cluster looks) actions → AppliedIsCommitted (after_etcd_actions (new_etcd_cluster looks) actions)
@@ -129,7 +82,10 @@ known_applied first e i log (inr at) =
 pub ApplyOneLog-reached_etcd : (first : Configuration) (looks : ℕ → Bool) (early late : List EtcdAction) → AreAllowedByEtcd first (new_etcd_cluster looks) (early ++ late)
     → ApplyOneLog (after_etcd_actions (new_etcd_cluster looks) early) (after_etcd_actions (new_etcd_cluster looks) (early ++ late))
 ApplyOneLog-reached_etcd first looks early late allowed one other at_one at_other =
-    let a = known_applied first (after_etcd_actions (new_etcd_cluster looks) early) (reached first looks early (allowed_first first (new_etcd_cluster looks) early late allowed)) one at_one in
+    let before = allowed-first after_etcd_action (IsAllowedByEtcd first) (new_etcd_cluster looks) early late allowed in
+    let a = known_applied first (after_etcd_actions (new_etcd_cluster looks) early) (reached first looks early before) one at_one in
     let b = known_applied first (after_etcd_actions (new_etcd_cluster looks) (early ++ late)) (reached first looks (early ++ late) allowed) other at_other in
     IsKnown-two_states first (after_etcd_actions (new_etcd_cluster looks) early).cluster (after_etcd_actions (new_etcd_cluster looks) (early ++ late)).cluster (reached first looks (early ++ late) allowed).core
-    (commitments_kept looks early late) a.0 b.0 one other a.1 b.1
+    (commitments-kept after_etcd_action (IsAllowedByEtcd first) (AreEtcdInvariants first) (action_keeps first) (λ e. e.cluster) (λ e action may i. stay e action)
+    (new_etcd_cluster looks) early late allowed (new_holds first looks))
+    a.0 b.0 one other a.1 b.1

@@ -5,9 +5,9 @@ use Rattle.quorum_sets.specs.Ids.{has, Ids}
 use Rattle.conf_change.specs.Configuration.{Configuration}
 use Rattle.raft_safety.specs.Logs.{Log, IsPrefix}
 use Rattle.raft_safety.specs.Configurations.{IsQuorumAfter, voter_changes}
-use Rattle.raft_safety.specs.Cluster.{VoteRequest, Election, Commitment, Cluster, In}
+use Rattle.raft_safety.specs.Cluster.{VoteRequest, Election, Commitment, Cluster, In, HasVoted}
 use Rattle.raft_safety.proofs.Configurations.{DoMeet, DoMeet-one_change, voter_changes-prefix, change-numbered}
-use Rattle.raft_safety.proofs.Invariants.{MayCountBy, HasVoted, AreInvariants, log_of}
+use Rattle.raft_safety.proofs.Invariants.{MayCountBy, AreInvariants, log_of}
 use Rattle.raft_safety.proofs.Growth.{IsKnown-prefix}
 use Rattle.raft_safety.proofs.Safety.CommittedChain.{IsComplete, AreComplete, IsKnown-alike, IsKept-below}
 use Rattle.raft_safety.proofs.Logs.{IsPrefix-compare}

@@ -4,9 +4,9 @@ use Rattle.quorum_sets.specs.Ids.{has, Ids}
 use Rattle.conf_change.specs.Configuration.{Configuration}
 use Rattle.raft_safety.specs.Logs.{Log, IsPrefix}
 use Rattle.raft_safety.specs.Configurations.{IsQuorumAfter, voter_changes}
-use Rattle.raft_safety.specs.Cluster.{VoteRequest, Election, Cluster, In}
+use Rattle.raft_safety.specs.Cluster.{VoteRequest, Election, Cluster, In, HasVoted}
 use Rattle.raft_safety.proofs.Configurations.{DoMeet, DoMeet-one_change, voter_changes-prefix}
-use Rattle.raft_safety.proofs.Invariants.{IsKnown, MayCountBy, HasVoted, AreInvariants}
+use Rattle.raft_safety.proofs.Invariants.{IsKnown, MayCountBy, AreInvariants}
 use Rattle.raft_safety.proofs.Growth.{IsKnown-prefix}
 use Rattle.raft_safety.proofs.Safety.CommittedChain.{IsKnown-both_alike}
 use Rattle.raft_safety.proofs.Safety.OneBehind.{HasQuorum, DoMeet-shared_voter, HasQuorum-one_behind}

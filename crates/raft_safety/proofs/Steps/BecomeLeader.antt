@@ -4,8 +4,8 @@ use Rattle.quorum_sets.specs.Ids.{has, Ids}
 use Rattle.conf_change.specs.Configuration.{Configuration}
 use Rattle.raft_safety.specs.Logs.{Log, IsPrefix}
 use Rattle.raft_safety.specs.Configurations.{IsQuorumAfter}
-use Rattle.raft_safety.specs.Cluster.{VoteRequest, Election, Cluster, In, Leads, Leadership, with_value}
-use Rattle.raft_safety.proofs.Invariants.{IsGrown, MayCountBy, HasVoted, AreInvariants, log_of, IsElectedWith, IsElected}
+use Rattle.raft_safety.specs.Cluster.{VoteRequest, Election, Cluster, In, Leads, Leadership, with_value, HasVoted}
+use Rattle.raft_safety.proofs.Invariants.{IsGrown, MayCountBy, AreInvariants, log_of, IsElectedWith, IsElected}
 use Rattle.raft_safety.specs.Steps.{BecomeLeader, MayBecomeLeader, after_action}
 use Rattle.raft_safety.proofs.Updates.{with_value-here, with_value-there}
 use Rattle.raft_safety.proofs.Growth.{Follows, IsKnown-follows, IsServer-later, IsRequest-later, IsElectedWith-later, IsVote-later, IsCommitment-later, IsAcknowledged-later, voters_keep-later}

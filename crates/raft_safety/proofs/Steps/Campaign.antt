@@ -1,14 +1,15 @@
 -- The step Campaign keeps the invariants.
-use Rattle.std.proofs.Common.{◌≡◌, ℕ, ◌+◌, ◌≤◌, ◌<◌, refl, sym, ap, subst, ◌∙◌, inl, inr, arith}
+use Rattle.std.proofs.Common.{◌≡◌, ℕ, ◌∷◌, ◌+◌, ◌≤◌, ◌<◌, refl, sym, ap, subst, ◌∙◌, inl, inr, arith}
 use Rattle.conf_change.specs.Configuration.{Configuration}
 use Rattle.raft_safety.specs.Logs.{Log, IsPrefix, last_term}
-use Rattle.raft_safety.specs.Cluster.{VoteRequest, Cluster, In, Server, Vote, with_value}
-use Rattle.raft_safety.proofs.Invariants.{HasVoted, AreInvariants, log_of, HasAcknowledged, IsServer, IsRequest, IsVote}
+use Rattle.raft_safety.specs.Cluster.{VoteRequest, Cluster, In, Server, Vote, with_value, HasVoted, HasAcknowledged}
+use Rattle.raft_safety.proofs.Invariants.{AreInvariants, IsServer, IsRequest, IsVote}
 use Rattle.raft_safety.specs.Steps.{Campaign, MayCampaign, after_action}
-use Rattle.raft_safety.proofs.Updates.{with_value-here, with_value-term_rises, with_value-log_stays}
+use Rattle.raft_safety.proofs.Updates.{with_value-here, with_value-log_stays}
+use Rattle.raft_safety.proofs.Steps.OneServer.{Follows-server}
 use Rattle.raft_safety.proofs.Growth.{Follows, IsFromLeaders-later, IsKnown-follows, IsKept-back, IsServer-later, IsRequest-later, IsElectedWith-later, IsVote-later, IsCommitment-later, IsAcknowledged-later, voters_keep-later, IsServer-each, IsKnown-prefix}
 use Rattle.raft_safety.proofs.Safety.LedTerms.{last_term-acknowledged}
-use Rattle.raft_safety.proofs.Logs.{IsPrefix-refl, IsPrefix-trans}
+use Rattle.raft_safety.proofs.Logs.{IsPrefix-trans}
 
 pub campaign-keeps : (first : Configuration) (c : Cluster) (server term : ℕ) (counted : Log) → MayCampaign first c server term counted → AreInvariants first c
     → AreInvariants first (after_action c (Campaign server term counted))
@@ -19,17 +20,7 @@ campaign-keeps first c server term counted may i =
     let later : old.term < term = may.later in
     let was : IsServer c old = i.servers server in
     let r : VoteRequest = record { term = term; candidate = server; log = old.log; committed = counted } in
-    let f : Follows c d = record {
-      leads = λ t s l. l;
-      logs = λ t s l. IsPrefix-refl (log_of c t s);
-      back = λ log t s past l p. p;
-      elections = λ e x. x;
-      votes = λ v x. inr x;
-      requests = λ r x. inr x;
-      acknowledgements = λ a x. x;
-      commitments = λ m x. x;
-      terms = with_value-term_rises c.servers server new (omega arith);
-    } in
+    let f : Follows c d = Follows-server c server new (record { term = term; voter = server; candidate = server } ∷ c.votes) (r ∷ c.requests) c.acknowledgements (omega arith) (λ v x. inr x) (λ r x. inr x) (λ a x. x) in
     -- a vote of this server in this term is not there yet
     let no_vote : (candidate : ℕ) → HasVoted c term server candidate → ⊥ = λ candidate v. (let h : term ≤ old.term = (i.votes _ v).term in omega arith) in
     let no_request : (a : VoteRequest) → In a c.requests → a.term ≡ term → a.candidate ≡ server → ⊥ = λ a in_a t s.

@@ -1,18 +1,19 @@
 -- The step GrantVote keeps the invariants.
-use Rattle.std.proofs.Common.{◌≡◌, ℕ, ◌+◌, ◌≤◌, refl, sym, ap, subst, ◌∙◌, inl, inr, arith}
+use Rattle.std.proofs.Common.{◌≡◌, ℕ, ◌∷◌, ◌+◌, ◌≤◌, refl, sym, ap, subst, ◌∙◌, inl, inr, arith}
 use Rattle.std.proofs.lemmas.Bool.{cases_lt}
 use Rattle.conf_change.specs.Configuration.{Configuration}
 use Rattle.raft_safety.specs.Logs.{IsPrefix, IsUpToDate}
-use Rattle.raft_safety.specs.Cluster.{VoteRequest, Election, Cluster, Server, Vote, with_value}
-use Rattle.raft_safety.proofs.Invariants.{IsKept, HasVoted, AreInvariants, log_of, HasAcknowledged, IsServer, IsVote}
+use Rattle.raft_safety.specs.Cluster.{VoteRequest, Election, Cluster, Server, Vote, with_value, HasVoted, HasAcknowledged}
+use Rattle.raft_safety.proofs.Invariants.{IsKept, AreInvariants, log_of, IsServer, IsVote}
 use Rattle.raft_safety.specs.Steps.{GrantVote, MayGrantVote, after_action}
 use Rattle.raft_safety.proofs.Terms.{IsPrefix-up_to_date}
-use Rattle.raft_safety.proofs.Updates.{with_value-here, with_value-term_rises, with_value-log_stays}
+use Rattle.raft_safety.proofs.Updates.{with_value-here, with_value-log_stays}
+use Rattle.raft_safety.proofs.Steps.OneServer.{Follows-server}
 use Rattle.raft_safety.proofs.Growth.{Follows, IsKept-back, IsServer-later, IsRequest-later, IsElectedWith-later, IsVote-later, IsCommitment-later, IsAcknowledged-later, voters_keep-later, IsServer-each}
 use Rattle.raft_safety.proofs.Safety.OneLeader.{ElectionSafety-from_invariants}
 use Rattle.raft_safety.proofs.Safety.CompleteLeaders.{IsPrefix-grown}
 use Rattle.raft_safety.proofs.Safety.LedTerms.{leaders-are, led_terms-positive, last_term-acknowledged}
-use Rattle.raft_safety.proofs.Logs.{IsPrefix-refl, IsPrefix-trans}
+use Rattle.raft_safety.proofs.Logs.{IsPrefix-trans}
 
 pub grant_vote-keeps : (first : Configuration) (c : Cluster) (voter : ℕ) (r : VoteRequest) → MayGrantVote c voter r → AreInvariants first c → AreInvariants first (after_action c (GrantVote voter r))
 grant_vote-keeps first c voter r may i =
@@ -21,17 +22,7 @@ grant_vote-keeps first c voter r may i =
     let d : Cluster = after_action c (GrantVote voter r) in
     let was : IsServer c old = i.servers voter in
     let order : old.term ≤ r.term = may.not_past in
-    let f : Follows c d = record {
-      leads = λ t s l. l;
-      logs = λ t s l. IsPrefix-refl (log_of c t s);
-      back = λ log t s past l p. p;
-      elections = λ e x. x;
-      votes = λ v x. inr x;
-      requests = λ r x. x;
-      acknowledgements = λ a x. x;
-      commitments = λ m x. x;
-      terms = with_value-term_rises c.servers voter new order;
-    } in
+    let f : Follows c d = Follows-server c voter new (record { term = r.term; voter = voter; candidate = r.candidate } ∷ c.votes) c.requests c.acknowledgements order (λ v x. inr x) (λ r x. x) (λ a x. x) in
     record {
       servers = IsServer-each first c d f i voter new (IsServer-later c d f old r.term order was);
       requests = λ a x. IsRequest-later first c d f a (i.requests a x);

@@ -1,9 +1,9 @@
 -- A step that changes one server, and neither what was said nor any leader, keeps the invariants if they hold of the new
 -- state: as the steps Restart and SeeTerm.
-use Rattle.std.proofs.Common.{◌≡◌, ℕ, ◌+◌, ◌≤◌, ◌<◌, refl, arith}
+use Rattle.std.proofs.Common.{◌≡◌, ℕ, ◌+◌, ◌≤◌, ◌<◌, List, refl, arith}
 use Rattle.conf_change.specs.Configuration.{Configuration}
 use Rattle.raft_safety.specs.Logs.{Log}
-use Rattle.raft_safety.specs.Cluster.{Cluster, Server}
+use Rattle.raft_safety.specs.Cluster.{Vote, VoteRequest, Acknowledgement, Cluster, In, Server}
 use Rattle.raft_safety.specs.Steps.{Restart, SeeTerm, MayRestart, MaySeeTerm, after_action, with_server}
 use Rattle.raft_safety.proofs.Invariants.{AreInvariants, IsServer, log_of}
 use Rattle.raft_safety.proofs.Updates.{with_value-term_rises, with_value-log_stays}
@@ -11,21 +11,30 @@ use Rattle.raft_safety.proofs.Growth.{Follows, IsFromLeaders-later, IsKnown-foll
 use Rattle.raft_safety.proofs.Safety.LedTerms.{last_term-acknowledged}
 use Rattle.raft_safety.proofs.Logs.{IsPrefix-refl, IsPrefix-trans}
 
+-- where more may be said
+abbrev pub after_server : Cluster → ℕ → Server → List Vote → List VoteRequest → List Acknowledgement → Cluster
+after_server c server new votes requests acknowledgements = record (with_server c server new) { votes = votes; requests = requests; acknowledgements = acknowledgements }
+
+pub Follows-server : (c : Cluster) (server : ℕ) (new : Server) (votes : List Vote) (requests : List VoteRequest) (acknowledgements : List Acknowledgement) → (c.servers server).term ≤ new.term
+    → ((v : Vote) → In v c.votes → In v votes) → ((r : VoteRequest) → In r c.requests → In r requests) → ((a : Acknowledgement) → In a c.acknowledgements → In a acknowledgements)
+    → Follows c (after_server c server new votes requests acknowledgements)
+Follows-server c server new votes requests acknowledgements rises more_votes more_requests more_acknowledgements = record {
+  leads = λ t s l. l;
+  logs = λ t s l. IsPrefix-refl (log_of c t s);
+  back = λ log t s past l p. p;
+  elections = λ e x. x;
+  votes = more_votes;
+  requests = more_requests;
+  acknowledgements = more_acknowledgements;
+  commitments = λ m x. x;
+  terms = with_value-term_rises c.servers server new rises;
+}
+
 pub with_server-keeps : (first : Configuration) (c : Cluster) (server : ℕ) (new : Server) → (c.servers server).term ≤ new.term → (c.servers server).log ≡ new.log
     → AreInvariants first c → (Follows c (with_server c server new) → IsServer (with_server c server new) new) → AreInvariants first (with_server c server new)
 with_server-keeps first c server new rises stays i holds =
     let d : Cluster = with_server c server new in
-    let f : Follows c d = record {
-      leads = λ t s l. l;
-      logs = λ t s l. IsPrefix-refl (log_of c t s);
-      back = λ log t s past l p. p;
-      elections = λ e x. x;
-      votes = λ v x. x;
-      requests = λ r x. x;
-      acknowledgements = λ a x. x;
-      commitments = λ m x. x;
-      terms = with_value-term_rises c.servers server new rises;
-    } in
+    let f : Follows c d = Follows-server c server new c.votes c.requests c.acknowledgements rises (λ v x. x) (λ r x. x) (λ a x. x) in
     record {
       servers = IsServer-each first c d f i server new (holds f);
       requests = λ r x. IsRequest-later first c d f r (i.requests r x);

@@ -1,18 +1,19 @@
 -- The step Receive keeps the invariants.
-use Rattle.std.proofs.Common.{◌≡◌, ℕ, ◌+◌, ◌≤◌, sym, ap, subst, ◌∙◌, inl, inr, arith}
+use Rattle.std.proofs.Common.{◌≡◌, ℕ, ◌∷◌, ◌+◌, ◌≤◌, sym, ap, subst, ◌∙◌, inl, inr, arith}
 use Rattle.std.proofs.lemmas.Bool.{cases_lt}
 use Rattle.conf_change.specs.Configuration.{Configuration}
 use Rattle.raft_safety.specs.Logs.{Log, IsPrefix, last_term, longer}
 use Rattle.raft_safety.specs.Cluster.{Election, Acknowledgement, Cluster, In, Leads, Server}
 use Rattle.raft_safety.proofs.Invariants.{IsKnown, AreInvariants, log_of, IsServer, IsFromLeaders, IsAcknowledged}
 use Rattle.raft_safety.specs.Steps.{after_action, Receive, MayReceive}
-use Rattle.raft_safety.proofs.Updates.{with_value-here, with_value-each, with_value-term_rises}
+use Rattle.raft_safety.proofs.Updates.{with_value-here, with_value-each}
+use Rattle.raft_safety.proofs.Steps.OneServer.{Follows-server}
 use Rattle.raft_safety.proofs.Growth.{Follows, IsFromLeaders-later, IsKnown-follows, IsKept-back, IsServer-later, IsRequest-later, IsElectedWith-later, IsVote-later, IsCommitment-later, voters_keep-later, IsKnown-prefix}
 use Rattle.raft_safety.proofs.Safety.OneLeader.{log_of-one_leader}
 use Rattle.raft_safety.proofs.Safety.KnownCommitted.{IsKnown-in_leader}
 use Rattle.raft_safety.proofs.Safety.LedTerms.{last_term-led, last_term-acknowledged}
 use Rattle.raft_safety.proofs.FromLeaders.{IsFromLeaders-led}
-use Rattle.raft_safety.proofs.Logs.{IsPrefix-refl, IsPrefix-trans, IsPrefix-compare, longer-each}
+use Rattle.raft_safety.proofs.Logs.{IsPrefix-trans, IsPrefix-compare, longer-each}
 
 pub receive-keeps : (first : Configuration) (c : Cluster) (server term leader : ℕ) (sent known after : Log) → MayReceive c server term leader sent known after
     → AreInvariants first c → AreInvariants first (after_action c (Receive server term leader sent known after))
@@ -29,17 +30,7 @@ receive-keeps first c server term leader sent known after may i =
     (subst (λ (t : ℕ). IsKnown c (t + 1) (c.leaderships t el.request.candidate).committed) may.leads.2 (i.elections el may.leads.1).known) in
     let known_in : IsPrefix known L = IsPrefix-trans known sent L may.known_of may.sent_of in
     let old_in : IsPrefix old.committed L = IsKnown-in_leader first c i term leader (old.term + 1) old.committed may.leads was.known (omega arith) in
-    let f : Follows c d = record {
-      leads = λ t s l. l;
-      logs = λ t s l. IsPrefix-refl (log_of c t s);
-      back = λ log t s past l p. p;
-      elections = λ e x. x;
-      votes = λ v x. x;
-      requests = λ r x. x;
-      acknowledgements = λ a x. inr x;
-      commitments = λ m x. x;
-      terms = with_value-term_rises c.servers server new order;
-    } in
+    let f : Follows c d = Follows-server c server new c.votes c.requests (record { term = term; server = server; log = sent } ∷ c.acknowledgements) order (λ v x. x) (λ r x. x) (λ a x. inr x) in
     let new_known : IsKnown d (term + 1) new.committed = longer-each (IsKnown d (term + 1)) old.committed known
     (λ less. IsKnown-follows c d f (term + 1) (term + 1) (omega arith) known (IsKnown-prefix c (term + 1) known (c.leaderships term leader).committed may.committed its_known))
     (λ not_less. IsKnown-follows c d f (old.term + 1) (term + 1) (omega arith) old.committed was.known) in

@@ -1,18 +1,18 @@
 -- How many changes of the voters in leaders' logs a log lacks, while leaders are elected, propose and commit.
-use Rattle.std.proofs.Common.{◌≡◌, ℕ, ◌+◌, ◌≤◌, List, [], ◌∷◌, sym, ap, subst, inl, inr, arith}
+use Rattle.std.proofs.Common.{◌≡◌, ℕ, ◌+◌, ◌≤◌, ◌⊎◌, List, [], ◌∷◌, sym, ap, subst, inl, inr, arith}
 use Rattle.std.specs.Prelude.{nat_eq}
 use Rattle.std.proofs.lemmas.Bool.{cases_eq, cond-true, cond-false}
 use Rattle.std.proofs.lemmas.Bool.Decides.{nat_tests}
 use Rattle.quorum_sets.specs.Ids.{Ids}
 use Rattle.conf_change.specs.Configuration.{Configuration}
-use Rattle.raft_safety.specs.Logs.{Entry, Log}
+use Rattle.raft_safety.specs.Logs.{Entry, Log, IsPrefix}
 use Rattle.raft_safety.specs.Configurations.{voter_changes}
-use Rattle.raft_safety.specs.Cluster.{VoteRequest, Election, Leadership, Cluster, In, Leads}
+use Rattle.raft_safety.specs.Cluster.{VoteRequest, Election, Leadership, Cluster, In, Leads, with_value}
 use Rattle.raft_safety.specs.Steps.{after_action, with_leadership}
 use Rattle.raft_safety.specs.Steps as core
 use Rattle.raft_safety.specs.Waiting.{HasChanges, without}
-use Rattle.raft_safety.proofs.Configurations.{voter_changes-prefix}
-use Rattle.raft_safety.proofs.Updates.{with_leadership-each, leadership-same, with_leadership-here}
+use Rattle.raft_safety.proofs.Configurations.{voter_changes-prefix, voter_changes-entry}
+use Rattle.raft_safety.proofs.Updates.{with_value-each, with_leadership-each, leadership-same, with_leadership-here}
 use Rattle.raft_safety.proofs.Invariants.{IsFromLeaders, log_of}
 
 -- so it is with any log of entries of leaders
@@ -41,13 +41,30 @@ HasChanges-elected first c r votes stored from has t s l =
       | inr in_c ↦ with_leadership-each c r.term r.candidate new Few t s (λ same_t same_s. new_few) (has t s (l.0, in_c, l.2, l.3))
     ]
 
--- where a leader has one more entry
+-- where a leader has one more entry, which changes no voters, or all changes before it are stored
 pub HasChanges-proposed : (first : Configuration) (c : Cluster) (term leader : ℕ) (entry : Entry) (stored : Log) → Leads c term leader
-    → voter_changes first (entry ∷ log_of c term leader) ≤ voter_changes first stored + 1 → HasChanges first c stored → HasChanges first (after_action c (core.Propose term leader entry)) stored
-HasChanges-proposed first c term leader entry stored leads few has t s l =
+    → (voter_changes first (entry ∷ log_of c term leader) ≡ voter_changes first (log_of c term leader)) ⊎ (voter_changes first (log_of c term leader) ≤ voter_changes first stored)
+    → HasChanges first c stored → HasChanges first (after_action c (core.Propose term leader entry)) stored
+HasChanges-proposed first c term leader entry stored leads waits has t s l =
     let now : Leadership = c.leaderships term leader in
+    let few : voter_changes first (entry ∷ now.log) ≤ voter_changes first stored + 1 = elim waits [
+      | inl idle ↦ (
+          let k : voter_changes first (entry ∷ now.log) ≡ voter_changes first now.log = idle in
+          let h : voter_changes first now.log ≤ voter_changes first stored + 1 = has term leader leads in
+          omega arith)
+      | inr waited ↦ (let one : voter_changes first (entry ∷ now.log) ≤ voter_changes first now.log + 1 = voter_changes-entry first entry now.log in omega arith)
+    ] in
     with_leadership-each c term leader (record now { log = entry ∷ now.log }) (λ (q : Leadership). voter_changes first q.log ≤ voter_changes first stored + 1) t s
     (λ same_t same_s. few) (has t s l)
+
+-- where a server has stored more
+pub HasChanges-stored : (first : Configuration) (c : Cluster) (stored : ℕ → Log) (members : List ℕ) (server : ℕ) (log : Log) → IsPrefix (stored server) log
+    → ((member : ℕ) → In member members → HasChanges first c (stored member)) → (member : ℕ) → In member members → HasChanges first c (with_value stored server log member)
+HasChanges-stored first c stored members server log more has member x =
+    let s1 : voter_changes first (stored server) ≤ voter_changes first log = voter_changes-prefix first (stored server) log more in
+    with_value-each (HasChanges first c) stored server log member
+    (λ same t s l. (let h : voter_changes first (log_of c t s) ≤ voter_changes first (stored server) + 1 = subst (λ (q : ℕ). HasChanges first c (stored q)) same (has member x) t s l in omega arith))
+    (λ other. has member x)
 
 -- where the log of a leader stays as it was
 pub HasChanges-same_log : (first : Configuration) (c : Cluster) (term leader : ℕ) (new : Leadership) (stored : Log) → new.log ≡ log_of c term leader → Leads c term leader

@@ -1,5 +1,5 @@
 -- Each action keeps the invariants.
-use Rattle.std.proofs.Common.{◌≡◌, ℕ, ◌+◌, ◌≤◌, ◌∷◌, refl, sym, subst, inl, inr, arith}
+use Rattle.std.proofs.Common.{ℕ, ◌+◌, ◌≤◌, refl, sym, subst, inl, inr, arith}
 use Rattle.quorum_sets.specs.Ids.{Ids}
 use Rattle.conf_change.specs.Configuration.{Configuration}
 use Rattle.raft_safety.specs.Logs.{Entry, Log, IsPrefix, longer}
@@ -8,20 +8,19 @@ use Rattle.raft_safety.specs.Cluster.{Server, VoteRequest, Leadership, Commitmen
 use Rattle.raft_safety.specs.Steps.{MayBecomeLeader, MayLearn, MayReceive}
 use Rattle.raft_safety.specs.Waiting.{HasChanges, WaitingCluster, WaitingAction, Join, Leave, Campaign, SeeTerm, GrantVote, BecomeLeader, Learn, Propose, Receive, Commit, Store, Crash, MayCampaignWaiting, MayLearnWaiting, MayProposeWaiting, MayCommitWaiting, IsBetween, IsAllowedWaiting, after_waiting}
 use Rattle.raft_safety.proofs.Logs.{IsPrefix-refl, IsPrefix-trans, shorter-prefix, longer-each}
-use Rattle.raft_safety.proofs.Configurations.{voter_changes-prefix, voter_changes-entry}
+use Rattle.raft_safety.proofs.Configurations.{voter_changes-prefix}
 use Rattle.raft_safety.proofs.Updates.{with_value-each}
 use Rattle.raft_safety.proofs.Etcd.Growth.{with_value-both}
 use Rattle.raft_safety.proofs.Invariants.{AreInvariants, log_of}
 use Rattle.raft_safety.proofs.Safety.KnownCommitted.{IsKnown-in_leader}
 use Rattle.raft_safety.proofs.Steps.OneServer.{see_term-keeps}
 use Rattle.raft_safety.proofs.Steps.Campaign.{campaign-keeps}
-use Rattle.raft_safety.proofs.Steps.Learn.{learn-keeps}
+use Rattle.raft_safety.proofs.Steps.OneLeader.{learn-keeps, propose-keeps}
 use Rattle.raft_safety.proofs.Steps.GrantVote.{grant_vote-keeps}
 use Rattle.raft_safety.proofs.Steps.BecomeLeader.{become_leader-keeps}
-use Rattle.raft_safety.proofs.Steps.Propose.{propose-keeps}
 use Rattle.raft_safety.proofs.Steps.Receive.{receive-keeps}
 use Rattle.raft_safety.proofs.Steps.Commit.{commit-keeps}
-use Rattle.raft_safety.proofs.Waiting.Changes.{few_of, HasChanges-elected, HasChanges-proposed, HasChanges-same_log, was_member}
+use Rattle.raft_safety.proofs.Waiting.Changes.{few_of, HasChanges-elected, HasChanges-proposed, HasChanges-same_log, HasChanges-stored, was_member}
 
 -- ---- the invariants
 pub record AreWaitingInvariants (first : Configuration) (w : WaitingCluster) : Type 0 where
@@ -30,22 +29,6 @@ pub record AreWaitingInvariants (first : Configuration) (w : WaitingCluster) : T
   pub stored : (server : ℕ) → IsPrefix (w.stored server) (w.known server)
   pub changes : (member : ℕ) → In member w.members → HasChanges first w.cluster (w.stored member)
 
-campaign-keeps_waiting : (first : Configuration) (w : WaitingCluster) (server term : ℕ) (counted : Log) → MayCampaignWaiting w server term counted → AreWaitingInvariants first w
-    → AreWaitingInvariants first (after_waiting w (Campaign server term counted))
-campaign-keeps_waiting first w server term counted may i =
-    let c : Cluster = w.cluster in
-    let old : Server = c.servers server in
-    let new : Server = record old { term = term } in
-    let s1 : voter_changes first old.log ≤ voter_changes first (w.stored server) + 1 = few_of first c (w.stored server) (i.changes server may.member) old.log (i.core.servers server).from_leaders in
-    let s2 : voter_changes first (w.stored server) ≤ voter_changes first counted = voter_changes-prefix first (w.stored server) counted may.stored in
-    record {
-      core = campaign-keeps first c server term counted (record { later = may.later; committed = IsPrefix-trans counted (w.known server) old.committed may.known (i.known server); one_change_beyond = omega arith }) i.core;
-      known = λ k. with_value-each (λ (x : Server). IsPrefix (w.known k) x.committed) c.servers server new k
-          (λ same. subst (λ (q : ℕ). IsPrefix (w.known q) old.committed) (sym same) (i.known server)) (λ other. i.known k);
-      stored = i.stored;
-      changes = i.changes;
-    }
-
 -- a server of which only the term has changed
 term_keeps : (w : WaitingCluster) (server term : ℕ) → ((k : ℕ) → IsPrefix (w.known k) (w.cluster.servers k).committed)
     → (k : ℕ) → IsPrefix (w.known k) (with_value w.cluster.servers server (record (w.cluster.servers server) { term = term }) k).committed
@@ -53,6 +36,20 @@ term_keeps w server term known k =
     let old : Server = w.cluster.servers server in
     with_value-each (λ (x : Server). IsPrefix (w.known k) x.committed) w.cluster.servers server (record old { term = term }) k
     (λ same. subst (λ (q : ℕ). IsPrefix (w.known q) old.committed) (sym same) (known server)) (λ other. known k)
+
+campaign-keeps_waiting : (first : Configuration) (w : WaitingCluster) (server term : ℕ) (counted : Log) → MayCampaignWaiting w server term counted → AreWaitingInvariants first w
+    → AreWaitingInvariants first (after_waiting w (Campaign server term counted))
+campaign-keeps_waiting first w server term counted may i =
+    let c : Cluster = w.cluster in
+    let old : Server = c.servers server in
+    let s1 : voter_changes first old.log ≤ voter_changes first (w.stored server) + 1 = few_of first c (w.stored server) (i.changes server may.member) old.log (i.core.servers server).from_leaders in
+    let s2 : voter_changes first (w.stored server) ≤ voter_changes first counted = voter_changes-prefix first (w.stored server) counted may.stored in
+    record {
+      core = campaign-keeps first c server term counted (record { later = may.later; committed = IsPrefix-trans counted (w.known server) old.committed may.known (i.known server); one_change_beyond = omega arith }) i.core;
+      known = term_keeps w server term i.known;
+      stored = i.stored;
+      changes = i.changes;
+    }
 
 become_leader-keeps_waiting : (first : Configuration) (w : WaitingCluster) (r : VoteRequest) (votes : Ids) → MayBecomeLeader first w.cluster r votes → AreWaitingInvariants first w
     → AreWaitingInvariants first (after_waiting w (BecomeLeader r votes))
@@ -66,23 +63,11 @@ become_leader-keeps_waiting first w r votes may i = record {
 propose-keeps_waiting : (first : Configuration) (w : WaitingCluster) (term leader : ℕ) (entry : Entry) → MayProposeWaiting first w term leader entry → AreWaitingInvariants first w
     → AreWaitingInvariants first (after_waiting w (Propose term leader entry))
 propose-keeps_waiting first w term leader entry may i =
-    let log : Log = (w.cluster.leaderships term leader).log in
     record {
       core = propose-keeps first w.cluster term leader entry (record { own_term = may.own_term }) i.core;
       known = i.known;
       stored = i.stored;
-      changes = λ member x. HasChanges-proposed first w.cluster term leader entry (w.stored member) may.leads
-          (elim may.waits [
-            | inl idle ↦ (
-                let k : voter_changes first (entry ∷ log) ≡ voter_changes first log = idle in
-                let h : voter_changes first log ≤ voter_changes first (w.stored member) + 1 = i.changes member x term leader may.leads in
-                omega arith)
-            | inr waited ↦ (
-                let h = waited member x in
-                let one : voter_changes first (entry ∷ log) ≤ voter_changes first log + 1 = voter_changes-entry first entry log in
-                omega arith)
-          ])
-          (i.changes member x);
+      changes = λ member x. HasChanges-proposed first w.cluster term leader entry (w.stored member) may.leads (elim may.waits [ inl idle ↦ inl idle | inr waited ↦ inr (waited member x) ]) (i.changes member x);
     }
 
 learn-keeps_waiting : (first : Configuration) (w : WaitingCluster) (term leader : ℕ) (known : Log) → MayLearnWaiting w term leader known → AreWaitingInvariants first w
@@ -154,16 +139,11 @@ receive-keeps_waiting first w server term leader sent known after may i =
 store-keeps : (first : Configuration) (w : WaitingCluster) (server : ℕ) (log : Log) → IsBetween (w.stored server) log (w.known server) → AreWaitingInvariants first w
     → AreWaitingInvariants first (after_waiting w (Store server log))
 store-keeps first w server log may i =
-    let s1 : voter_changes first (w.stored server) ≤ voter_changes first log = voter_changes-prefix first (w.stored server) log may.at_least in
     record {
       core = i.core;
       known = i.known;
       stored = λ k. with_value-each (λ (x : Log). IsPrefix x (w.known k)) w.stored server log k (λ same. subst (λ (q : ℕ). IsPrefix log (w.known q)) (sym same) may.at_most) (λ other. i.stored k);
-      changes = λ member x. with_value-each (HasChanges first w.cluster) w.stored server log member
-          (λ same t s l. (
-          let h : voter_changes first (log_of w.cluster t s) ≤ voter_changes first (w.stored server) + 1 = subst (λ (q : ℕ). voter_changes first (log_of w.cluster t s) ≤ voter_changes first (w.stored q) + 1) same (i.changes member x t s l) in
-          omega arith))
-          (λ other. i.changes member x);
+      changes = HasChanges-stored first w.cluster w.stored w.members server log may.at_least i.changes;
     }
 
 crash-keeps_waiting : (first : Configuration) (w : WaitingCluster) (server : ℕ) (known : Log) → IsBetween (w.stored server) known (w.known server) → AreWaitingInvariants first w

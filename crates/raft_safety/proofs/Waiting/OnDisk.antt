@@ -10,20 +10,19 @@ use Rattle.raft_safety.specs.EtcdRules.{EtcdAction, IsReady, MayCampaignApplied,
 use Rattle.raft_safety.specs.EtcdRules as etcd
 use Rattle.raft_safety.specs.EtcdRuns.{after_etcd_action, after_etcd_actions}
 use Rattle.raft_safety.specs.DiskCluster.{DiskCluster, memory, in_memory, new_disk_cluster}
-use Rattle.raft_safety.specs.DiskRules.{DiskAction, Campaign, Take, Save, Say, Lead, Propose, Send, Raise, Use, ApplyAsLeader, Apply, Crash, IsOwn, IsAllowedOnDisk}
+use Rattle.raft_safety.specs.DiskRules.{DiskAction, Campaign, Save, Lead, Propose, Use, IsOwn, IsAllowedOnDisk}
 use Rattle.raft_safety.specs.DiskRuns.{after_disk_action, AreAllowedOnDisk}
 use Rattle.raft_safety.specs.Waiting.{HasChanges}
 use Rattle.raft_safety.specs.WaitingOnDisk.{WaitingDisks, WaitingDiskAction, Join, Leave, Store, Do, MayCampaignStored, MayProposeStored, IsAllowedWaitingOnDisk, AreAllowedWaitingOnDisk, after_waiting_on_disk, new_waiting_disks, done}
 use Rattle.raft_safety.proofs.Logs.{IsPrefix-trans}
-use Rattle.raft_safety.proofs.Configurations.{voter_changes-prefix, voter_changes-entry}
-use Rattle.raft_safety.proofs.Updates.{with_value-each}
+use Rattle.raft_safety.proofs.Configurations.{voter_changes-prefix}
 use Rattle.raft_safety.proofs.Invariants.{IsElectedWith-leads, log_of}
 use Rattle.raft_safety.proofs.Etcd.Theorem.{actions_keep}
 use Rattle.raft_safety.proofs.Disk.Memory.{AreOwn}
 use Rattle.raft_safety.proofs.Disk.Invariants.{AreDiskInvariants, looks-stay}
 use Rattle.raft_safety.proofs.Disk.Actions.{own_first, disk_action_keeps}
 use Rattle.raft_safety.proofs.Disk.Theorem.{new_holds_disk}
-use Rattle.raft_safety.proofs.Waiting.Changes.{few_of, HasChanges-elected, HasChanges-proposed, HasChanges-same_log, was_member}
+use Rattle.raft_safety.proofs.Waiting.Changes.{few_of, HasChanges-elected, HasChanges-proposed, HasChanges-same_log, HasChanges-stored, was_member}
 
 record AreWaitingDisks (first : Configuration) (w : WaitingDisks) : Type 0 where
   disks : AreDiskInvariants first w.cluster
@@ -33,18 +32,10 @@ record AreWaitingDisks (first : Configuration) (w : WaitingDisks) : Type 0 where
 -- ---- what a server does by itself is nothing to leaders
 own_keeps : (first : Configuration) (server : ℕ) (e : EtcdCluster) (action : EtcdAction) → IsOwn server action → (stored : Log) → HasChanges first e.cluster stored
     → HasChanges first (after_etcd_action e action).cluster stored
-own_keeps first server e (etcd.Campaign s term applied) own stored has = has
-own_keeps first server e (etcd.SeeTerm s term) own stored has = has
-own_keeps first server e (etcd.GrantVote s request) own stored has = has
-own_keeps first server e (etcd.Receive s append) own stored has = has
-own_keeps first server e (etcd.Answer s term leader) own stored has = has
-own_keeps first server e (etcd.Heartbeat s term leader known) own stored has = has
 own_keeps first server e (etcd.BecomeLeader candidacy votes) own stored has = absurd own
 own_keeps first server e (etcd.Propose term leader entry) own stored has = absurd own
-own_keeps first server e (etcd.Send term leader before entries) own stored has = absurd own
 own_keeps first server e (etcd.Commit term leader log servers) own stored has = absurd own
-own_keeps first server e (etcd.Apply term leader log) own stored has = absurd own
-own_keeps first server e (etcd.Restart s known) own stored has = absurd own
+own_keeps first server e action own stored has = has
 
 all_own_keep : (first : Configuration) (server : ℕ) (e : EtcdCluster) (actions : List EtcdAction) → AreOwn server actions → (stored : Log) → HasChanges first e.cluster stored
     → HasChanges first (after_etcd_actions e actions).cluster stored
@@ -95,72 +86,31 @@ proposes first w term leader entry may i =
 allowed_do : (first : Configuration) (w : WaitingDisks) (action : DiskAction) → IsAllowedWaitingOnDisk first w (Do action) → AreWaitingDisks first w → IsAllowedOnDisk first w.cluster action
 allowed_do first w (Campaign server term) may i = campaigns first w server term may i
 allowed_do first w (Propose term leader entry) may i = proposes first w term leader entry may i
-allowed_do first w (Take server action) may i = may
-allowed_do first w (Save server saved rest commit) may i = may
-allowed_do first w (Say message) may i = may
-allowed_do first w (Lead candidacy votes) may i = may
-allowed_do first w (Send term leader before entries) may i = may
-allowed_do first w (Raise term leader log servers) may i = may
-allowed_do first w (Use raised) may i = may
-allowed_do first w (ApplyAsLeader term leader log) may i = may
-allowed_do first w (Apply server log) may i = may
-allowed_do first w (Crash server known applied configured) may i = may
+allowed_do first w action may i = may
 
 -- ---- and keeps the invariants
-proposed : (first : Configuration) (w : WaitingDisks) (term leader : ℕ) (entry : Entry) → MayProposeStored first w term leader entry → AreWaitingDisks first w → (member : ℕ) → In member w.members
-    → voter_changes first (entry ∷ log_of w.cluster.disk.cluster term leader) ≤ voter_changes first (w.stored member) + 1
-proposed first w term leader entry may i member x =
-    let log : Log = log_of w.cluster.disk.cluster term leader in
-    elim may.waits [
-      | inl idle ↦ (
-          let k : voter_changes first (entry ∷ log) ≡ voter_changes first log = idle in
-          let h : voter_changes first log ≤ voter_changes first (w.stored member) + 1 = i.changes member x term leader may.leads in
-          omega arith)
-      | inr waited ↦ (
-          let h : voter_changes first log ≤ voter_changes first (w.stored member) = waited.2 member x in
-          let one : voter_changes first (entry ∷ log) ≤ voter_changes first log + 1 = voter_changes-entry first entry log in
-          omega arith)
-    ]
-
 changes_do : (first : Configuration) (w : WaitingDisks) (action : DiskAction) → IsAllowedWaitingOnDisk first w (Do action) → AreWaitingDisks first w → (member : ℕ) → In member w.members
     → HasChanges first (after_disk_action w.cluster action).disk.cluster (w.stored member)
-changes_do first w (Campaign server term) may i member x = i.changes member x
-changes_do first w (Take server action) may i member x = i.changes member x
 changes_do first w (Save server saved rest commit) may i member x =
     let d : DiskCluster = w.cluster in
     let order : d.unsaved server ≡ saved ++ rest = may.in_order in
     all_own_keep first server d.disk saved (own_first server saved rest (subst (AreOwn server) order (i.disks.own server))) (w.stored member) (i.changes member x)
-changes_do first w (Say message) may i member x = i.changes member x
 changes_do first w (Lead candidacy votes) may i member x =
     let core = i.disks.disk.core in
     HasChanges-elected first w.cluster.disk.cluster candidacy.request votes (w.stored member)
     (core.requests candidacy.request (i.disks.disk.candidacies candidacy may.asked).asked).from_leaders (i.changes member x)
 changes_do first w (Propose term leader entry) may i member x =
-    HasChanges-proposed first w.cluster.disk.cluster term leader entry (w.stored member) may.leads (proposed first w term leader entry may i member x) (i.changes member x)
-changes_do first w (Send term leader before entries) may i member x = i.changes member x
-changes_do first w (Raise term leader log servers) may i member x = i.changes member x
+    HasChanges-proposed first w.cluster.disk.cluster term leader entry (w.stored member) may.leads (elim may.waits [ inl idle ↦ inl idle | inr waited ↦ inr (waited.2 member x) ]) (i.changes member x)
 changes_do first w (Use raised) may i member x =
     let c : Cluster = w.cluster.disk.cluster in
     let term : ℕ = raised.commitment.term in
     let now : Leadership = c.leaderships term raised.leader in
     HasChanges-same_log first c term raised.leader (record now { committed = raised.commitment.log }) (w.stored member) refl (i.disks.raised raised may.rose).leads (i.changes member x)
-changes_do first w (ApplyAsLeader term leader log) may i member x = i.changes member x
-changes_do first w (Apply server log) may i member x = i.changes member x
-changes_do first w (Crash server known applied configured) may i member x = i.changes member x
+changes_do first w action may i member x = i.changes member x
 
 looks_do : (d : DiskCluster) (action : DiskAction) → (after_disk_action d action).disk.looks ≡ d.disk.looks
-looks_do d (Campaign server term) = refl
-looks_do d (Take server action) = refl
 looks_do d (Save server saved rest commit) = looks-stay d.disk saved
-looks_do d (Say message) = refl
-looks_do d (Lead candidacy votes) = refl
-looks_do d (Propose term leader entry) = refl
-looks_do d (Send term leader before entries) = refl
-looks_do d (Raise term leader log servers) = refl
-looks_do d (Use raised) = refl
-looks_do d (ApplyAsLeader term leader log) = refl
-looks_do d (Apply server log) = refl
-looks_do d (Crash server known applied configured) = refl
+looks_do d action = refl
 
 waiting_disks_keep : (first : Configuration) (w : WaitingDisks) (action : WaitingDiskAction) → IsAllowedWaitingOnDisk first w action → AreWaitingDisks first w → AreWaitingDisks first (after_waiting_on_disk w action)
 waiting_disks_keep first w (Join server) may i = record {
@@ -176,18 +126,11 @@ waiting_disks_keep first w (Leave server) may i = record {
   looks = i.looks;
   changes = λ member x. i.changes member (was_member member server w.members x);
 }
-waiting_disks_keep first w (Store server log) may i =
-    let more : voter_changes first (w.stored server) ≤ voter_changes first log = voter_changes-prefix first (w.stored server) log may in
-    record {
-      disks = i.disks;
-      looks = i.looks;
-      changes = λ member x. with_value-each (HasChanges first w.cluster.disk.cluster) w.stored server log member
-          (λ same t s l. (
-          let h : voter_changes first (log_of w.cluster.disk.cluster t s) ≤ voter_changes first (w.stored server) + 1
-          = subst (λ (q : ℕ). voter_changes first (log_of w.cluster.disk.cluster t s) ≤ voter_changes first (w.stored q) + 1) same (i.changes member x t s l) in
-          omega arith))
-          (λ other. i.changes member x);
-    }
+waiting_disks_keep first w (Store server log) may i = record {
+  disks = i.disks;
+  looks = i.looks;
+  changes = HasChanges-stored first w.cluster.disk.cluster w.stored w.members server log may i.changes;
+}
 waiting_disks_keep first w (Do action) may i = record {
   disks = (disk_action_keeps first w.cluster action (allowed_do first w action may i) i.disks).0;
   looks = looks_do w.cluster action ∙ i.looks;
