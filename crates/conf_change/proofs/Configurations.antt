@@ -3,5 +3,4 @@
 pub mod Validity
 pub mod Equality
 pub mod DescribedByLists
-pub mod SameSavedForm
 pub mod Violations

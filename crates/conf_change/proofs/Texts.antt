@@ -4,4 +4,3 @@ pub mod ChangeTokens
 pub mod ConfStateLine
 pub mod PrintedConfig
 pub mod PrintedText
-pub mod AppendedParts

@@ -167,8 +167,8 @@ outgoing_is_kept = simp written_out refl
 named_twice : restored (record { voters = 1 ∷ 1 ∷ []; voters_outgoing = []; learners = []; learners_next = []; auto_leave = false }) ≡ None
 named_twice = simp written_out refl
 
-stranger_next : restored (record { voters = 1 ∷ 2 ∷ 3 ∷ []; voters_outgoing = 1 ∷ 2 ∷ 4 ∷ 6 ∷ []; learners = 5 ∷ []; learners_next = 7 ∷ []; auto_leave = false }) ≡ None
-stranger_next = simp written_out refl
+next_of_no_voter : restored (record { voters = 1 ∷ 2 ∷ 3 ∷ []; voters_outgoing = 1 ∷ 2 ∷ 4 ∷ 6 ∷ []; learners = 5 ∷ []; learners_next = 7 ∷ []; auto_leave = false }) ≡ None
+next_of_no_voter = simp written_out refl
 
 learner_alone : restored (record { voters = []; voters_outgoing = []; learners = 1 ∷ []; learners_next = []; auto_leave = false }) ≡ None
 learner_alone = simp written_out refl

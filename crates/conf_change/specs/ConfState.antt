@@ -1,8 +1,5 @@
 -- Saved configurations (etcd's `raftpb.ConfState`): four lists and a flag.
 use Rattle.std.specs.Prelude.{◌≡◌, ℕ, Bool, ◌&&◌, List, length, Option, Some, None, nat_eq, if◌then◌else◌}
-use Rattle.std.specs.Bool.{beq}
-use Rattle.std.specs.Cmp.{IsPartialEquivalence, partial_equiv_from_equiv, and_per, on_per, nat_eq_equiv, bool_eq_equiv}
-use Rattle.std.specs.Cmp.Lexicographic.{pointwise, lists_per}
 use Rattle.quorum_sets.specs.Ids.{Ids, ascending, size, ids_of}
 use Rattle.conf_change.specs.Configuration.{Configuration, is_restorable}
 
@@ -13,20 +10,6 @@ pub record ConfStateLists : Type 0 where
   pub learners : List ℕ
   pub learners_next : List ℕ
   pub auto_leave : Bool
-
--- whether two ConfStates have the same lists, in the same order, and the same flag
-abbrev pub is_same_conf_state : ConfStateLists → ConfStateLists → Bool
-is_same_conf_state a b =
-    pointwise nat_eq a.voters b.voters && pointwise nat_eq a.voters_outgoing b.voters_outgoing
-    && pointwise nat_eq a.learners b.learners && pointwise nat_eq a.learners_next b.learners_next && beq a.auto_leave b.auto_leave
-
--- equality of ConfStates is symmetric and transitive
-pub is_same_conf_state-laws : IsPartialEquivalence is_same_conf_state
-is_same_conf_state-laws =
-    let lists = lists_per (partial_equiv_from_equiv nat_eq_equiv) in
-    and_per (and_per (and_per (and_per
-    (on_per (λ s. s.voters) lists) (on_per (λ s. s.voters_outgoing) lists)) (on_per (λ s. s.learners) lists)) (on_per (λ s. s.learners_next) lists))
-    (on_per (λ s. s.auto_leave) (partial_equiv_from_equiv bool_eq_equiv))
 
 -- the list names the ids of the set, each once
 pub record Lists (list : List ℕ) (ids : Ids) : Type 0 where

@@ -19,6 +19,5 @@ pub mod Described
 pub mod Violation
 pub mod Text
 pub mod ChangeList
-pub mod SameChanges
 pub mod ConfStateLine
 pub mod PrintedConfig

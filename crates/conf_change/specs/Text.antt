@@ -1,7 +1,8 @@
 -- The printed texts of configurations, progress and refusals, as etcd's packages `tracker` and `confchange` print them.
-use Rattle.std.specs.Prelude.{ℕ, Bool, not, List, [], ◌++◌, map, codes, decimal, nat_lt, if◌then◌else◌}
+use Rattle.std.specs.Prelude.{ℕ, Bool, not, List, [], ◌++◌, map, codes, decimal, if◌then◌else◌}
 use Rattle.std.specs.List.{join_with_byte}
 pub use Rattle.ascii_text.specs.Append.{Extends}
+use Rattle.ascii_text.specs.Append.{gap}
 use Rattle.quorum_sets.specs.Ids.{Ids, ascending, is_empty}
 use Rattle.conf_change.specs.Configuration.{Configuration, is_joint}
 use Rattle.conf_change.specs.ChangeList.{BadToken, unknown_token, unknown_input, bad_number}
@@ -19,7 +20,7 @@ spaced_numbers numbers = join_with_byte 32 (map decimal numbers)
 
 -- the number at a position of a list, after a space unless it is the first
 abbrev pub spaced_number : ℕ → ℕ → List ℕ
-spaced_number position number = text_if (nat_lt 0 position) (codes " ") ++ decimal number
+spaced_number position number = gap position ++ decimal number
 
 -- a set, as (1 2 3)
 abbrev pub set_text : Ids → List ℕ

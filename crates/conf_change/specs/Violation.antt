@@ -1,12 +1,11 @@
 -- What is wrong with an invalid configuration, or with a ConfState or a line that describes no valid one (own).
-use Rattle.std.specs.Prelude.{ℕ, not, ◌||◌, List, [], ◌∷◌, Option, Some, None, Result, Ok, Err, find, option_map, option_and_then, slice_get, if◌then◌else◌}
+use Rattle.std.specs.Prelude.{ℕ, not, ◌||◌, List, [], ◌∷◌, Option, Some, None, Result, Ok, Err, find, option_map, if◌then◌else◌}
 use Rattle.std.specs.Option.{option_or}
 use Rattle.quorum_sets.specs.Ids.{has, ascending, ids_of}
-use Rattle.conf_change.specs.Configuration.{Configuration, first_broken}
+use Rattle.conf_change.specs.Configuration.{Configuration, keeps}
 use Rattle.conf_change.specs.ConfState.{ConfStateLists, named_by}
 use Rattle.conf_change.specs.ConfStateLine.{conf_state_in}
-use Rattle.conf_change.specs.declared.config.Invariant.{Invariant}
-use Rattle.conf_change.specs.declared.config.Invariant.TheVariants.{ZeroId, NextNotOutgoing, NextAndIncoming, LearnerAndVoter, NotJointButNext, NotJointButAutoLeave}
+use Rattle.conf_change.specs.declared.config.Invariant.TheVariants.{ZeroId, NotJointButAutoLeave}
 use Rattle.conf_change.specs.declared.violation.Violation.{Violation}
 use Rattle.conf_change.specs.declared.violation.Violation.TheVariants as violated
 use Rattle.conf_change.specs.declared.configuration_line.ConfigurationFault.{ConfigurationFault}
@@ -14,18 +13,14 @@ use Rattle.conf_change.specs.declared.configuration_line.ConfigurationFault.TheV
 use Rattle.conf_change.specs.declared.saved_configuration.ConfStateFault.{ConfStateFault}
 use Rattle.conf_change.specs.declared.saved_configuration.ConfStateFault.TheVariants as line_fault
 
--- an invariant that is broken, with the least id that breaks it
-abbrev pub violation_by : Configuration → Invariant → Option Violation
-violation_by c ZeroId = Some violated.ZeroId
-violation_by c NextNotOutgoing = option_map violated.NextNotOutgoing (find (λ id. not (has c.outgoing id)) (ascending c.learners_next))
-violation_by c NextAndIncoming = option_map violated.NextAndIncoming (find (λ id. has c.incoming id) (ascending c.learners_next))
-violation_by c LearnerAndVoter = option_map violated.LearnerAndVoter (find (λ id. has c.incoming id || has c.outgoing id) (ascending c.learners))
-violation_by c NotJointButNext = option_map violated.NotJointButNext (slice_get (ascending c.learners_next) 0)
-violation_by c NotJointButAutoLeave = Some violated.NotJointButAutoLeave
-
 -- the first invariant that is broken, with the least id that breaks it
 abbrev pub violation_of : Configuration → Option Violation
-violation_of c = option_and_then (violation_by c) (first_broken c)
+violation_of c =
+    option_or (if keeps c ZeroId then None else Some violated.ZeroId)
+    (option_or (option_map violated.NextNotOutgoing (find (λ id. not (has c.outgoing id)) (ascending c.learners_next)))
+    (option_or (option_map violated.NextAndIncoming (find (has c.incoming) (ascending c.learners_next)))
+    (option_or (option_map violated.LearnerAndVoter (find (λ id. has c.incoming id || has c.outgoing id) (ascending c.learners)))
+    (if keeps c NotJointButAutoLeave then None else Some violated.NotJointButAutoLeave))))
 
 -- the first id in a list that occurs in it again: 1 of 1 2 3 2 1
 abbrev pub first_repeat : List ℕ → Option ℕ

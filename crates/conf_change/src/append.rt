@@ -5,7 +5,7 @@ ghost use Rattle.conf_change.specs.ConfStateLine.{ParsesToNumbers};
 ghost use Rattle.conf_change.specs.Text.{text_if, spaced_number, spaced_numbers};
 
 use ascii_text::NoMemory;
-use ascii_text::append::{append, append_number};
+use ascii_text::append::{append, append_gap, append_number};
 
 // Appends a part if `there` is true, such as ` learner` after the progress of a learner.
 pub(crate) fn append_if(text: &mut Vec<u8>, there: bool, part: &[u8]) -> Result<(), NoMemory>
@@ -24,9 +24,7 @@ pub(crate) fn append_number_at(
     ensures ok { OnOk result (text.new.items ≡ text.old.items ++ spaced_number position number) }
     ensures extends { Extends text.old.items text.new.items }
 {
-    if position > 0 {
-        append(text, b" ")?;
-    }
+    append_gap(text, position)?;
     append_number(text, number)?;
     Ok(())
 }

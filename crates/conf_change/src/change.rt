@@ -42,18 +42,6 @@ impl Model for Changes {
     ghost view = { λ inner. inner.list.items };
 }
 
-impl PartialEq for Changes {
-    ghost use Rattle.conf_change.specs.SameChanges.{is_same_list, is_same_list-laws};
-
-    ghost eq = { is_same_list };
-
-    ghost laws = { is_same_list-laws };
-
-    fn eq(&self, other: &Changes) -> bool {
-        self.list == other.list
-    }
-}
-
 impl From<Vec<Change>> for Changes {
     ghost from_gives = { λ list changes. changes ≡ list.items };
 

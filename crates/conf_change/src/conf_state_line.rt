@@ -8,7 +8,6 @@
 ghost use Rattle.std.specs.Prelude.{◌≡◌, ◌<◌, ◌++◌, Some, None, Err, IfOk, OnOk, OnErr};
 ghost use Rattle.ascii_text.specs.Append.{Extends};
 ghost use Rattle.conf_change.specs.Text.{spaced_numbers};
-ghost use Rattle.conf_change.specs.ConfState.{ConfStateLists};
 ghost use Rattle.conf_change.specs.ConfStateLine as line;
 ghost use Rattle.conf_change.specs.ConfStateLine.{ParsesToNumbers, DenotesConfState, conf_state_text, conf_state_in, numbers_in, field_in, line_in, auto_leave_in};
 
@@ -42,11 +41,9 @@ impl From<AllocError> for ConfStateFault {
 }
 
 /// Appends the line of a ConfState, without a newline, its lists in their order (etcd's `raft.DescribeConfState`).
-#[tactic(auto, using(crate::proofs::Texts::ConfStateLine::line_laws))]
 pub fn write_conf_state(text: &mut Vec<u8>, state: &ConfState) -> Result<(), NoMemory>
     ensures ok { OnOk result (text.new.items ≡ text.old.items ++ conf_state_text state.now) }
     ensures denotes { OnOk result (DenotesConfState (conf_state_text state.now) state.now) }
-    ensures reads_back { OnOk result (conf_state_in (conf_state_text state.now) ≡ Some state.now) }
     ensures err { OnErr result (text.new.items ≡ text.old.items) }
 {
     let len = text.len();
@@ -75,7 +72,8 @@ fn truth_text(truth: bool) -> &'static [u8]
 
 // Appends the prefix of a field, as `Voters:[`, and its numbers.
 fn append_field(text: &mut Vec<u8>, name: &[u8], numbers: &[u64]) -> Result<(), NoMemory>
-    ensures ok { OnOk result (text.new.items ≡ text.old.items ++ (name.now ++ spaced_numbers numbers.now)) }
+    ensures ok { OnOk result
+        (text.new.items ≡ text.old.items ++ (name.now ++ spaced_numbers numbers.now)) }
     ensures parsed { OnOk result (ParsesToNumbers (spaced_numbers numbers.now) numbers.now) }
     ensures extends { Extends text.old.items text.new.items }
 {
@@ -85,14 +83,9 @@ fn append_field(text: &mut Vec<u8>, name: &[u8], numbers: &[u64]) -> Result<(), 
 
 /// Reads a ConfState line: the form that `write_conf_state` appends, with any white space around it and any leading
 /// zeros in its numbers, and nothing else (own). A list may have any order, which is kept. A line in another form is
-/// refused with BadConfState.
-#[tactic(auto, using(crate::proofs::Texts::ConfStateLine::line_laws))]
+/// refused with BadConfState. The law [`one_conf_state_per_text`](crate::laws::one_conf_state_per_text) says which
+/// ConfState a text denotes.
 pub fn read_conf_state(alloc: Global, text: &[u8]) -> Result<ConfState, ConfStateFault>
-    ensures denotes { IfOk result (DenotesConfState text.now) }
-    ensures bad { result ≡ Err ConfStateFault.BadConfState → (state : ConfStateLists)
-        → ¬ (DenotesConfState text.now state) }
-
-    // As a function of the text:
     ensures value { IfOk result (λ state. conf_state_in text.now ≡ Some state) }
     ensures fault { result ≡ Err ConfStateFault.BadConfState → conf_state_in text.now ≡ None }
 {
@@ -123,7 +116,8 @@ fn read_field<'a>(
     prefix: &[u8],
     text: &'a [u8],
 ) -> Result<(Vec<u64>, &'a [u8]), ConfStateFault>
-    ensures ok { IfOk result (λ read. field_in prefix.now text.now ≡ Some (read.0.items, read.1.now)) }
+    ensures ok { IfOk result
+        (λ read. field_in prefix.now text.now ≡ Some (read.0.items, read.1.now)) }
     ensures bad { result ≡ Err ConfStateFault.BadConfState → field_in prefix.now text.now ≡ None }
 {
     let text = text

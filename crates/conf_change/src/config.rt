@@ -4,19 +4,16 @@
 //! (1 2) learners=(3)                  1 and 2 vote, and 3 learns
 //! (1 2)&&(1 3) learners_next=(3)      joint: 3 still votes, and is to become a learner
 //! ```
-ghost use Rattle.std.specs.Prelude.{◌≡◌, ◌↔◌, List, map, Some, true, false, not, ◌&&◌, IfOk, IfErr, OnOk, OnErr, IsOk, IsTrue, if◌then◌else◌};
-ghost use Rattle.quorum_sets.specs.Ids.{has};
+ghost use Rattle.std.specs.Prelude.{◌≡◌, ◌↔◌, List, map, true, IfOk, OnOk};
 ghost use Rattle.quorum_sets.specs.AscendingLists.{IsAscending};
-ghost use Rattle.conf_change.specs.Configuration.{empty_configuration, is_joint, has_voter, first_broken, is_valid, keeps, is_within, is_apart, is_same, is_same_set};
+ghost use Rattle.conf_change.specs.Configuration.{empty_configuration, is_joint, has_voter, is_same, is_same_set};
 ghost use Rattle.conf_change.specs.Change.{result_of};
 ghost use Rattle.conf_change.specs.Edits.{AreEdits, with_voters_out};
 ghost use Rattle.conf_change.specs.Outcome.{after_leave};
 ghost use Rattle.conf_change.specs.declared.change.Change.{Change};
-ghost use Rattle.conf_change.specs.declared.config.Invariant.{Invariant};
 
 use crate::edit_list::{Edit, Role};
-use crate::find_id::find_id;
-use quorum_sets::{MemberSet, NoMemory, contains_from, symdiff, union};
+use quorum_sets::{MemberSet, NoMemory, symdiff, union};
 use std::alloc::Global;
 use std::marker::Model;
 use thiserror::Error;
@@ -147,8 +144,10 @@ impl<S: MemberSet> Config<S> {
         edits: &[(u64, Edit)],
     ) -> Result<(), NoMemory>
         requires { IsAscending (map (λ e. e.0) edits.now) }
-        ensures { OnOk result ((changes : List Change) → AreEdits changes (S.ids outgoing.now) edits.now
-            → self.new ≡ result_of (with_voters_out before.now (S.ids outgoing.now) auto_leave) changes) }
+        ensures { OnOk result
+            ((changes : List Change) → AreEdits changes (S.ids outgoing.now) edits.now
+            → self.new ≡ result_of
+            (with_voters_out before.now (S.ids outgoing.now) auto_leave) changes) }
     {
         self.outgoing.try_clone_from(outgoing)?;
         self.auto_leave = auto_leave;
@@ -186,76 +185,4 @@ pub fn has_same_ids<S: MemberSet>(a: &S, b: &S) -> bool
     ensures { result ≡ is_same_set (S.ids a.now) (S.ids b.now) }
 {
     symdiff(a, b) == 0
-}
-
-/// Checks a configuration; the error is the first invariant that it breaks (etcd's `checkInvariants`).
-pub fn check<S: MemberSet>(config: &Config<S>) -> Result<(), Invariant>
-    ensures valid { IsOk result ↔ IsTrue (is_valid config.now) }
-    ensures first { (broken : Invariant) → ((result ≡ Err broken) ↔ (first_broken config.now ≡ Some broken)) }
-{
-    if holds_zero(config) {
-        return Err(Invariant::ZeroId);
-    }
-    if !is_within(&config.learners_next, &config.outgoing) {
-        return Err(Invariant::NextNotOutgoing);
-    }
-    if !is_apart(&config.learners_next, &config.incoming) {
-        return Err(Invariant::NextAndIncoming);
-    }
-    if !is_apart(&config.learners, &config.incoming)
-        || !is_apart(&config.learners, &config.outgoing)
-    {
-        return Err(Invariant::LearnerAndVoter);
-    }
-    check_single(config)
-}
-
-// Checks the two invariants of a configuration that is not joint. A joint one keeps both.
-fn check_single<S: MemberSet>(config: &Config<S>) -> Result<(), Invariant>
-    ensures kept { OnOk result ((keeps config.now Invariant.NotJointButNext && keeps config.now Invariant.NotJointButAutoLeave) ≡ true) }
-    ensures not_kept { OnErr result ((keeps config.now Invariant.NotJointButNext && keeps config.now Invariant.NotJointButAutoLeave) ≡ false) }
-    ensures broken { IfErr result (λ broken. broken
-        ≡ (if keeps config.now Invariant.NotJointButNext then Invariant.NotJointButAutoLeave
-        else Invariant.NotJointButNext)) }
-{
-    if config.outgoing.len() != 0 {
-        Ok(())
-    } else if config.learners_next.len() != 0 {
-        Err(Invariant::NotJointButNext)
-    } else if config.auto_leave {
-        Err(Invariant::NotJointButAutoLeave)
-    } else {
-        Ok(())
-    }
-}
-
-// Whether one of the four sets has the id 0.
-fn holds_zero<S: MemberSet>(config: &Config<S>) -> bool
-    ensures { result ≡ not (keeps config.now Invariant.ZeroId) }
-{
-    begins_with_zero(&config.incoming)
-        || begins_with_zero(&config.outgoing)
-        || begins_with_zero(&config.learners)
-        || begins_with_zero(&config.learners_next)
-}
-
-// Whether the set has 0, which would be its first id.
-fn begins_with_zero<S: MemberSet>(set: &S) -> bool
-    ensures { result ≡ has (S.ids set.now) 0 }
-{
-    contains_from(set, &mut 0, 0)
-}
-
-// Whether each id of the first set is in the second.
-fn is_within<S: MemberSet>(ids: &S, others: &S) -> bool
-    ensures { result ≡ is_within (S.ids ids.now) (S.ids others.now) }
-{
-    find_id(ids, |id| !others.contains(id)).is_none()
-}
-
-// Whether no id of the first set is in the second.
-fn is_apart<S: MemberSet>(ids: &S, others: &S) -> bool
-    ensures { result ≡ is_apart (S.ids ids.now) (S.ids others.now) }
-{
-    find_id(ids, |id| others.contains(id)).is_none()
 }

@@ -61,7 +61,8 @@ pub fn read_configuration<S: MemberSet>(
 ) -> Result<Config<S>, ConfigurationFault>
     ensures configuration { IfOk result (λ c. configuration_in line.now ≡ Ok c) }
     ensures valid { IfOk result (λ c. is_valid c ≡ true) }
-    ensures described { IfOk result (λ c. option_and_then described (conf_state_in line.now) ≡ Some c) }
+    ensures described { IfOk result
+        (λ c. option_and_then described (conf_state_in line.now) ≡ Some c) }
     ensures fault { IfErr result (λ fault. (fault ≡ ConfigurationFault.NoMemory)
         ⊎ (configuration_in line.now ≡ Err fault)) }
 {
@@ -80,7 +81,8 @@ pub fn valid_configuration<S: MemberSet>(
     ensures configuration { IfOk result (λ c. valid_of state.now ≡ Ok c) }
     ensures valid { IfOk result (λ c. is_valid c ≡ true) }
     ensures described { IfOk result (λ c. described state.now ≡ Some c) }
-    ensures fault { IfErr result (λ fault. (fault ≡ ConfigurationFault.NoMemory) ⊎ (valid_of state.now ≡ Err fault)) }
+    ensures fault { IfErr result
+        (λ fault. (fault ≡ ConfigurationFault.NoMemory) ⊎ (valid_of state.now ≡ Err fault)) }
 {
     valid_lists(alloc, &state.lists())
 }
@@ -93,7 +95,8 @@ pub fn valid_lists<S: MemberSet>(
     ensures configuration { IfOk result (λ c. valid_of lists.now ≡ Ok c) }
     ensures valid { IfOk result (λ c. is_valid c ≡ true) }
     ensures described { IfOk result (λ c. described lists.now ≡ Some c) }
-    ensures fault { IfErr result (λ fault. (fault ≡ ConfigurationFault.NoMemory) ⊎ (valid_of lists.now ≡ Err fault)) }
+    ensures fault { IfErr result
+        (λ fault. (fault ≡ ConfigurationFault.NoMemory) ⊎ (valid_of lists.now ≡ Err fault)) }
 {
     let config = match described_lists(alloc, lists) {
         Ok(config) => config,

@@ -5,10 +5,8 @@
 //! (1 2 3)        --enter-joint v4 r1-->  (2 3 4)&&(1 2 3)
 //! (1 2)          --simple r1 r2-->       refused: RemovedAllVoters
 //! ```
-ghost use Rattle.std.specs.Prelude.{◌≡◌, ◌≢◌, List, map, Ok, Err, IfOk, IfErr, OnOk};
-ghost use Rattle.quorum_sets.specs.AscendingLists.{IsAscending};
+ghost use Rattle.std.specs.Prelude.{◌≡◌, ◌≢◌, Ok, Err, IfOk, IfErr, OnOk};
 ghost use Rattle.conf_change.specs.Change.{result_of};
-ghost use Rattle.conf_change.specs.Configuration.{is_joint, has_voter};
 ghost use Rattle.conf_change.specs.Edits.{AreEdits, HasEdits, with_voters_out};
 ghost use Rattle.conf_change.specs.Outcome.{outcome};
 ghost use Rattle.conf_change.specs.Transition.{step_of};
@@ -29,15 +27,30 @@ pub fn next_config<S: MemberSet>(
     kind: StepKind,
     changes: &[Change],
 ) -> Result<Config<S>, Refused>
-    ensures accepted { IfOk result (λ next. outcome before.now (step_of kind changes.now) ≡ Ok next) }
+    ensures accepted { IfOk result
+        (λ next. outcome before.now (step_of kind changes.now) ≡ Ok next) }
     ensures refused { IfErr result (λ why. why ≢ Refused.NoMemory
         → outcome before.now (step_of kind changes.now) ≡ Err why) }
 {
-    let alloc = before.incoming.allocator();
-    let mut next = Config::empty(alloc);
-    let mut edits = SmallVec::new(alloc);
-    become_next(&mut next, &mut edits, before, kind, changes)?;
+    let mut next = Config::empty(before.incoming.allocator());
+    next_config_into(&mut next, before, kind, changes)?;
     Ok(next)
+}
+
+/// As [`next_config`], but overwrites a configuration, whose memory is used again (own). If the step is refused, its
+/// content is unspecified.
+pub fn next_config_into<S: MemberSet>(
+    next: &mut Config<S>,
+    before: &Config<S>,
+    kind: StepKind,
+    changes: &[Change],
+) -> Result<(), Refused>
+    ensures accepted { OnOk result (outcome before.now (step_of kind changes.now) ≡ Ok next.new) }
+    ensures refused { IfErr result (λ why. why ≢ Refused.NoMemory
+        → outcome before.now (step_of kind changes.now) ≡ Err why) }
+{
+    let mut edits = SmallVec::new(before.incoming.allocator());
+    become_next(next, &mut edits, before, kind, changes)
 }
 
 // Overwrites a configuration with the result of a step, and `edits` with what its changes make of each id that they
@@ -62,6 +75,7 @@ pub(crate) fn become_next<S: MemberSet>(
 }
 
 // Overwrites a configuration with the result of a simple change.
+#[tactic(auto, using(crate::proofs::Steps::OneChange::few_voters))]
 fn become_simple<S: MemberSet>(
     next: &mut Config<S>,
     edits: &mut Edits,
@@ -69,7 +83,8 @@ fn become_simple<S: MemberSet>(
     changes: &[Change],
 ) -> Result<(), Refused>
     ensures accepted { OnOk result (outcome before.now (Simple changes.now) ≡ Ok next.new) }
-    ensures refused { IfErr result (λ why. why ≢ Refused.NoMemory → outcome before.now (Simple changes.now) ≡ Err why) }
+    ensures refused { IfErr result
+        (λ why. why ≢ Refused.NoMemory → outcome before.now (Simple changes.now) ≡ Err why) }
     ensures edits { OnOk result (AreEdits changes.now next.new.outgoing edits.new.items) }
 {
     if before.is_joint() {
@@ -86,7 +101,8 @@ fn become_simple<S: MemberSet>(
     if !next.has_voter() {
         return Err(Refused::RemovedAllVoters);
     }
-    if symdiff(&before.incoming, &next.incoming) > 1 {
+    // One change alters at most one voter.
+    if changes.len() != 1 && symdiff(&before.incoming, &next.incoming) > 1 {
         return Err(Refused::MoreThanOneVoter);
     }
     Ok(())
@@ -100,7 +116,8 @@ fn become_joint<S: MemberSet>(
     auto_leave: bool,
     changes: &[Change],
 ) -> Result<(), Refused>
-    ensures accepted { OnOk result (outcome before.now (EnterJoint auto_leave changes.now) ≡ Ok next.new) }
+    ensures accepted { OnOk result
+        (outcome before.now (EnterJoint auto_leave changes.now) ≡ Ok next.new) }
     ensures refused { IfErr result (λ why. why ≢ Refused.NoMemory
         → outcome before.now (EnterJoint auto_leave changes.now) ≡ Err why) }
     ensures edits { OnOk result (AreEdits changes.now next.new.outgoing edits.new.items) }
@@ -121,7 +138,8 @@ fn become_joint<S: MemberSet>(
 // Overwrites a configuration with the result of leaving a joint one.
 fn become_left<S: MemberSet>(next: &mut Config<S>, before: &Config<S>) -> Result<(), Refused>
     ensures accepted { OnOk result (outcome before.now LeaveJoint ≡ Ok next.new) }
-    ensures refused { IfErr result (λ why. why ≢ Refused.NoMemory → outcome before.now LeaveJoint ≡ Err why) }
+    ensures refused { IfErr result
+        (λ why. why ≢ Refused.NoMemory → outcome before.now LeaveJoint ≡ Err why) }
 {
     if !before.is_joint() {
         return Err(Refused::NotJoint);
@@ -140,7 +158,8 @@ fn become_changed<S: MemberSet>(
     changes: &[Change],
 ) -> Result<(), NoMemory>
     ensures changed { OnOk result
-        (next.new ≡ result_of (with_voters_out before.now (S.ids outgoing.now) auto_leave) changes.now) }
+        (next.new ≡ result_of
+        (with_voters_out before.now (S.ids outgoing.now) auto_leave) changes.now) }
     ensures edits { OnOk result (AreEdits changes.now (S.ids outgoing.now) edits.new.items) }
 {
     settle(edits, changes, outgoing)?;

@@ -23,7 +23,7 @@ pub(crate) struct Edit {
     pub(crate) outgoing: bool,
 }
 
-/// The edits of a list, in ascending order of the ids.
+/// The edits of a list, in ascending order of the ids. Few changes are made at once, and up to 8 take no memory.
 pub(crate) type Edits = SmallVec<(u64, Edit), 8>;
 
 /// A role that an edit gives an id or takes from it: that of an incoming voter, a learner or a next learner.

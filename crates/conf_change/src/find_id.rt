@@ -8,7 +8,8 @@ use quorum_sets::MemberSet;
 // The least id of a set that passes the test.
 pub(crate) fn find_id<S: MemberSet, F: Fn(u64) -> bool>(ids: &S, test: F) -> Option<u64>
     requires { F.IsAlwaysCallable test }
-    ensures { (passes : ℕ → Bool) → Computes (F.post test) passes → result ≡ find passes (ascending (S.ids ids.now)) }
+    ensures { (passes : ℕ → Bool) → Computes (F.post test) passes
+        → result ≡ find passes (ascending (S.ids ids.now)) }
 {
     for position in 0..ids.len() {
         if let Some(id) = ids.at(position) {

@@ -15,8 +15,8 @@ ghost use Rattle.conf_change.specs.declared.refused.Refused.{Refused};
 ghost use Rattle.conf_change.specs.declared.step.Step.{Step};
 ghost use Rattle.conf_change.specs.Outcome.{outcome};
 ghost use Rattle.conf_change.specs.Changer.{ChangerState, Accepts, IsSound, begun_with, changer_after, moved_to, new_changer};
-ghost use Rattle.conf_change.specs.Configuration.{Configuration, has_voter, is_restorable, is_same};
-ghost use Rattle.conf_change.specs.ConfState.{ConfStateLists, Describes, is_same_conf_state, lists_of, restored};
+ghost use Rattle.conf_change.specs.Configuration.{Configuration, has_voter, is_restorable};
+ghost use Rattle.conf_change.specs.ConfState.{ConfStateLists, Describes, lists_of, restored};
 ghost use Rattle.conf_change.specs.Violation.{valid_of};
 ghost use Rattle.conf_change.specs.ConfStateLine.{DenotesConfState, conf_state_in, conf_state_text};
 ghost use Rattle.conf_change.specs.PrintedConfig.{DenotesConfig, config_in};
@@ -26,8 +26,10 @@ ghost use Rattle.conf_change.specs.U64Lists.{HasU64Lists};
 /// A text denotes at most one list of changes, which is the value of `changes_in`; if it denotes none, `changes_in`
 /// gives its first bad token.
 pub fn one_list_per_text()
-    ensures ok { (text : List ℕ) (changes : List Change) → (Denotes text changes) ↔ (changes_in text ≡ Ok changes) }
-    ensures err { (text : List ℕ) (bad : BadToken) → (IsFirstBad (tokens_in text) bad) ↔ (changes_in text ≡ Err bad) }
+    ensures ok { (text : List ℕ) (changes : List Change) → (Denotes text changes)
+        ↔ (changes_in text ≡ Ok changes) }
+    ensures err { (text : List ℕ) (bad : BadToken) → (IsFirstBad (tokens_in text) bad)
+        ↔ (changes_in text ≡ Err bad) }
     ensures one { (text : List ℕ) (a b : List Change) → Denotes text a → Denotes text b → a ≡ b }
 {}
 
@@ -36,7 +38,8 @@ pub fn one_list_per_text()
 pub fn one_conf_state_per_text()
     ensures some { (text : List ℕ) (saved : ConfStateLists) → (DenotesConfState text saved)
         ↔ (conf_state_in text ≡ Some saved) }
-    ensures one { (text : List ℕ) (a b : ConfStateLists) → DenotesConfState text a → DenotesConfState text b → a ≡ b }
+    ensures one { (text : List ℕ) (a b : ConfStateLists) → DenotesConfState text a
+        → DenotesConfState text b → a ≡ b }
     ensures printed { (c : Configuration) → HasU64Lists c
         → DenotesConfState (conf_state_text (lists_of c)) (lists_of c) }
 {}
@@ -46,8 +49,10 @@ pub fn one_conf_state_per_text()
 pub fn one_config_per_text()
     ensures some { (text : List ℕ) (saved : ConfStateLists) → (DenotesConfig text saved)
         ↔ (config_in text ≡ Some saved) }
-    ensures one { (text : List ℕ) (a b : ConfStateLists) → DenotesConfig text a → DenotesConfig text b → a ≡ b }
-    ensures printed { (c : Configuration) → HasU64Lists c → DenotesConfig (config_text c) (lists_of c) }
+    ensures one { (text : List ℕ) (a b : ConfStateLists) → DenotesConfig text a
+        → DenotesConfig text b → a ≡ b }
+    ensures printed { (c : Configuration) → HasU64Lists c
+        → DenotesConfig (config_text c) (lists_of c) }
     ensures no_other { (c d : Configuration) (saved : ConfStateLists) → HasU64Lists c
         → DenotesConfig (config_text c) saved → Describes saved d → d ≡ c }
 {}
@@ -69,12 +74,8 @@ pub fn restored_is_described()
 /// describes at most one. So saving and restoring a configuration does not change it.
 pub fn conf_state_describes()
     ensures own { (c : Configuration) → Describes (lists_of c) c }
-    ensures one { (saved : ConfStateLists) (c d : Configuration) → Describes saved c → Describes saved d → c ≡ d }
-{}
-
-/// ConfStates are equal, by `==`, exactly if they have the same lists in the same order and the same flag.
-pub fn equal_conf_states_are_the_same()
-    ensures { (a b : ConfStateLists) → (is_same_conf_state a b ≡ true) ↔ (a ≡ b) }
+    ensures one { (saved : ConfStateLists) (c d : Configuration) → Describes saved c
+        → Describes saved d → c ≡ d }
 {}
 
 /// A step leads from a changer to at most one changer, which is the value of `changer_after`; if the step is refused,
@@ -82,7 +83,8 @@ pub fn equal_conf_states_are_the_same()
 pub fn one_changer_after_a_step()
     ensures ok { (before after : ChangerState) (step : Step) → (Accepts before step after)
         ↔ (changer_after before step ≡ Ok after) }
-    ensures err { (before : ChangerState) (step : Step) (why : Refused) → (outcome before.tracker.config step ≡ Err why)
+    ensures err { (before : ChangerState) (step : Step) (why : Refused)
+        → (outcome before.tracker.config step ≡ Err why)
         ↔ (changer_after before step ≡ Err why) }
 {}
 
@@ -91,7 +93,8 @@ pub fn one_changer_after_a_step()
 /// is sound, and so is a new one, whose configuration is empty. An acknowledgement keeps a tracker sound. So every
 /// tracker that is ever reached is sound.
 pub fn trackers_stay_sound()
-    ensures step { (before : ChangerState) (step : Step) (after : Configuration) → IsSound before.tracker
+    ensures step { (before : ChangerState) (step : Step) (after : Configuration)
+        → IsSound before.tracker
         → outcome before.tracker.config step ≡ Ok after
         → IsSound (moved_to before step after).tracker }
     ensures restorable { (before after : Configuration) (step : Step) → is_restorable before ≡ true
@@ -100,15 +103,12 @@ pub fn trackers_stay_sound()
         → outcome before step ≡ Ok after → has_voter after ≡ true }
     ensures begun { (floor : Floor) (last_index : ℕ) (c : Configuration) → is_restorable c ≡ true
         → IsSound (begun_with floor last_index c).tracker }
-    ensures empty { (floor : Floor) (last_index : ℕ) → IsSound (new_changer floor last_index).tracker }
-    ensures acknowledged { (before : ChangerState) (id index : ℕ) (p : Progress) → IsSound before.tracker
+    ensures empty { (floor : Floor) (last_index : ℕ)
+        → IsSound (new_changer floor last_index).tracker }
+    ensures acknowledged { (before : ChangerState) (id index : ℕ) (p : Progress)
+        → IsSound before.tracker
         → ack_answer before.tracker id index ≡ Ok p
         → IsSound (changer_with_progress before id p).tracker }
-{}
-
-/// Two configurations are the same, by `is_same`, exactly if they are equal.
-pub fn same_is_equality()
-    ensures { (a b : Configuration) → (is_same a b ≡ true) ↔ (a ≡ b) }
 {}
 
 /// A configuration is valid exactly if the invariants, which are stated for sets, are true id by id.
@@ -120,7 +120,8 @@ pub fn valid_by_member()
 /// a voter, since an update has no effect.
 pub fn result_by_member()
     ensures incoming { (c : Configuration) (changes : List Change) (id : ℕ)
-        → has (result_of c changes).incoming id ≡ is_incoming_after (last_effective changes id) (has c.incoming id) }
+        → has (result_of c changes).incoming id
+        ≡ is_incoming_after (last_effective changes id) (has c.incoming id) }
     ensures learners { (c : Configuration) (changes : List Change) (id : ℕ)
         → has (result_of c changes).learners id
         ≡ is_learner_after (last_effective changes id) (has c.outgoing id) (has c.learners id) }

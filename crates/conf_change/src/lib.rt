@@ -67,11 +67,11 @@ pub use change::{Change, Changes, Kind};
 pub use change_list::{TokenFault, read_change, read_changes, read_changes_into};
 pub use changer::Changer;
 pub use conf_state_line::{read_conf_state, write_conf_state};
-pub use config::{Config, Invariant, check, has_same_ids};
+pub use config::{Config, Invariant, has_same_ids};
 pub use configuration_line::{
     ConfigurationFault, read_configuration, valid_configuration, valid_lists,
 };
-pub use configuration_step::next_config;
+pub use configuration_step::{next_config, next_config_into};
 pub use floor::Floor;
 pub use printed_config::read_config;
 pub use progress::Progress;
@@ -83,4 +83,4 @@ pub use step::{Step, StepKind};
 pub use text::{write_config, write_progress, write_refused, write_token_fault};
 pub use tracker::Tracker;
 pub use transition::{Transition, taken};
-pub use violation::{Violation, first_violation};
+pub use violation::{Violation, check, first_violation};

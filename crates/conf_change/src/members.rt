@@ -5,6 +5,11 @@ ghost use Rattle.std.specs.FinMap as finite;
 ghost use Rattle.quorum_sets.specs.AscendingLists.{IsAscending, IsAtPosition, IsInsertionPoint};
 
 use crate::progress::Progress;
+use smallvec::SmallVec;
+
+// Members in ascending order of their ids. The list is allocated unless there is one: a changer that kept more in itself
+// would be slow to move.
+pub(crate) type Members = SmallVec<(u64, Progress), 1>;
 
 // The progress of the id.
 pub(crate) fn progress_of(members: &[(u64, Progress)], id: u64) -> Option<Progress>
@@ -21,9 +26,11 @@ pub(crate) fn progress_of(members: &[(u64, Progress)], id: u64) -> Option<Progre
 pub(crate) fn set_progress_of(members: &mut [(u64, Progress)], id: u64, progress: Progress)
     requires { IsAscending (map (λ m. m.0) members.old) }
     ensures keys { map (λ m. m.0) members.new ≡ map (λ m. m.0) members.old }
-    ensures gets { is_some (finite.get (finite.from_entries {R = nat_cmp} members.old) id) ≡ true → (q : ℕ)
+    ensures gets { is_some (finite.get (finite.from_entries {R = nat_cmp} members.old) id) ≡ true
+        → (q : ℕ)
         → finite.get (finite.from_entries {R = nat_cmp} members.new) q
-        ≡ (if q == id then Some progress else finite.get (finite.from_entries {R = nat_cmp} members.old) q) }
+        ≡ (if q == id then Some progress else finite.get
+        (finite.from_entries {R = nat_cmp} members.old) q) }
 {
     if let Ok(position) = position_of(members, id) {
         members[position] = (id, progress);

@@ -6,11 +6,10 @@
 //! ```
 //!
 //! Etcd prints these texts; to read them is own.
-ghost use Rattle.std.specs.Prelude.{◌≡◌, Some, None, Err, length, flat_map, option_map, IfOk};
+ghost use Rattle.std.specs.Prelude.{◌≡◌, Some, None, Err, flat_map, option_map, IfOk};
 ghost use Rattle.ascii_text.specs.Tokens.{tokens_in};
-ghost use Rattle.conf_change.specs.ConfState.{ConfStateLists};
 ghost use Rattle.conf_change.specs.PrintedConfig as printed;
-ghost use Rattle.conf_change.specs.PrintedConfig.{DenotesConfig, after_token, after_name, auto_leave_at_end, config_in, config_in_tokens, is_mark, part_in, set_in, spaced_mark};
+ghost use Rattle.conf_change.specs.PrintedConfig.{after_token, after_name, auto_leave_at_end, config_in, config_in_tokens, is_mark, part_in, set_in, spaced_mark};
 
 use crate::saved_configuration::{ConfState, ConfStateFault};
 use ascii_text::number::read_number;
@@ -20,14 +19,9 @@ use std::alloc::{AllocError, Global};
 /// Reads a printed configuration: `voters=(2 3)&&(1 2) learners=(4) learners_next=(1) autoleave`, without the parts
 /// that are empty, but for the voters (own). The ids of a set may have any order, which is kept, and leading zeros.
 /// Names, numbers and each of `(`, `)`, `=` and `&&` are tokens, and between two of them may be any white space. Any
-/// other text is refused with BadConfState.
-#[tactic(auto, using(crate::proofs::Texts::PrintedConfig::printed_laws))]
+/// other text is refused with BadConfState. The law [`one_config_per_text`](crate::laws::one_config_per_text) says which
+/// ConfState a text denotes.
 pub fn read_config(alloc: Global, text: &[u8]) -> Result<ConfState, ConfStateFault>
-    ensures denotes { IfOk result (DenotesConfig text.now) }
-    ensures bad { result ≡ Err ConfStateFault.BadConfState → (saved : ConfStateLists)
-        → ¬ (DenotesConfig text.now saved) }
-
-    // As a function of the text:
     ensures value { IfOk result (λ saved. config_in text.now ≡ Some saved) }
     ensures fault { result ≡ Err ConfStateFault.BadConfState → config_in text.now ≡ None }
 {
@@ -60,7 +54,8 @@ fn is_mark(byte: u8) -> bool
 // Reads the tokens of a printed configuration.
 fn read_tokens(alloc: Global, text: &[u8]) -> Result<ConfState, ConfStateFault>
     ensures ok { IfOk result (λ saved. config_in_tokens (tokens_in text.now) ≡ Some saved) }
-    ensures bad { result ≡ Err ConfStateFault.BadConfState → config_in_tokens (tokens_in text.now) ≡ None }
+    ensures bad { result ≡ Err ConfStateFault.BadConfState
+        → config_in_tokens (tokens_in text.now) ≡ None }
 {
     let text = after_name(text, b"voters").ok_or(ConfStateFault::BadConfState)?;
     let (voters, text) = read_set(alloc, text)?;
@@ -79,7 +74,8 @@ fn read_tokens(alloc: Global, text: &[u8]) -> Result<ConfState, ConfStateFault>
 
 // The text after this token, if it is the first.
 fn after_token<'a>(text: &'a [u8], expected: &[u8]) -> Option<&'a [u8]>
-    ensures { option_map (λ rest. tokens_in rest.now) result ≡ after_token expected.now (tokens_in text.now) }
+    ensures { option_map (λ rest. tokens_in rest.now) result
+        ≡ after_token expected.now (tokens_in text.now) }
 {
     match next_token(text) {
         Some((token, rest)) if token == expected => Some(rest),
@@ -89,7 +85,8 @@ fn after_token<'a>(text: &'a [u8], expected: &[u8]) -> Option<&'a [u8]>
 
 // The text after a name and `=`.
 fn after_name<'a>(text: &'a [u8], name: &[u8]) -> Option<&'a [u8]>
-    ensures { option_map (λ rest. tokens_in rest.now) result ≡ after_name name.now (tokens_in text.now) }
+    ensures { option_map (λ rest. tokens_in rest.now) result
+        ≡ after_name name.now (tokens_in text.now) }
 {
     let rest = after_token(text, name)?;
     after_token(rest, b"=")
@@ -101,10 +98,12 @@ fn read_part<'a>(
     begun: Option<&'a [u8]>,
     text: &'a [u8],
 ) -> Result<(Vec<u64>, &'a [u8]), ConfStateFault>
-    ensures ok { IfOk result (λ read. part_in (option_map (λ rest. tokens_in rest.now) begun.entry) (tokens_in text.now)
+    ensures ok { IfOk result
+        (λ read. part_in (option_map (λ rest. tokens_in rest.now) begun.entry) (tokens_in text.now)
         ≡ Some (read.0.items, tokens_in read.1.now)) }
     ensures bad { result ≡ Err ConfStateFault.BadConfState
-        → part_in (option_map (λ rest. tokens_in rest.now) begun.entry) (tokens_in text.now) ≡ None }
+        → part_in (option_map (λ rest. tokens_in rest.now) begun.entry) (tokens_in text.now)
+        ≡ None }
 {
     let Some(rest) = begun else {
         return Ok((Vec::new(alloc), text));
@@ -118,7 +117,8 @@ fn read_part<'a>(
 
 // Reads numbers between brackets, and returns the text after them.
 fn read_set<'a>(alloc: Global, text: &'a [u8]) -> Result<(Vec<u64>, &'a [u8]), ConfStateFault>
-    ensures ok { IfOk result (λ read. set_in (tokens_in text.now) ≡ Some (read.0.items, tokens_in read.1.now)) }
+    ensures ok { IfOk result
+        (λ read. set_in (tokens_in text.now) ≡ Some (read.0.items, tokens_in read.1.now)) }
     ensures bad { result ≡ Err ConfStateFault.BadConfState → set_in (tokens_in text.now) ≡ None }
 {
     let text = after_token(text, b"(").ok_or(ConfStateFault::BadConfState)?;
@@ -129,7 +129,8 @@ fn read_set<'a>(alloc: Global, text: &'a [u8]) -> Result<(Vec<u64>, &'a [u8]), C
 fn read_to_close<'a>(alloc: Global, text: &'a [u8]) -> Result<(Vec<u64>, &'a [u8]), ConfStateFault>
     ensures ok { IfOk result (λ read. printed.numbers_to_close (tokens_in text.now)
         ≡ Some (read.0.items, tokens_in read.1.now)) }
-    ensures bad { result ≡ Err ConfStateFault.BadConfState → printed.numbers_to_close (tokens_in text.now) ≡ None }
+    ensures bad { result ≡ Err ConfStateFault.BadConfState
+        → printed.numbers_to_close (tokens_in text.now) ≡ None }
 {
     let mut numbers = Vec::new(alloc);
     let mut rest = text;

@@ -21,11 +21,13 @@ ghost use Rattle.conf_change.specs.declared.floor.Floor.TheVariants.{One};
 ghost use Rattle.conf_change.specs.Changer.{IsSound, begun_with};
 
 use crate::changer::Changer;
-use crate::config::{Config, check};
+use crate::config::Config;
 use crate::floor::Floor;
+use crate::members::Members;
 use crate::progress::Progress;
 use crate::saved_configuration::{ConfState, SavedLists};
 use crate::tracker::Tracker;
+use crate::violation::check;
 use quorum_sets::{MemberSet, NoMemory, contains_from};
 use smallvec::SmallVec;
 use std::alloc::Global;
@@ -66,7 +68,8 @@ impl<S: MemberSet> Changer<S> {
             (λ fault. fault ≡ RestoreFault.NoMemory) }
         ensures restored { IfOk result (λ changer. Describes state.now changer.tracker.config) }
         ensures sound { IfOk result (λ changer. IsSound changer.tracker) }
-        ensures as_function { MatchResult result (λ changer. restored state.now ≡ Some changer.tracker.config)
+        ensures as_function { MatchResult result
+            (λ changer. restored state.now ≡ Some changer.tracker.config)
             (λ fault. fault ≡ RestoreFault.NotAConfiguration → restored state.now ≡ None) }
     {
         Changer::restore_with_floor(alloc, state, last_index, Floor::One)
@@ -87,7 +90,8 @@ impl<S: MemberSet> Changer<S> {
         ensures restored { IfOk result (λ changer. Describes state.now changer.tracker.config) }
         ensures sound { IfOk result (λ changer. IsSound changer.tracker) }
         // As a function of the ConfState:
-        ensures as_function { MatchResult result (λ changer. restored state.now ≡ Some changer.tracker.config)
+        ensures as_function { MatchResult result
+            (λ changer. restored state.now ≡ Some changer.tracker.config)
             (λ fault. fault ≡ RestoreFault.NotAConfiguration → restored state.now ≡ None) }
     {
         let config = described(alloc, state)?;
@@ -103,7 +107,8 @@ impl<S: MemberSet> Changer<S> {
 /// an id twice.
 pub fn described<S: MemberSet>(alloc: Global, state: &ConfState) -> Result<Config<S>, RestoreFault>
     ensures described { IfOk result (λ config. Describes state.now config) }
-    ensures refused { result ≡ Err RestoreFault.NotAConfiguration → (c : Configuration) → Describes state.now c → ⊥ }
+    ensures refused { result ≡ Err RestoreFault.NotAConfiguration → (c : Configuration)
+        → Describes state.now c → ⊥ }
 
     // As a function of the ConfState:
     ensures value { IfOk result (λ config. described state.now ≡ Some config) }
@@ -118,7 +123,8 @@ pub fn described_lists<S: MemberSet>(
     lists: &SavedLists<'_>,
 ) -> Result<Config<S>, RestoreFault>
     ensures described { IfOk result (λ config. Describes lists.now config) }
-    ensures refused { result ≡ Err RestoreFault.NotAConfiguration → (c : Configuration) → Describes lists.now c → ⊥ }
+    ensures refused { result ≡ Err RestoreFault.NotAConfiguration → (c : Configuration)
+        → Describes lists.now c → ⊥ }
     ensures value { IfOk result (λ config. described lists.now ≡ Some config) }
     ensures fault { result ≡ Err RestoreFault.NotAConfiguration → described lists.now ≡ None }
 {
@@ -167,9 +173,10 @@ fn fresh_progress<S: MemberSet>(
     alloc: Global,
     config: &Config<S>,
     next_index: u64,
-) -> Result<SmallVec<(u64, Progress), 1>, NoMemory>
+) -> Result<Members, NoMemory>
     ensures ascends { IfOk result (λ members. IsAscending (map (λ m. m.0) members.items)) }
-    ensures fresh { IfOk result (λ members. finite.from_entries members.items ≡ all_fresh next_index config.now) }
+    ensures fresh { IfOk result
+        (λ members. finite.from_entries members.items ≡ all_fresh next_index config.now) }
 {
     let ids = config.members()?;
     fresh_of(alloc, &ids, &config.learners, next_index)
@@ -181,9 +188,10 @@ fn fresh_of<S: MemberSet>(
     ids: &S,
     learners: &S,
     next_index: u64,
-) -> Result<SmallVec<(u64, Progress), 1>, NoMemory>
+) -> Result<Members, NoMemory>
     ensures { IfOk result (λ members. members.items
-        ≡ map (λ id. (id, fresh_progress next_index (has (S.ids learners.now) id))) (ascending (S.ids ids.now))) }
+        ≡ map (λ id. (id, fresh_progress next_index (has (S.ids learners.now) id)))
+        (ascending (S.ids ids.now))) }
 {
     let fresh = Progress::fresh(next_index);
     let mut members = SmallVec::with_capacity(alloc, ids.len())?;

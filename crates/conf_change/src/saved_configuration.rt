@@ -37,22 +37,6 @@ impl Model for ConfState {
     } };
 }
 
-impl PartialEq for ConfState {
-    ghost use Rattle.conf_change.specs.ConfState.{is_same_conf_state, is_same_conf_state-laws};
-
-    ghost eq = { is_same_conf_state };
-
-    ghost laws = { is_same_conf_state-laws };
-
-    fn eq(&self, other: &ConfState) -> bool {
-        self.voters == other.voters
-            && self.voters_outgoing == other.voters_outgoing
-            && self.learners == other.learners
-            && self.learners_next == other.learners_next
-            && self.auto_leave == other.auto_leave
-    }
-}
-
 impl ConfState {
     /// Its lists, borrowed.
     pub fn lists(&self) -> SavedLists<'_>

@@ -7,7 +7,7 @@ use crate::change::{Change, Changes};
 
 /// A step from one configuration to the next: a simple change, entering a joint configuration (with or without
 /// auto-leave), or leaving it (Ongaro's dissertation, sections 4.1 and 4.3).
-#[derive(Debug, PartialEq, Drop)]
+#[derive(Debug, Drop)]
 pub enum Step {
     /// At most one voter changes, and any number of learners, as in `v4 l5 l6`.
     Simple(Changes),

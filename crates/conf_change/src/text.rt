@@ -48,7 +48,8 @@ fn append_config<S: MemberSet>(text: &mut Vec<u8>, config: &Config<S>) -> Result
 #[inline(always)]
 fn append_any<S: MemberSet>(text: &mut Vec<u8>, name: &[u8], set: &S) -> Result<(), NoMemory>
     ensures ok { OnOk result (text.new.items
-        ≡ text.old.items ++ text_if (not (is_empty (S.ids set.now))) (name.now ++ set_text (S.ids set.now))) }
+        ≡ text.old.items
+        ++ text_if (not (is_empty (S.ids set.now))) (name.now ++ set_text (S.ids set.now))) }
     ensures extends { Extends text.old.items text.new.items }
 {
     if set.len() > 0 {
@@ -60,7 +61,8 @@ fn append_any<S: MemberSet>(text: &mut Vec<u8>, name: &[u8], set: &S) -> Result<
 // Appends a name and a set.
 #[inline(always)]
 fn append_set<S: MemberSet>(text: &mut Vec<u8>, name: &[u8], set: &S) -> Result<(), NoMemory>
-    ensures ok { OnOk result (text.new.items ≡ text.old.items ++ (name.now ++ set_text (S.ids set.now))) }
+    ensures ok { OnOk result
+        (text.new.items ≡ text.old.items ++ (name.now ++ set_text (S.ids set.now))) }
     ensures extends { Extends text.old.items text.new.items }
 {
     append(text, name)?;
@@ -71,7 +73,8 @@ fn append_set<S: MemberSet>(text: &mut Vec<u8>, name: &[u8], set: &S) -> Result<
 
 // Appends the ids of a set, separated by one space.
 fn append_ids<S: MemberSet>(text: &mut Vec<u8>, set: &S) -> Result<(), NoMemory>
-    ensures ok { OnOk result (text.new.items ≡ text.old.items ++ spaced_numbers (ascending (S.ids set.now))) }
+    ensures ok { OnOk result
+        (text.new.items ≡ text.old.items ++ spaced_numbers (ascending (S.ids set.now))) }
     ensures extends { Extends text.old.items text.new.items }
 {
     for position in 0..set.len() {

@@ -5,7 +5,7 @@
 //!              (1 2)                1: match=5 next=6   2: match=4 next=6
 //! --r1 v1 l3-> (1 2) learners=(3)   1: match=0 next=9   2: match=4 next=6   3: match=0 next=9 learner
 //! ```
-ghost use Rattle.std.specs.Prelude.{◌≡◌, ◌≢◌, ℕ, true, ◌++◌, map, length, slice_get, IfOk, IfErr, OnOk, Err, Some, is_some};
+ghost use Rattle.std.specs.Prelude.{◌≡◌, ◌≢◌, true, ◌++◌, map, length, slice_get, IfOk, IfErr, OnOk, Err, Some, is_some};
 ghost use Rattle.std.specs.FinMap as finite;
 ghost use Rattle.quorum_sets.specs.Ids.{has};
 ghost use Rattle.quorum_sets.specs.AscendingLists.{IsAscending};
@@ -22,7 +22,7 @@ use crate::config::Config;
 use crate::configuration_step::become_next;
 use crate::edit_list::Edit;
 use crate::floor::Floor;
-use crate::members::{progress_of, set_progress_of};
+use crate::members::{Members, progress_of, set_progress_of};
 use crate::progress::Progress;
 use crate::refused::Refused;
 use crate::step::StepKind;
@@ -37,8 +37,7 @@ use std::mem::replace;
 #[derive(Drop)]
 pub struct Tracker<S: MemberSet> {
     config: Config<S>,
-    // The members with their progress, in ascending order of the ids.
-    members: SmallVec<(u64, Progress), 1>,
+    members: Members,
     floor: Floor,
     // The allocator of its sets.
     alloc: Global,
@@ -54,7 +53,11 @@ impl<S: MemberSet> Model for Tracker<S> {
 
     ghost coded = { tracker_code };
 
-    ghost view = { λ t. record { config = t.config; progress = finite.from_entries t.members.items; floor = t.floor } };
+    ghost view = { λ t. record {
+      config = t.config;
+      progress = finite.from_entries t.members.items;
+      floor = t.floor;
+    } };
 
     ghost invariant = { λ t. IsAscending (map (λ m. m.0) t.members.items) };
 }
@@ -79,7 +82,7 @@ impl<S: MemberSet> Tracker<S> {
         alloc: Global,
         floor: Floor,
         config: Config<S>,
-        members: SmallVec<(u64, Progress), 1>,
+        members: Members,
     ) -> Tracker<S>
         requires { IsAscending (map (λ m. m.0) members.items) }
         ensures { result ≡ tracker_of floor config (finite.from_entries members.items) }
@@ -177,7 +180,8 @@ impl<S: MemberSet> Tracker<S> {
         next_index: u64,
     ) -> Result<(), Refused>
         requires { IsSound before.now }
-        ensures accepted { OnOk result (Moves next_index (step_of kind changes.now) before.now self.new) }
+        ensures accepted { OnOk result
+            (Moves next_index (step_of kind changes.now) before.now self.new) }
         ensures refused { IfErr result (λ why. why ≢ Refused.NoMemory
             → outcome before.now.config (step_of kind changes.now) ≡ Err why) }
     {
@@ -197,7 +201,7 @@ impl<S: MemberSet> Tracker<S> {
 
 // Overwrites the members with `others` after the edits.
 fn edit_members(
-    members: &mut SmallVec<(u64, Progress), 1>,
+    members: &mut Members,
     others: &[(u64, Progress)],
     edits: &[(u64, Edit)],
     next_index: u64,
@@ -217,14 +221,15 @@ fn edit_members(
 // Overwrites the members with those of `others` that the configuration has. They keep their progress, and are marked as
 // learners or not: a next learner is marked when it becomes a learner.
 fn keep_members<S: MemberSet>(
-    members: &mut SmallVec<(u64, Progress), 1>,
+    members: &mut Members,
     config: &Config<S>,
     others: &[(u64, Progress)],
 ) -> Result<(), NoMemory>
     requires { IsAscending (map (λ m. m.0) others.now) }
     ensures ascends { IsAscending (map (λ m. m.0) members.new.items) }
     ensures kept { OnOk result
-        (KeepsMembers config.now (finite.from_entries others.now) (finite.from_entries members.new.items)) }
+        (KeepsMembers config.now (finite.from_entries others.now)
+        (finite.from_entries members.new.items)) }
 {
     members.clear();
     members.reserve(others.len())?;
@@ -240,25 +245,20 @@ fn keep_members<S: MemberSet>(
 
 // The progress that an id keeps: a member keeps all, and is marked as a learner or not; any other id keeps none.
 fn kept<S: MemberSet>(config: &Config<S>, id: u64, progress: Progress) -> Option<Progress>
-    ensures { result ≡ progress_kept (is_member config.now id) (has config.now.learners id) (Some progress) }
+    ensures { result
+        ≡ progress_kept (is_member config.now id) (has config.now.learners id) (Some progress) }
 {
-    let learner = config.learners.contains(id);
-    if learner || config.incoming.contains(id) || config.outgoing.contains(id) {
-        Some(Progress {
-            learner,
-            ..progress
-        })
-    } else {
-        None
+    if !config.is_member(id) {
+        return None;
     }
+    Some(Progress {
+        learner: config.learners.contains(id),
+        ..progress
+    })
 }
 
 // Appends an id with its progress, if it has any.
-fn push_entry(
-    members: &mut SmallVec<(u64, Progress), 1>,
-    id: u64,
-    entry: Option<Progress>,
-) -> Result<(), NoMemory>
+fn push_entry(members: &mut Members, id: u64, entry: Option<Progress>) -> Result<(), NoMemory>
     ensures { OnOk result (members.new.items ≡ members.old.items ++ entries_of id entry) }
 {
     if let Some(progress) = entry {

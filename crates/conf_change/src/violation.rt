@@ -2,11 +2,12 @@
 //! user who wrote it by hand is shown the id to look at.
 //!
 //! What names no source here is own.
-ghost use Rattle.std.specs.Prelude.{◌≡◌, ◌↔◌, None, IsTrue};
-ghost use Rattle.conf_change.specs.Configuration.{is_valid};
-ghost use Rattle.conf_change.specs.Violation.{violation_by, violation_of};
+ghost use Rattle.std.specs.Prelude.{◌≡◌, ◌↔◌, Some, None, Err, true, not, IsOk};
+ghost use Rattle.conf_change.specs.Configuration.{first_broken, is_valid, keeps};
+ghost use Rattle.conf_change.specs.Violation.{violation_of};
+ghost use Rattle.conf_change.specs.declared.config.Invariant.{Invariant};
 
-use crate::config::{Config, Invariant, check};
+use crate::config::{Config, Invariant};
 use crate::find_id::find_id;
 use quorum_sets::MemberSet;
 use thiserror::Error;
@@ -30,9 +31,6 @@ pub enum Violation {
     /// As in `Voters:[1 2] VotersOutgoing:[] Learners:[2]`.
     #[error("{0} is a voter and a learner")]
     LearnerAndVoter(u64),
-    /// Never the first violation, since the id is then not an outgoing voter either.
-    #[error("{0} is a next learner without outgoing voters")]
-    NotJointButNext(u64),
     /// As in `Voters:[1 2] VotersOutgoing:[] Learners:[] LearnersNext:[] AutoLeave:true`.
     #[error("auto-leave without outgoing voters")]
     NotJointButAutoLeave,
@@ -41,43 +39,59 @@ pub enum Violation {
 /// The first invariant that a configuration breaks, with the least id that breaks it; none if it is valid.
 pub fn first_violation<S: MemberSet>(config: &Config<S>) -> Option<Violation>
     ensures value { result ≡ violation_of config.now }
-    ensures none { (result ≡ None) ↔ IsTrue (is_valid config.now) }
-{
-    match check(config) {
-        Ok(()) => None,
-        Err(invariant) => violation_by(config, invariant),
-    }
-}
-
-// The violation of a broken invariant, with the least id that breaks it.
-fn violation_by<S: MemberSet>(config: &Config<S>, invariant: Invariant) -> Option<Violation>
-    ensures { result ≡ violation_by config.now invariant }
+    ensures none { (result ≡ None) ↔ (is_valid config.now ≡ true) }
 {
     let Config {
         incoming,
         outgoing,
         learners,
         learners_next: next,
-        auto_leave: _,
+        auto_leave,
     } = config;
-    match invariant {
-        Invariant::ZeroId => Some(Violation::ZeroId),
-        Invariant::NextNotOutgoing => {
-            let id = find_id(next, |id| !outgoing.contains(id))?;
-            Some(Violation::NextNotOutgoing(id))
-        }
-        Invariant::NextAndIncoming => {
-            let id = find_id(next, |id| incoming.contains(id))?;
-            Some(Violation::NextAndIncoming(id))
-        }
-        Invariant::LearnerAndVoter => {
-            let id = find_id(
-                learners,
-                |id| incoming.contains(id) || outgoing.contains(id),
-            )?;
-            Some(Violation::LearnerAndVoter(id))
-        }
-        Invariant::NotJointButNext => Some(Violation::NotJointButNext(next.at(0)?)),
-        Invariant::NotJointButAutoLeave => Some(Violation::NotJointButAutoLeave),
+    if holds_zero(config) {
+        return Some(Violation::ZeroId);
     }
+    if let Some(id) = find_id(next, |id| !outgoing.contains(id)) {
+        return Some(Violation::NextNotOutgoing(id));
+    }
+    if let Some(id) = find_id(next, |id| incoming.contains(id)) {
+        return Some(Violation::NextAndIncoming(id));
+    }
+    if let Some(id) = find_id(
+        learners,
+        |id| incoming.contains(id) || outgoing.contains(id),
+    ) {
+        return Some(Violation::LearnerAndVoter(id));
+    }
+    if *auto_leave && !config.is_joint() {
+        return Some(Violation::NotJointButAutoLeave);
+    }
+    None
+}
+
+/// Checks a configuration; the error is the first invariant that it breaks (etcd's `checkInvariants`).
+pub fn check<S: MemberSet>(config: &Config<S>) -> Result<(), Invariant>
+    ensures valid { IsOk result ↔ (is_valid config.now ≡ true) }
+    ensures first { (broken : Invariant)
+        → ((result ≡ Err broken) ↔ (first_broken config.now ≡ Some broken)) }
+{
+    match first_violation(config) {
+        None => Ok(()),
+        Some(Violation::ListedTwice(_)) => unreachable!(),
+        Some(Violation::ZeroId) => Err(Invariant::ZeroId),
+        Some(Violation::NextNotOutgoing(_)) => Err(Invariant::NextNotOutgoing),
+        Some(Violation::NextAndIncoming(_)) => Err(Invariant::NextAndIncoming),
+        Some(Violation::LearnerAndVoter(_)) => Err(Invariant::LearnerAndVoter),
+        Some(Violation::NotJointButAutoLeave) => Err(Invariant::NotJointButAutoLeave),
+    }
+}
+
+// Whether one of the four sets has the id 0.
+fn holds_zero<S: MemberSet>(config: &Config<S>) -> bool
+    ensures { result ≡ not (keeps config.now Invariant.ZeroId) }
+{
+    config.incoming.contains(0)
+        || config.outgoing.contains(0)
+        || config.learners.contains(0)
+        || config.learners_next.contains(0)
 }

@@ -17,7 +17,7 @@ abbrev pub Fits : Type 0
 Fits = (voters : Voters) (uncounted : Ids) → IsMostDown voters uncounted (may_be_down voters uncounted)
 
 abbrev pub Commits : Type 0
-Commits = (voters : Voters) (away : Ids) → commits_without voters away ≡ is_some (may_be_down voters away)
+Commits = (voters : Voters) (uncounted : Ids) → commits_without voters uncounted ≡ is_some (may_be_down voters uncounted)
 
 abbrev pub FewerTolerateMore : Type 0
 FewerTolerateMore = (voters : Voters) (fewer more : Ids) (k : ℕ) → ((id : ℕ) → (has voters.incoming id || has voters.outgoing id) ≡ true → has fewer id ≡ true → has more id ≡ true)
@@ -36,11 +36,11 @@ counted : (voters : Voters) (uncounted : Ids) (most : Option ℕ) → IsMostDown
 counted voters uncounted None is tolerates = absurd (is.none tolerates)
 counted voters uncounted (Some k) is tolerates = refl
 
-pub Tolerates-from_commits : Fits → Commits → (voters : Voters) (away : Ids) → commits_without voters away ≡ true → Tolerates voters away 0
-Tolerates-from_commits fits commits voters away is = tolerated voters away (may_be_down voters away) (fits voters away) (sym (commits voters away) ∙ is)
+pub Tolerates-from_commits : Fits → Commits → (voters : Voters) (uncounted : Ids) → commits_without voters uncounted ≡ true → Tolerates voters uncounted 0
+Tolerates-from_commits fits commits voters uncounted is = tolerated voters uncounted (may_be_down voters uncounted) (fits voters uncounted) (sym (commits voters uncounted) ∙ is)
 
-pub commits-from_Tolerates : Fits → Commits → (voters : Voters) (away : Ids) → Tolerates voters away 0 → commits_without voters away ≡ true
-commits-from_Tolerates fits commits voters away tolerates = commits voters away ∙ counted voters away (may_be_down voters away) (fits voters away) tolerates
+pub commits-from_Tolerates : Fits → Commits → (voters : Voters) (uncounted : Ids) → Tolerates voters uncounted 0 → commits_without voters uncounted ≡ true
+commits-from_Tolerates fits commits voters uncounted tolerates = commits voters uncounted ∙ counted voters uncounted (may_be_down voters uncounted) (fits voters uncounted) tolerates
 
 -- ---- who is up is a quorum exactly if the voters without the others commit
 pub is_quorum-up : (c : Configuration) (up : Ids) → is_quorum (voters_of c) up ≡ commits_without (voters_of c) (voter_ids c ∖ up)

@@ -59,7 +59,8 @@ pub fn next(
 ) -> Result<Action, NextFault>
     requires valid_now { is_valid view.now.conf_state ≡ true }
     requires valid_target { is_valid target.now ≡ true }
-    ensures answer { IfOk result (λ action. action ≡ next_of strategy target.now down.now view.now) }
+    ensures answer { IfOk result (λ action. action
+        ≡ next_of strategy target.now down.now view.now) }
     ensures shortest { (result ≡ Err NextFault.Shortest) ↔ (strategy ≡ Strategy.Shortest) }
     ensures no_voter_now { (result ≡ Err NextFault.NoVoterNow)
         ↔ ((strategy ≢ Strategy.Shortest) × (has_voter view.now.conf_state ≡ false)) }
@@ -68,7 +69,8 @@ pub fn next(
         × (has_voter target.now ≡ false)) }
     ensures joint_target { (result ≡ Err NextFault.JointTarget)
         ↔ ((strategy ≢ Strategy.Shortest) × (has_voter view.now.conf_state ≡ true)
-        × (has_voter target.now ≡ true) × (has_path strategy view.now.conf_state target.now ≡ false)) }
+        × (has_voter target.now ≡ true) × (has_path strategy view.now.conf_state target.now
+        ≡ false)) }
 {
     if strategy == Strategy::Shortest {
         return Err(NextFault::Shortest);
@@ -99,7 +101,8 @@ fn answer_on(
     view: &View,
     path: &Path,
 ) -> Result<Action, NoMemory>
-    ensures { IfOk result (λ action. action ≡ spec.answer_on target.now down.now view.now path.now) }
+    ensures { IfOk result (λ action. action ≡ spec.answer_on target.now down.now view.now
+        path.now) }
 {
     let each = path.one_change_each(alloc)?;
     let stalls = stalls(alloc, &view.conf_state, path, down)?;

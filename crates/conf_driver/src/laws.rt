@@ -32,9 +32,11 @@ use raft_json::laws::{etcd_carries_out_the_step, proposed_step_leads_alike};
 /// A step is proposed only while no change is pending. It is the first of a path that keeps what its strategy promises,
 /// and etcd's raft carries it out.
 pub fn proposals_are_accepted()
-    ensures not_pending { (strategy : Strategy) (target : Configuration) (down : Ids) (view : ViewState) (step : Step)
+    ensures not_pending { (strategy : Strategy) (target : Configuration) (down : Ids)
+        (view : ViewState) (step : Step)
         → next_of strategy target down view ≡ Propose step → view.pending_conf_index ≡ 0 }
-    ensures first { (strategy : Strategy) (target : Configuration) (down : Ids) (view : ViewState) (step : Step)
+    ensures first { (strategy : Strategy) (target : Configuration) (down : Ids) (view : ViewState)
+        (step : Step)
         → CanAnswer strategy target view → next_of strategy target down view ≡ Propose step
         → IsFirstOfPath strategy down view.conf_state target step }
 {
@@ -48,10 +50,12 @@ pub fn proposals_are_accepted()
 /// pending is an incoming voter. A step is proposed only if the leader may lead after it, or no voter that is not down
 /// may.
 pub fn leadership_moves_to_who_may_lead()
-    ensures transfer { (strategy : Strategy) (target : Configuration) (down : Ids) (view : ViewState) (id : ℕ)
+    ensures transfer { (strategy : Strategy) (target : Configuration) (down : Ids)
+        (view : ViewState) (id : ℕ)
         → next_of strategy target down view ≡ Transfer id
         → MayTakeOver down view (after_first_step strategy target down view) id }
-    ensures proposal { (strategy : Strategy) (target : Configuration) (down : Ids) (view : ViewState) (step : Step)
+    ensures proposal { (strategy : Strategy) (target : Configuration) (down : Ids)
+        (view : ViewState) (step : Step)
         → next_of strategy target down view ≡ Propose step
         → LeaderStays down view (after_first_step strategy target down view) }
 {}
@@ -59,13 +63,18 @@ pub fn leadership_moves_to_who_may_lead()
 /// Nothing is kept between two calls, and nothing is done twice: once what was answered is done, the next answer is not
 /// to start, to stop, or to move leadership again.
 pub fn nothing_is_done_twice()
-    ensures start { (strategy : Strategy) (target : Configuration) (down : Ids) (view : ViewState) (ids others : Ids)
+    ensures start { (strategy : Strategy) (target : Configuration) (down : Ids) (view : ViewState)
+        (ids others : Ids)
         → next_of strategy target down view ≡ Start ids
-        → next_of strategy target down (record view { running = view.running ∪ ids }) ≢ Start others }
-    ensures stop { (strategy : Strategy) (target : Configuration) (down : Ids) (view : ViewState) (ids others : Ids)
+        → next_of strategy target down (record view { running = view.running ∪ ids })
+        ≢ Start others }
+    ensures stop { (strategy : Strategy) (target : Configuration) (down : Ids) (view : ViewState)
+        (ids others : Ids)
         → next_of strategy target down view ≡ Stop ids
-        → next_of strategy target down (record view { running = view.running ∖ ids }) ≢ Stop others }
-    ensures transfer { (strategy : Strategy) (target : Configuration) (down : Ids) (view : ViewState) (id other : ℕ)
+        → next_of strategy target down (record view { running = view.running ∖ ids })
+        ≢ Stop others }
+    ensures transfer { (strategy : Strategy) (target : Configuration) (down : Ids)
+        (view : ViewState) (id other : ℕ)
         → next_of strategy target down view ≡ Transfer id
         → next_of strategy target down (record view { lead = id }) ≢ Transfer other }
 {}
@@ -74,12 +83,18 @@ pub fn nothing_is_done_twice()
 /// configuration in force. One is started only if it is a member now or of the target, does not run, does not vote, is not
 /// down, and is not added after it was stopped for good.
 pub fn no_server_is_stopped_early()
-    ensures stop { (strategy : Strategy) (target : Configuration) (down : Ids) (view : ViewState) (ids : Ids) (id : ℕ)
-        → next_of strategy target down view ≡ Stop ids → has ids id ≡ true → MayStop target down view id }
-    ensures start { (strategy : Strategy) (target : Configuration) (down : Ids) (view : ViewState) (ids : Ids) (id : ℕ)
-        → next_of strategy target down view ≡ Start ids → has ids id ≡ true → MayStart target down view id }
-    ensures members { (strategy : Strategy) (target : Configuration) (down : Ids) (view : ViewState) (ids : Ids) (id : ℕ)
-        → CanAnswer strategy target view → next_of strategy target down view ≡ Start ids → has ids id ≡ true
+    ensures stop { (strategy : Strategy) (target : Configuration) (down : Ids) (view : ViewState)
+        (ids : Ids) (id : ℕ)
+        → next_of strategy target down view ≡ Stop ids → has ids id ≡ true
+        → MayStop target down view id }
+    ensures start { (strategy : Strategy) (target : Configuration) (down : Ids) (view : ViewState)
+        (ids : Ids) (id : ℕ)
+        → next_of strategy target down view ≡ Start ids → has ids id ≡ true
+        → MayStart target down view id }
+    ensures members { (strategy : Strategy) (target : Configuration) (down : Ids) (view : ViewState)
+        (ids : Ids) (id : ℕ)
+        → CanAnswer strategy target view → next_of strategy target down view ≡ Start ids
+        → has ids id ≡ true
         → (is_member view.conf_state id || is_member target id) ≡ true }
 {
     one_change_each_leads();
@@ -88,7 +103,8 @@ pub fn no_server_is_stopped_early()
 /// The answer is that all is done exactly if the target is reached, with all that has to have come with it.
 pub fn done_is_done()
     ensures { (strategy : Strategy) (target : Configuration) (down : Ids) (view : ViewState)
-        → CanAnswer strategy target view → (next_of strategy target down view ≡ Done) ↔ IsDone target down view }
+        → CanAnswer strategy target view → (next_of strategy target down view ≡ Done)
+        ↔ IsDone target down view }
 {
     most_down_by_counting();
     one_change_each_leads();
@@ -98,10 +114,13 @@ pub fn done_is_done()
 /// before it or at the target. New voters were learners. The voters after it that are heard from and not down have caught
 /// up, and where it enters a joint configuration, all that are not down have.
 pub fn steps_keep_quorums()
-    ensures { (strategy : Strategy) (target : Configuration) (down : Ids) (view : ViewState) (step : Step)
-        (after : Configuration) → CanAnswer strategy target view → next_of strategy target down view ≡ Propose step
+    ensures { (strategy : Strategy) (target : Configuration) (down : Ids) (view : ViewState)
+        (step : Step)
+        (after : Configuration) → CanAnswer strategy target view → next_of strategy target down view
+        ≡ Propose step
         → Gives view.conf_state step after
-        → KeepsQuorum down (heard_from view) (up_and_caught_up down view) view.conf_state target after }
+        → KeepsQuorum down (heard_from view) (up_and_caught_up down view) view.conf_state target
+        after }
 {
     fewer_uncounted_tolerate_more();
     most_down_by_counting();
@@ -113,19 +132,27 @@ pub fn steps_keep_quorums()
 /// and those by which raft leaves a joint configuration by itself on the way, are with those that are left at most as
 /// many as the first path has. Once they are as many, the target is reached.
 pub fn plans_end()
-    ensures shorter { (strategy : Strategy) (target : Configuration) (down : Ids) (view : ViewState) (step : Step)
-        (after : Configuration) → CanAnswer strategy target view → next_of strategy target down view ≡ Propose step
-        → Gives view.conf_state step after → length (one_change_each (path_by strategy down after target))
+    ensures shorter { (strategy : Strategy) (target : Configuration) (down : Ids) (view : ViewState)
+        (step : Step)
+        (after : Configuration) → CanAnswer strategy target view → next_of strategy target down view
+        ≡ Propose step
+        → Gives view.conf_state step after
+        → length (one_change_each (path_by strategy down after target))
         < length (one_change_each (path_by strategy down view.conf_state target)) }
-    ensures at_most { (strategy : Strategy) (target : Configuration) (down : Ids) (now after : Configuration)
-        (steps : List Step) → IsValidWithVoter now → IsValidWithVoter target → has_path strategy now target ≡ true
+    ensures at_most { (strategy : Strategy) (target : Configuration) (down : Ids)
+        (now after : Configuration)
+        (steps : List Step) → IsValidWithVoter now → IsValidWithVoter target
+        → has_path strategy now target ≡ true
         → IsWay strategy target down now steps after
         → length steps + length (one_change_each (path_by strategy down after target))
         ≤ length (one_change_each (path_by strategy down now target)) }
-    ensures arrives { (strategy : Strategy) (target : Configuration) (down : Ids) (now after : Configuration)
-        (steps : List Step) → IsValidWithVoter now → IsValidWithVoter target → has_path strategy now target ≡ true
+    ensures arrives { (strategy : Strategy) (target : Configuration) (down : Ids)
+        (now after : Configuration)
+        (steps : List Step) → IsValidWithVoter now → IsValidWithVoter target
+        → has_path strategy now target ≡ true
         → IsWay strategy target down now steps after
-        → length steps ≡ length (one_change_each (path_by strategy down now target)) → after ≡ target }
+        → length steps ≡ length (one_change_each (path_by strategy down now target)) → after
+        ≡ target }
 {
     next_path_is_shorter();
     one_change_each_leads();
@@ -135,18 +162,25 @@ pub fn plans_end()
 /// failures besides the ids that are down as both ends do, a quorum of both ends is one of it, unless members change one at
 /// a time, and each of its members is one of the ends'.
 pub fn ways_keep_promises()
-    ensures tolerance { (strategy : Strategy) (target : Configuration) (down : Ids) (now after : Configuration)
-        (steps : List Step) → IsValidWithVoter now → IsValidWithVoter target → has_path strategy now target ≡ true
+    ensures tolerance { (strategy : Strategy) (target : Configuration) (down : Ids)
+        (now after : Configuration)
+        (steps : List Step) → IsValidWithVoter now → IsValidWithVoter target
+        → has_path strategy now target ≡ true
         → IsWay strategy target down now steps after → IsAsTolerant down now target after }
-    ensures quorums { (strategy : Strategy) (target : Configuration) (down : Ids) (now after : Configuration)
+    ensures quorums { (strategy : Strategy) (target : Configuration) (down : Ids)
+        (now after : Configuration)
         (steps : List Step) → strategy ≢ OneAtATime → IsValidWithVoter now → IsValidWithVoter target
         → has_path strategy now target ≡ true → IsWay strategy target down now steps after
         → HasQuorumsOf now target after }
-    ensures members { (strategy : Strategy) (target : Configuration) (down : Ids) (now after : Configuration)
-        (steps : List Step) → IsValidWithVoter now → IsValidWithVoter target → has_path strategy now target ≡ true
+    ensures members { (strategy : Strategy) (target : Configuration) (down : Ids)
+        (now after : Configuration)
+        (steps : List Step) → IsValidWithVoter now → IsValidWithVoter target
+        → has_path strategy now target ≡ true
         → IsWay strategy target down now steps after → HasMembersOf now target after }
-    ensures valid { (strategy : Strategy) (target : Configuration) (down : Ids) (now after : Configuration)
-        (steps : List Step) → IsValidWithVoter now → IsValidWithVoter target → has_path strategy now target ≡ true
+    ensures valid { (strategy : Strategy) (target : Configuration) (down : Ids)
+        (now after : Configuration)
+        (steps : List Step) → IsValidWithVoter now → IsValidWithVoter target
+        → has_path strategy now target ≡ true
         → IsWay strategy target down now steps after → IsValidWithVoter after }
 {
     next_path_is_shorter();
@@ -157,19 +191,26 @@ pub fn ways_keep_promises()
 /// A wait names an id at least. Each id that it names lacks what the reason states, and is a member or leads. Once one that
 /// was not heard from, or had not caught up, is heard from and has, no wait names it, whatever is known of the others.
 pub fn waits_name_who_lacks_what()
-    ensures not_empty { (strategy : Strategy) (target : Configuration) (down : Ids) (view : ViewState) (why : WaitReason)
+    ensures not_empty { (strategy : Strategy) (target : Configuration) (down : Ids)
+        (view : ViewState) (why : WaitReason)
         (ids : Ids) → next_of strategy target down view ≡ Wait why ids → is_empty ids ≡ false }
-    ensures named { (strategy : Strategy) (target : Configuration) (down : Ids) (view : ViewState) (why : WaitReason)
+    ensures named { (strategy : Strategy) (target : Configuration) (down : Ids) (view : ViewState)
+        (why : WaitReason)
         (ids : Ids) (id : ℕ) → next_of strategy target down view ≡ Wait why ids → has ids id ≡ true
         → LacksWhatIsNamed why down view id }
-    ensures members { (strategy : Strategy) (target : Configuration) (down : Ids) (view : ViewState) (why : WaitReason)
-        (ids : Ids) (id : ℕ) → CanAnswer strategy target view → next_of strategy target down view ≡ Wait why ids
+    ensures members { (strategy : Strategy) (target : Configuration) (down : Ids) (view : ViewState)
+        (why : WaitReason)
+        (ids : Ids) (id : ℕ) → CanAnswer strategy target view → next_of strategy target down view
+        ≡ Wait why ids
         → has ids id ≡ true → (is_member view.conf_state id ≡ true) ⊎ (id ≡ view.lead) }
-    ensures over { (strategy : Strategy) (target : Configuration) (down : Ids) (view : ViewState) (why why_then : WaitReason)
-        (ids ids_then : Ids) (id : ℕ) (progress : List MemberView) → (why ≡ Unheard) ⊎ (why ≡ Behind)
+    ensures over { (strategy : Strategy) (target : Configuration) (down : Ids) (view : ViewState)
+        (why why_then : WaitReason)
+        (ids ids_then : Ids) (id : ℕ) (progress : List MemberView) → (why ≡ Unheard)
+        ⊎ (why ≡ Behind)
         → next_of strategy target down view ≡ Wait why ids → has ids id ≡ true
         → HasCome (record view { progress = progress }) id
-        → next_of strategy target down (record view { progress = progress }) ≡ Wait why_then ids_then
+        → next_of strategy target down (record view { progress = progress })
+        ≡ Wait why_then ids_then
         → has ids_then id ≡ false }
 {
     fewer_uncounted_tolerate_more();

@@ -60,7 +60,8 @@ impl Situation {
 
     // The members that are heard from, and who leads.
     fn heard_or_leading(&self, alloc: Global) -> Result<InlineIds, NoMemory>
-        ensures { IfOk result (λ ids. ids ≡ (self.now.heard ∩ self.now.members ∪ id_sets.just self.now.lead)) }
+        ensures { IfOk result (λ ids. ids
+            ≡ (self.now.heard ∩ self.now.members ∪ id_sets.just self.now.lead)) }
     {
         let lead = just(alloc, self.lead)?;
         let heard = common(&self.heard, &self.members)?;

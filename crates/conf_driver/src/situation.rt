@@ -99,7 +99,8 @@ fn configurations(
     view: &View,
     path: &Path,
 ) -> Result<(Config<InlineIds>, Config<InlineIds>, Config<InlineIds>), NoMemory>
-    ensures { IfOk result (λ all. all ≡ (view.now.conf_state, spec.after_first view.now.conf_state path.now, target.now)) }
+    ensures { IfOk result (λ all. all
+        ≡ (view.now.conf_state, spec.after_first view.now.conf_state path.now, target.now)) }
 {
     let before = view.conf_state.try_clone()?;
     let after = after_first(alloc, &before, path)?;
@@ -112,7 +113,13 @@ fn members_of(
     after: &Config<InlineIds>,
 ) -> Result<(InlineIds, InlineIds, InlineIds, InlineIds), NoMemory>
     ensures { IfOk result (λ all. all
-        ≡ (spec.voter_ids now.now, member_ids now.now, spec.voter_ids after.now, spec.leader_ids after.now)) }
+        ≡ (
+          spec.voter_ids now.now,
+          member_ids now.now,
+          spec.voter_ids after.now,
+          spec.leader_ids
+              after.now,
+        )) }
 {
     let voters = voter_ids(now)?;
     let members = now.members()?;
@@ -122,7 +129,8 @@ fn members_of(
 
 // Who is heard from, and who is up and has caught up.
 fn seen(alloc: Global, down: &InlineIds, view: &View) -> Result<(InlineIds, InlineIds), NoMemory>
-    ensures { IfOk result (λ all. all ≡ (view_spec.heard_from view.now, view_spec.up_and_caught_up down.now view.now)) }
+    ensures { IfOk result (λ all. all
+        ≡ (view_spec.heard_from view.now, view_spec.up_and_caught_up down.now view.now)) }
 {
     let heard = heard_from(alloc, view)?;
     Ok((heard, up_and_caught_up(alloc, down, view)?))

@@ -1,3 +1,4 @@
+pub mod Offered
 mod Runs
 mod FindingMoves
 mod PlannedSteps

@@ -6,4 +6,3 @@ pub mod AlongPath
 pub mod BetweenSingle
 pub mod IntoJoint
 pub mod RunToTarget
-pub mod Equality

@@ -1,7 +1,6 @@
 pub mod Run
 pub mod Best
 pub mod PlanSteps
-pub mod SamePlans
 pub mod Planned
 pub mod AddedSteps
 pub mod PlanText

@@ -28,19 +28,24 @@ pub struct StepRefused {
 /// resets, or name an id in fewer changes (own).
 pub fn apply_plan<S: MemberSet>(changer: &mut Changer<S>, plan: &Plan) -> Result<(), StepRefused>
     ensures taken { OnOk result (Takes changer.old plan.now changer.new) }
-    ensures stopped { IfErr result (λ stop. StopsAt changer.old plan.now stop.step stop.refused changer.new) }
+    ensures stopped { IfErr result
+        (λ stop. StopsAt changer.old plan.now stop.step stop.refused changer.new) }
     ensures sound { IsSound changer.new.tracker }
-    ensures reached { OnOk result ((target : Configuration) → IsRun changer.old.tracker.config plan.now target
+    ensures reached { OnOk result
+        ((target : Configuration) → IsRun changer.old.tracker.config plan.now target
         → changer.new.tracker.config ≡ target) }
     ensures preserved { OnOk result ((id : ℕ)
         → Preserves changer.old.tracker.config plan.now changer.new.tracker.config id
         → HasKeptProgress changer.old changer.new id) }
     ensures preserving { OnOk result ((target : Configuration) (other : List Step) (id : ℕ)
         → plan.now ≡ planned changer.old.tracker.config target
-        → Preserves changer.old.tracker.config other target id → HasKeptProgress changer.old changer.new id) }
-    ensures best { OnOk result ((target : Configuration) → plan.now ≡ planned changer.old.tracker.config target
+        → Preserves changer.old.tracker.config other target id
+        → HasKeptProgress changer.old changer.new id) }
+    ensures best { OnOk result
+        ((target : Configuration) → plan.now ≡ planned changer.old.tracker.config target
         → IsValidWithVoter changer.old.tracker.config
-        → IsValidWithVoter target → IsBest changer.old.tracker.config plan.now changer.new.tracker.config) }
+        → IsValidWithVoter target
+        → IsBest changer.old.tracker.config plan.now changer.new.tracker.config) }
     ensures memory_alone { IfErr result (λ stop. (target : Configuration)
         → IsRun changer.old.tracker.config plan.now target → stop.refused ≡ Refused.NoMemory) }
 {
@@ -53,9 +58,11 @@ pub fn apply_plan<S: MemberSet>(changer: &mut Changer<S>, plan: &Plan) -> Result
 /// preserves keep their match and next. A path may be applied in parts, and then ends as if it was applied at once.
 pub fn apply_path<S: MemberSet>(changer: &mut Changer<S>, path: &Path) -> Result<(), StepRefused>
     ensures taken { OnOk result (Takes changer.old path.now changer.new) }
-    ensures stopped { IfErr result (λ stop. StopsAt changer.old path.now stop.step stop.refused changer.new) }
+    ensures stopped { IfErr result
+        (λ stop. StopsAt changer.old path.now stop.step stop.refused changer.new) }
     ensures sound { IsSound changer.new.tracker }
-    ensures reached { OnOk result ((target : Configuration) → IsRun changer.old.tracker.config path.now target
+    ensures reached { OnOk result
+        ((target : Configuration) → IsRun changer.old.tracker.config path.now target
         → changer.new.tracker.config ≡ target) }
     ensures preserved { OnOk result ((id : ℕ)
         → Preserves changer.old.tracker.config path.now changer.new.tracker.config id

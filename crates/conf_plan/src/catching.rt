@@ -36,7 +36,8 @@ pub fn catching_up_by<S: MemberSet>(
     changes: &[Change],
     after: &Config<S>,
 ) -> Result<S, NoMemory>
-    ensures { IfOk result (λ ids. S.ids ids ≡ catching_up before.now (step_of kind changes.now) after.now) }
+    ensures { IfOk result
+        (λ ids. S.ids ids ≡ catching_up before.now (step_of kind changes.now) after.now) }
 {
     let changes = match kind {
         StepKind::Simple | StepKind::Enter(_) => changes,
@@ -87,7 +88,8 @@ fn is_removal(kind: Kind) -> bool
 // Whether a member after a step that removes these ids has lost its progress: it was not a member before, or it was
 // removed and added again and is not an outgoing voter.
 fn has_lost<S: MemberSet>(before: &Config<S>, after: &Config<S>, removed: &S, id: u64) -> bool
-    ensures { result ≡ (not (is_member before.now id) || (has (S.ids removed.now) id && not (has after.now.outgoing id))) }
+    ensures { result ≡ (not (is_member before.now id)
+        || (has (S.ids removed.now) id && not (has after.now.outgoing id))) }
 {
     !before.is_member(id) || (removed.contains(id) && !after.outgoing.contains(id))
 }

@@ -3,7 +3,7 @@ ghost use Rattle.std.specs.Prelude.{◌≡◌, ℕ, Bool, IfOk};
 ghost use Rattle.quorum_sets.specs.Counting.{Computes};
 ghost use Rattle.quorum_sets.specs.Ids.{ascending, ids_where};
 
-use quorum_sets::{MemberSet, NoMemory};
+use quorum_sets::{IdList, MemberSet, NoMemory};
 use smallvec::SmallVec;
 use std::alloc::Global;
 
@@ -17,7 +17,7 @@ pub(crate) fn filtered<S: MemberSet, F: Fn(u64) -> bool>(
     ensures { (passes : ℕ → Bool) → Computes (F.post test) passes
         → IfOk result (λ filtered. S.ids filtered ≡ ids_where passes (ascending (S.ids ids.now))) }
 {
-    let mut list: SmallVec<u64, 16> = SmallVec::new(alloc);
+    let mut list: IdList = SmallVec::new(alloc);
     for index in 0..ids.len() {
         if let Some(id) = ids.at(index) {
             if test(id) {

@@ -6,9 +6,8 @@ ghost use Rattle.quorum_sets.specs.Ids.{Ids, has};
 ghost use Rattle.quorum_sets.specs.Tolerance.{Tolerates};
 ghost use Rattle.quorum_sets.specs.Voters.{Voters};
 ghost use Rattle.conf_change.specs.Configuration.{Configuration};
-ghost use Rattle.conf_change.specs.Changer.{ChangerState, IsSound, Accepts};
+ghost use Rattle.conf_change.specs.Changer.{ChangerState};
 ghost use Rattle.conf_change.specs.ChangeList.{Denotes};
-ghost use Rattle.conf_change.specs.Progress.{keeps_progress};
 ghost use Rattle.conf_change.specs.Step.{changes_of};
 ghost use Rattle.conf_change.specs.Transition.{steps_for};
 ghost use Rattle.conf_change.specs.declared.change.Change.{Change};
@@ -18,33 +17,28 @@ ghost use Rattle.conf_change.specs.declared.transition.Transition.{Transition};
 ghost use Rattle.conf_plan.specs.declared.strategy.Strategy.{Strategy};
 ghost use Rattle.conf_plan.specs.declared.strategy.Strategy.TheVariants.{Shortest};
 ghost use Rattle.conf_plan.specs.declared.text.PlanTextFault.{PlanTextFault};
-ghost use Rattle.conf_plan.specs.Best.{times_named, is_in, HasSameRoles, IsBest};
+ghost use Rattle.conf_plan.specs.Best.{times_named, is_in, IsBest};
 ghost use Rattle.conf_plan.specs.OneChangeEach.{one_change_each, LeadsChangeByChange};
 ghost use Rattle.conf_plan.specs.PathBy.{has_path, path_by, KeepsPromises};
 ghost use Rattle.conf_plan.specs.Planned.{planned};
 ghost use Rattle.conf_plan.specs.PlanSteps.{HasU64Ids, IsPlan};
 ghost use Rattle.conf_plan.specs.PlanText.{ParsesToPath, ParsesToPlan, HasPathFault, HasPlanFault, change_text, plan_text};
 ghost use Rattle.conf_plan.specs.PlanCode.{path_in, plan_in};
-ghost use Rattle.conf_plan.specs.Run.{Gives, IsRun, IsValidWithVoter, Takes, StopsAt, HasKeptProgress, after_steps};
-ghost use Rattle.conf_plan.specs.SamePlans.{is_same_plan};
+ghost use Rattle.conf_plan.specs.Run.{Gives, IsRun, IsValidWithVoter, Takes, StopsAt, after_steps};
 
 /// A run that starts at a valid configuration with a voter ends at one.
 pub fn run_stays_valid()
-    ensures { (before after : Configuration) (steps : List Step) → IsValidWithVoter before → IsRun before steps after
+    ensures { (before after : Configuration) (steps : List Step) → IsValidWithVoter before
+        → IsRun before steps after
         → IsValidWithVoter after }
-{}
-
-/// A run that does not name an id leaves the id's roles as they are: incoming voter, learner (now or next), or neither.
-pub fn unnamed_stays()
-    ensures { (before after : Configuration) (steps : List Step) (id : ℕ) → IsRun before steps after
-        → times_named id steps ≡ 0 → HasSameRoles before after id }
 {}
 
 /// The plan from one configuration to another is a run of at most four steps.
 pub fn planned_is_run()
     ensures run { (now target : Configuration) → IsValidWithVoter now → IsValidWithVoter target
         → IsRun now (planned now target) target }
-    ensures at_most_four { (now target : Configuration) → IsValidWithVoter now → IsValidWithVoter target
+    ensures at_most_four { (now target : Configuration) → IsValidWithVoter now
+        → IsValidWithVoter target
         → length (planned now target) ≤ 4 }
 {}
 
@@ -64,7 +58,8 @@ pub fn planned_is_best()
 pub fn paths_keep_promises()
     ensures shortest { (down : Ids) (now target : Configuration)
         → path_by Shortest down now target ≡ planned now target }
-    ensures promises { (strategy : Strategy) (down : Ids) (now target : Configuration) → IsValidWithVoter now
+    ensures promises { (strategy : Strategy) (down : Ids) (now target : Configuration)
+        → IsValidWithVoter now
         → IsValidWithVoter target
         → has_path strategy now target ≡ true
         → KeepsPromises strategy down now (path_by strategy down now target) target }
@@ -77,36 +72,37 @@ pub fn paths_keep_promises()
 pub fn one_change_each_leads()
     ensures { (strategy : Strategy) (down : Ids) (now target : Configuration) → IsValidWithVoter now
         → IsValidWithVoter target
-        → has_path strategy now target ≡ true → LeadsChangeByChange now (path_by strategy down now target) target }
+        → has_path strategy now target ≡ true
+        → LeadsChangeByChange now (path_by strategy down now target) target }
 {}
 
 /// A path that is made anew after its first step, or after the first change of a simple step, has at most as many steps
 /// of one change as were left. So a way on which each step is the first of a path made anew ends, and is no longer than
 /// the first path.
 pub fn next_path_is_shorter()
-    ensures shorter { (strategy : Strategy) (down : Ids) (now next target : Configuration) (step : Step)
-        (rest : List Step) → IsValidWithVoter now → IsValidWithVoter target → has_path strategy now target ≡ true
+    ensures shorter { (strategy : Strategy) (down : Ids) (now next target : Configuration)
+        (step : Step)
+        (rest : List Step) → IsValidWithVoter now → IsValidWithVoter target
+        → has_path strategy now target ≡ true
         → one_change_each (path_by strategy down now target) ≡ step ∷ rest → Gives now step next
         → length (one_change_each (path_by strategy down next target)) ≤ length rest }
-    ensures has_path { (strategy : Strategy) (down : Ids) (now next target : Configuration) (step : Step)
+    ensures has_path { (strategy : Strategy) (down : Ids) (now next target : Configuration)
+        (step : Step)
         (rest : List Step) → has_path strategy now target ≡ true
-        → one_change_each (path_by strategy down now target) ≡ step ∷ rest → has_path strategy next target ≡ true }
-    ensures valid { (now next : Configuration) (step : Step) → IsValidWithVoter now → Gives now step next
+        → one_change_each (path_by strategy down now target) ≡ step ∷ rest
+        → has_path strategy next target ≡ true }
+    ensures valid { (now next : Configuration) (step : Step) → IsValidWithVoter now
+        → Gives now step next
         → IsValidWithVoter next }
 {}
 
 /// If fewer voters are uncounted, at least as many ids may be down.
 pub fn fewer_uncounted_tolerate_more()
     ensures { (voters : Voters) (fewer more : Ids) (k : ℕ)
-        → ((id : ℕ) → (has voters.incoming id || has voters.outgoing id) ≡ true → has fewer id ≡ true
+        → ((id : ℕ) → (has voters.incoming id || has voters.outgoing id) ≡ true
+        → has fewer id ≡ true
         → has more id ≡ true)
         → Tolerates voters more k → Tolerates voters fewer k }
-{}
-
-/// If a step keeps a member's progress, a changer that takes the step keeps the member's match and next.
-pub fn progress_is_kept()
-    ensures { (before after : ChangerState) (step : Step) (id : ℕ) → IsSound before.tracker → Accepts before step after
-        → keeps_progress before.tracker.config step after.tracker.config id ≡ true → HasKeptProgress before after id }
 {}
 
 /// The plan from the end of any run leads back in at most four steps, and in at most three if the run has one step. The
@@ -115,10 +111,12 @@ pub fn undo_of_run()
     ensures back { (before after : Configuration) (steps : List Step) → IsValidWithVoter before
         → IsRun before steps after
         → IsRun after (planned after before) before }
-    ensures at_most_four { (before after : Configuration) (steps : List Step) → IsValidWithVoter before
+    ensures at_most_four { (before after : Configuration) (steps : List Step)
+        → IsValidWithVoter before
         → IsRun before steps after
         → length (planned after before) ≤ 4 }
-    ensures at_most_three { (before after : Configuration) (steps : List Step) → IsValidWithVoter before
+    ensures at_most_three { (before after : Configuration) (steps : List Step)
+        → IsValidWithVoter before
         → IsRun before steps after
         → length steps ≡ 1 → length (planned after before) ≤ 3 }
 {}
@@ -126,7 +124,8 @@ pub fn undo_of_run()
 /// After any lists of changes, each applied with its transition, the plan leads back in at most four steps, and in at
 /// most three after one list.
 pub fn undo_of_changes()
-    ensures back { (before after : Configuration) (lists : List (Transition × List Change)) → IsValidWithVoter before
+    ensures back { (before after : Configuration) (lists : List (Transition × List Change))
+        → IsValidWithVoter before
         → IsRun before (steps_for lists) after
         → IsRun after (planned after before) before }
     ensures at_most_four { (before after : Configuration) (lists : List (Transition × List Change))
@@ -143,19 +142,24 @@ pub fn one_changer_after_steps()
         ↔ (after_steps before steps ≡ Some after) }
     ensures run { (before : ChangerState) (steps : List Step) (target : Configuration)
         → IsRun before.tracker.config steps target
-        → (after : ChangerState) × (after_steps before steps ≡ Some after) × (after.tracker.config ≡ target) }
+        → (after : ChangerState) × (after_steps before steps ≡ Some after)
+        × (after.tracker.config ≡ target) }
 {}
 
 /// Steps taken in parts are the steps taken at once: the first ones lead to where the rest goes on, and the rest ends
 /// where all of them do. If a part stops, so do all of them, at the same step: it counts the steps of the first part too.
 pub fn parts_are_the_whole()
-    ensures taken { (before after : ChangerState) (first rest : List Step) → (Takes before (first ++ rest) after)
+    ensures taken { (before after : ChangerState) (first rest : List Step)
+        → (Takes before (first ++ rest) after)
         ↔ ((between : ChangerState) × Takes before first between × Takes between rest after) }
-    ensures run { (before after : Configuration) (first rest : List Step) → (IsRun before (first ++ rest) after)
+    ensures run { (before after : Configuration) (first rest : List Step)
+        → (IsRun before (first ++ rest) after)
         ↔ ((between : Configuration) × IsRun before first between × IsRun between rest after) }
-    ensures first_stops { (before after : ChangerState) (first rest : List Step) (number : ℕ) (why : Refused)
+    ensures first_stops { (before after : ChangerState) (first rest : List Step) (number : ℕ)
+        (why : Refused)
         → StopsAt before first number why after → StopsAt before (first ++ rest) number why after }
-    ensures rest_stops { (before between after : ChangerState) (first rest : List Step) (number : ℕ) (why : Refused)
+    ensures rest_stops { (before between after : ChangerState) (first rest : List Step) (number : ℕ)
+        (why : Refused)
         → Takes before first between → StopsAt between rest number why after
         → StopsAt before (first ++ rest) (length first + number) why after }
 {}
@@ -169,30 +173,33 @@ pub fn ids_are_named()
 /// A text is either parsed as exactly one path or has exactly one error, and the parser returns it. The printed text of
 /// a path, of any length, is parsed as its steps alone. The ids that are parsed have 64 bits.
 pub fn one_path_per_text()
-    ensures ok { (text : List ℕ) (steps : List Step) → (ParsesToPath text steps) ↔ (path_in text ≡ Ok steps) }
-    ensures err { (text : List ℕ) (fault : PlanTextFault) → (HasPathFault text fault) ↔ (path_in text ≡ Err fault) }
+    ensures ok { (text : List ℕ) (steps : List Step) → (ParsesToPath text steps)
+        ↔ (path_in text ≡ Ok steps) }
+    ensures err { (text : List ℕ) (fault : PlanTextFault) → (HasPathFault text fault)
+        ↔ (path_in text ≡ Err fault) }
     ensures each { (text : List ℕ) → ((steps : List Step) × ParsesToPath text steps)
         ⊎ ((fault : PlanTextFault) × HasPathFault text fault) }
-    ensures one { (text : List ℕ) (a b : List Step) → ParsesToPath text a → ParsesToPath text b → a ≡ b }
-    ensures printed { (steps other : List Step) → All HasU64Ids steps → (ParsesToPath (plan_text steps) other)
+    ensures one { (text : List ℕ) (a b : List Step) → ParsesToPath text a → ParsesToPath text b
+        → a ≡ b }
+    ensures printed { (steps other : List Step) → All HasU64Ids steps
+        → (ParsesToPath (plan_text steps) other)
         ↔ (other ≡ steps) }
-    ensures u64_ids { (text : List ℕ) (steps : List Step) → ParsesToPath text steps → All HasU64Ids steps }
+    ensures u64_ids { (text : List ℕ) (steps : List Step) → ParsesToPath text steps
+        → All HasU64Ids steps }
 {}
 
 /// A text is either parsed as exactly one plan, a path of at most four steps, or has exactly one error, and the parser
 /// returns it. The printed text of a plan is parsed as the plan, and the printed changes of a step as these changes.
 pub fn one_plan_per_text()
-    ensures ok { (text : List ℕ) (steps : List Step) → (ParsesToPlan text steps) ↔ (plan_in text ≡ Ok steps) }
-    ensures err { (text : List ℕ) (fault : PlanTextFault) → (HasPlanFault text fault) ↔ (plan_in text ≡ Err fault) }
+    ensures ok { (text : List ℕ) (steps : List Step) → (ParsesToPlan text steps)
+        ↔ (plan_in text ≡ Ok steps) }
+    ensures err { (text : List ℕ) (fault : PlanTextFault) → (HasPlanFault text fault)
+        ↔ (plan_in text ≡ Err fault) }
     ensures each { (text : List ℕ) → ((steps : List Step) × ParsesToPlan text steps)
         ⊎ ((fault : PlanTextFault) × HasPlanFault text fault) }
-    ensures one { (text : List ℕ) (a b : List Step) → ParsesToPlan text a → ParsesToPlan text b → a ≡ b }
+    ensures one { (text : List ℕ) (a b : List Step) → ParsesToPlan text a → ParsesToPlan text b
+        → a ≡ b }
     ensures printed { (steps : List Step) → IsPlan steps → ParsesToPlan (plan_text steps) steps }
     ensures changes { (step : Step) → HasU64Ids step
         → Denotes (join_with_byte 32 (map change_text (changes_of step))) (changes_of step) }
-{}
-
-/// `==` on plans is equality of their steps.
-pub fn equal_plans_are_the_same()
-    ensures { (a b : List Step) → (is_same_plan a b ≡ true) ↔ (a ≡ b) }
 {}

@@ -11,7 +11,6 @@
 ghost use Rattle.std.specs.Prelude.{◌≡◌, ◌&&◌, IfOk, OnOk};
 ghost use Rattle.conf_plan.specs.LearnersFirst as first;
 ghost use Rattle.conf_plan.specs.LearnersFirst.{learners_first_from_single};
-ghost use Rattle.conf_plan.specs.Planned.{single_with};
 ghost use Rattle.conf_plan.specs.Run.{IsValidWithVoter};
 ghost use Rattle.conf_plan.specs.AddedSteps.{IsAdded};
 
@@ -30,15 +29,17 @@ pub(crate) fn add_learners_first<S: MemberSet>(
     start: &NotJoint<S>,
     target: &Config<S>,
 ) -> Result<(), NoMemory>
-    requires start { IsValidWithVoter (single_with (S.ids start.now.incoming.now) (S.ids start.now.learners.now)) }
+    requires start { IsValidWithVoter start.now }
     requires target { IsValidWithVoter target.now }
-    ensures { OnOk result (IsAdded steps.old.items (learners_first_from_single (single_with (S.ids start.now.incoming.now) (S.ids start.now.learners.now)) target.now) steps.new.items) }
+    ensures { OnOk result (IsAdded steps.old.items
+        (learners_first_from_single start.now target.now) steps.new.items) }
 {
+    let learners = start.learners;
     let newcomers = newcomers(alloc, start, target)?;
     if newcomers.len() == 0 {
         return add_from_single(alloc, steps, start, target);
     }
-    let learners = union(start.learners, &newcomers)?;
+    let learners = union(learners, &newcomers)?;
     add_single_steps(alloc, steps, start, start.incoming, &learners)?;
     let learning = NotJoint {
         incoming: start.incoming,
@@ -53,8 +54,7 @@ fn newcomers<S: MemberSet>(
     start: &NotJoint<S>,
     target: &Config<S>,
 ) -> Result<S, NoMemory>
-    ensures { IfOk result (λ ids. S.ids ids
-        ≡ first.newcomers (single_with (S.ids start.now.incoming.now) (S.ids start.now.learners.now)) target.now) }
+    ensures { IfOk result (λ ids. S.ids ids ≡ first.newcomers start.now target.now) }
 {
     let voters = union(&target.incoming, &target.outgoing)?;
     filtered(

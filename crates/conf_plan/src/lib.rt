@@ -60,5 +60,5 @@ pub use planner::{PlanFault, plan};
 pub use step_list::Plan;
 pub use strategy::{NoPath, Strategy, plan_by};
 pub use text::{
-    PlanTextFault, changes_text, command_text, print_path, print_plan, read_path, read_plan,
+    PlanTextFault, changes_text, command_text, letter, print_path, print_plan, read_path, read_plan,
 };

@@ -27,7 +27,8 @@ pub(crate) fn moves_to<S: MemberSet>(
     to_learners: &S,
 ) -> Result<Vec<Change>, NoMemory>
     ensures moves { IfOk result (λ changes. changes.items
-        ≡ moves (single_with (S.ids incoming.now) (S.ids learners.now)) (S.ids to_voters.now) (S.ids to_learners.now)) }
+        ≡ moves (single_with (S.ids incoming.now) (S.ids learners.now)) (S.ids to_voters.now)
+        (S.ids to_learners.now)) }
     ensures u64_ids { IfOk result (λ changes. All (λ change. change.id < 2 ^ 64) changes.items) }
 {
     let ids = union_of_all(alloc, to_voters, to_learners, incoming, learners)?;

@@ -22,13 +22,12 @@
 //! simple v9                           9 joins, which is a learner already
 //! simple l4, simple v4                4 joins
 //! ```
-ghost use Rattle.std.specs.Prelude.{◌≡◌, [], ◌∷◌, ◌++◌, ◌&&◌, flat_map, IfOk, OnOk};
+ghost use Rattle.std.specs.Prelude.{◌≡◌, [], ◌++◌, ◌&&◌, flat_map, IfOk, OnOk};
 ghost use Rattle.std.specs.List.{cons_option};
 ghost use Rattle.quorum_sets.specs.Ids.{ascending};
 ghost use Rattle.quorum_sets.specs.Tolerance.{commits_without};
 ghost use Rattle.conf_change.specs.Configuration.{voters_of};
 ghost use Rattle.conf_plan.specs.OneAtATime.{steps_of, learners_first, in_turn, order, one_at_a_time_from_single};
-ghost use Rattle.conf_plan.specs.Planned.{single_with};
 ghost use Rattle.conf_plan.specs.AddedSteps.{IsAdded};
 
 use crate::filtered::filtered;
@@ -36,7 +35,7 @@ use crate::moves::kind_of_move;
 use crate::not_joint::NotJoint;
 use crate::one_change_each::add_change;
 use conf_change::{Config, Kind, Step};
-use quorum_sets::{MemberSet, NoMemory, add_ids, commits_without};
+use quorum_sets::{IdList, MemberSet, NoMemory, add_ids, commits_without};
 use smallvec::SmallVec;
 use std::alloc::Global;
 
@@ -49,8 +48,8 @@ pub(crate) fn add_one_at_a_time<S: MemberSet>(
     target: &Config<S>,
     down: &S,
 ) -> Result<(), NoMemory>
-    ensures { OnOk result (IsAdded steps.old.items (one_at_a_time_from_single (S.ids down.now)
-        (single_with (S.ids start.now.incoming.now) (S.ids start.now.learners.now)) target.now) steps.new.items) }
+    ensures { OnOk result (IsAdded steps.old.items
+        (one_at_a_time_from_single (S.ids down.now) start.now target.now) steps.new.items) }
 {
     if both_commit(alloc, start, target, down) {
         add_in_order(alloc, steps, start, target, down)
@@ -67,8 +66,8 @@ fn both_commit<S: MemberSet>(
     target: &Config<S>,
     down: &S,
 ) -> bool
-    ensures { result ≡ (commits_without (voters_of (single_with (S.ids start.now.incoming.now)
-        (S.ids start.now.learners.now))) (S.ids down.now) && commits_without (voters_of target.now) (S.ids down.now)) }
+    ensures { result ≡ (commits_without (voters_of start.now) (S.ids down.now)
+        && commits_without (voters_of target.now) (S.ids down.now)) }
 {
     let none = S::empty(alloc);
     commits_without((start.incoming, &none), down)
@@ -83,10 +82,9 @@ fn add_in_order<S: MemberSet>(
     target: &Config<S>,
     down: &S,
 ) -> Result<(), NoMemory>
-    ensures { OnOk result (IsAdded steps.old.items (flat_map (steps_of (single_with (S.ids start.now.incoming.now)
-        (S.ids start.now.learners.now)) target.now)
-        (order (S.ids down.now)
-        (single_with (S.ids start.now.incoming.now) (S.ids start.now.learners.now)) target.now)) steps.new.items) }
+    ensures { OnOk result (IsAdded steps.old.items
+        (flat_map (steps_of start.now target.now) (order (S.ids down.now) start.now target.now))
+        steps.new.items) }
 {
     let ids = ids_in_order(alloc, start, target, down)?;
     for id in ids.as_slice() {
@@ -101,10 +99,8 @@ fn ids_in_order<S: MemberSet>(
     start: &NotJoint<S>,
     target: &Config<S>,
     down: &S,
-) -> Result<SmallVec<u64, 16>, NoMemory>
-    ensures { IfOk result (λ ids. ids.items
-        ≡ order (S.ids down.now)
-        (single_with (S.ids start.now.incoming.now) (S.ids start.now.learners.now)) target.now) }
+) -> Result<IdList, NoMemory>
+    ensures { IfOk result (λ ids. ids.items ≡ order (S.ids down.now) start.now target.now) }
 {
     let retiring_down = filtered(
         alloc,
@@ -154,7 +150,7 @@ fn ids_in_order<S: MemberSet>(
 // Appends the learners among these ids and then the others, each part ascending.
 fn add_learners_first<S: MemberSet>(
     alloc: Global,
-    list: &mut SmallVec<u64, 16>,
+    list: &mut IdList,
     ids: &S,
     learners: &S,
 ) -> Result<(), NoMemory>
@@ -168,12 +164,9 @@ fn add_learners_first<S: MemberSet>(
 }
 
 // Appends ids that join and ids that retire in turn; when one list ends, the rest of the other follows.
-fn add_in_turn<S: MemberSet>(
-    list: &mut SmallVec<u64, 16>,
-    joins: &[u64],
-    retires: &S,
-) -> Result<(), NoMemory>
-    ensures { OnOk result (list.new.items ≡ list.old.items ++ in_turn joins.now (ascending (S.ids retires.now))) }
+fn add_in_turn<S: MemberSet>(list: &mut IdList, joins: &[u64], retires: &S) -> Result<(), NoMemory>
+    ensures { OnOk result
+        (list.new.items ≡ list.old.items ++ in_turn joins.now (ascending (S.ids retires.now))) }
 {
     for index in 0..joins.len().max(retires.len()) {
         add_if_any(list, joins.get(index).copied())?;
@@ -183,7 +176,7 @@ fn add_in_turn<S: MemberSet>(
 }
 
 // Appends an id, if there is one.
-fn add_if_any(list: &mut SmallVec<u64, 16>, id: Option<u64>) -> Result<(), NoMemory>
+fn add_if_any(list: &mut IdList, id: Option<u64>) -> Result<(), NoMemory>
     ensures { OnOk result (list.new.items ≡ list.old.items ++ cons_option id []) }
 {
     if let Some(id) = id {
@@ -201,8 +194,8 @@ fn add_steps_of<S: MemberSet>(
     target: &Config<S>,
     id: u64,
 ) -> Result<(), NoMemory>
-    ensures { OnOk result (IsAdded steps.old.items (steps_of (single_with (S.ids start.now.incoming.now)
-        (S.ids start.now.learners.now)) target.now id) steps.new.items) }
+    ensures { OnOk result
+        (IsAdded steps.old.items (steps_of start.now target.now id) steps.new.items) }
 {
     let votes = start.incoming.contains(id);
     let learns = start.learners.contains(id);

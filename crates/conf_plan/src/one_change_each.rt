@@ -1,5 +1,5 @@
 //! Simple steps of one change each.
-ghost use Rattle.std.specs.Prelude.{[], ◌∷◌, map, flat_map, OnOk};
+ghost use Rattle.std.specs.Prelude.{[], ◌∷◌, map, OnOk};
 ghost use Rattle.std.specs.List.{All};
 ghost use Rattle.conf_change.specs.declared.change.Change.{Change};
 ghost use Rattle.conf_change.specs.declared.step.Step.TheVariants.{Simple};
@@ -48,7 +48,8 @@ fn add_each_change(alloc: Global, steps: &mut Vec<Step>, step: &Step) -> Result<
 
 // Appends a simple step for each change.
 fn add_changes(alloc: Global, steps: &mut Vec<Step>, changes: &[Change]) -> Result<(), NoMemory>
-    ensures { OnOk result (IsAdded steps.old.items (map (λ (change : Change). Simple (change ∷ [])) changes.now) steps.new.items) }
+    ensures { OnOk result (IsAdded steps.old.items
+        (map (λ (change : Change). Simple (change ∷ [])) changes.now) steps.new.items) }
 {
     for change in changes {
         add_change(alloc, steps, change.kind, change.id)?;

@@ -13,7 +13,7 @@
 ghost use Rattle.std.specs.Prelude.{◌≡◌, ◌↔◌, true, false, [], ◌∷◌, Err, IfOk, OnOk};
 ghost use Rattle.conf_change.specs.Configuration.{is_joint, is_same, is_valid, has_voter};
 ghost use Rattle.conf_plan.specs.PathBy.{from_single_by, path_by};
-ghost use Rattle.conf_plan.specs.Planned.{single_with, single_steps, entering_step, joint_steps, planned_from_single, planned};
+ghost use Rattle.conf_plan.specs.Planned.{single_steps, entering_step, joint_steps, planned_from_single, planned};
 ghost use Rattle.conf_plan.specs.Best.{IsBest};
 ghost use Rattle.conf_plan.specs.Run.{IsValidWithVoter};
 ghost use Rattle.conf_plan.specs.AddedSteps.{IsAdded};
@@ -95,7 +95,8 @@ pub(crate) fn add_path<S: MemberSet>(
     requires now { IsValidWithVoter now.now }
     requires target { IsValidWithVoter target.now }
     requires other { is_same now.now target.now ≡ false }
-    ensures { OnOk result (IsAdded steps.old.items (path_by strategy (S.ids down.now) now.now target.now) steps.new.items) }
+    ensures { OnOk result (IsAdded steps.old.items
+        (path_by strategy (S.ids down.now) now.now target.now) steps.new.items) }
 {
     if now.is_joint() {
         steps.push(Step::LeaveJoint)?;
@@ -122,10 +123,10 @@ fn add_from_single_by<S: MemberSet>(
     target: &Config<S>,
     down: &S,
 ) -> Result<(), NoMemory>
-    requires start { IsValidWithVoter (single_with (S.ids start.now.incoming.now) (S.ids start.now.learners.now)) }
+    requires start { IsValidWithVoter start.now }
     requires target { IsValidWithVoter target.now }
-    ensures { OnOk result (IsAdded steps.old.items (from_single_by strategy (S.ids down.now)
-        (single_with (S.ids start.now.incoming.now) (S.ids start.now.learners.now)) target.now) steps.new.items) }
+    ensures { OnOk result (IsAdded steps.old.items
+        (from_single_by strategy (S.ids down.now) start.now target.now) steps.new.items) }
 {
     match strategy {
         Strategy::Shortest => add_from_single(alloc, steps, start, target),
@@ -141,10 +142,10 @@ pub(crate) fn add_from_single<S: MemberSet>(
     start: &NotJoint<S>,
     target: &Config<S>,
 ) -> Result<(), NoMemory>
-    requires start { IsValidWithVoter (single_with (S.ids start.now.incoming.now) (S.ids start.now.learners.now)) }
+    requires start { IsValidWithVoter start.now }
     requires target { IsValidWithVoter target.now }
-    ensures { OnOk result (IsAdded steps.old.items (planned_from_single (single_with (S.ids start.now.incoming.now)
-        (S.ids start.now.learners.now)) target.now) steps.new.items) }
+    ensures { OnOk result (IsAdded steps.old.items
+        (planned_from_single start.now target.now) steps.new.items) }
 {
     if is_same(alloc, start, target) {
         Ok(())
@@ -157,7 +158,7 @@ pub(crate) fn add_from_single<S: MemberSet>(
 
 // Whether a configuration that is not joint is the target.
 fn is_same<S: MemberSet>(alloc: Global, start: &NotJoint<S>, target: &Config<S>) -> bool
-    ensures { result ≡ is_same (single_with (S.ids start.now.incoming.now) (S.ids start.now.learners.now)) target.now }
+    ensures { result ≡ is_same start.now target.now }
 {
     let none = S::empty(alloc);
     has_same_ids(start.incoming, &target.incoming)
@@ -175,11 +176,11 @@ fn add_joint_steps<S: MemberSet>(
     start: &NotJoint<S>,
     target: &Config<S>,
 ) -> Result<(), NoMemory>
-    requires start { IsValidWithVoter (single_with (S.ids start.now.incoming.now) (S.ids start.now.learners.now)) }
+    requires start { IsValidWithVoter start.now }
     requires target { IsValidWithVoter target.now }
     requires joint { is_joint target.now ≡ true }
-    ensures { OnOk result (IsAdded steps.old.items (joint_steps (single_with (S.ids start.now.incoming.now)
-        (S.ids start.now.learners.now)) target.now) steps.new.items) }
+    ensures { OnOk result
+        (IsAdded steps.old.items (joint_steps start.now target.now) steps.new.items) }
 {
     if has_same_ids(start.incoming, &target.outgoing) {
         return add_entering_step(alloc, steps, start, target);
@@ -201,8 +202,8 @@ fn add_entering_step<S: MemberSet>(
     start: &NotJoint<S>,
     target: &Config<S>,
 ) -> Result<(), NoMemory>
-    ensures { OnOk result (IsAdded steps.old.items (entering_step (single_with (S.ids start.now.incoming.now)
-        (S.ids start.now.learners.now)) target.now ∷ []) steps.new.items) }
+    ensures { OnOk result (IsAdded steps.old.items
+        (entering_step start.now target.now ∷ []) steps.new.items) }
 {
     let to_learners = union(&target.learners, &target.learners_next)?;
     let changes = moves_to(
@@ -225,8 +226,8 @@ pub(crate) fn add_single_steps<S: MemberSet>(
     to_voters: &S,
     to_learners: &S,
 ) -> Result<(), NoMemory>
-    ensures { OnOk result (IsAdded steps.old.items (single_steps (single_with (S.ids start.now.incoming.now)
-        (S.ids start.now.learners.now)) (S.ids to_voters.now) (S.ids to_learners.now)) steps.new.items) }
+    ensures { OnOk result (IsAdded steps.old.items
+        (single_steps start.now (S.ids to_voters.now) (S.ids to_learners.now)) steps.new.items) }
 {
     let changes = Changes::from(moves_to(
         alloc,

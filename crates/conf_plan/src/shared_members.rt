@@ -8,7 +8,7 @@
 //! ```
 ghost use Rattle.std.specs.Prelude.{◌≡◌, IfOk};
 ghost use Rattle.conf_plan.specs.Planned as planned;
-ghost use Rattle.conf_plan.specs.Planned.{single_with, is_shared};
+ghost use Rattle.conf_plan.specs.Planned.{is_shared};
 
 use crate::filtered::filtered;
 use crate::not_joint::NotJoint;
@@ -22,9 +22,7 @@ pub(crate) fn shared_members<S: MemberSet>(
     start: &NotJoint<S>,
     target: &Config<S>,
 ) -> Result<S, NoMemory>
-    ensures { IfOk result (λ shared. S.ids shared
-        ≡ planned.shared_members (single_with (S.ids start.now.incoming.now)
-        (S.ids start.now.learners.now)) target.now) }
+    ensures { IfOk result (λ shared. S.ids shared ≡ planned.shared_members start.now target.now) }
 {
     let members = union(start.incoming, start.learners)?;
     filtered(alloc, &members, |id| is_shared(target, id))

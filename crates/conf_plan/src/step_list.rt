@@ -33,18 +33,6 @@ impl Deref for Plan {
     }
 }
 
-impl PartialEq for Plan {
-    ghost use Rattle.conf_plan.specs.SamePlans.{is_same_plan, is_same_plan-laws};
-
-    ghost eq = { is_same_plan };
-
-    ghost laws = { is_same_plan-laws };
-
-    fn eq(&self, other: &Plan) -> bool {
-        self.as_slice() == other.as_slice()
-    }
-}
-
 impl Plan {
     // The plan of this path.
     pub(crate) fn of_path(path: Path) -> Plan

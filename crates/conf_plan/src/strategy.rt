@@ -63,9 +63,11 @@ pub fn plan_by<S: MemberSet>(
     requires valid_now { is_valid now.now ≡ true }
     requires valid_target { is_valid target.now ≡ true }
     ensures path { IfOk result (λ path. path
-        ≡ path_by strategy (ids_down (option_map S.ids (option_copied down.entry))) now.now target.now) }
+        ≡ path_by strategy
+        (ids_down (option_map S.ids (option_copied down.entry))) now.now target.now) }
     ensures promises { IfOk result (λ path.
-        KeepsPromises strategy (ids_down (option_map S.ids (option_copied down.entry))) now.now path target.now) }
+        KeepsPromises strategy
+        (ids_down (option_map S.ids (option_copied down.entry))) now.now path target.now) }
     ensures no_voter_now { (result ≡ Err NoPath.NoVoterNow) ↔ (has_voter now.now ≡ false) }
     ensures no_voter_target { (result ≡ Err NoPath.NoVoterTarget)
         ↔ ((has_voter now.now ≡ true) × (has_voter target.now ≡ false)) }
@@ -93,7 +95,8 @@ pub fn plan_by<S: MemberSet>(
 
 // Whether the strategy has a path to the target from another configuration, if both have voters.
 fn leads_to<S: MemberSet>(strategy: Strategy, target: &Config<S>) -> bool
-    ensures { (now : Configuration) → is_same now target.now ≡ false → result ≡ has_path strategy now target.now }
+    ensures { (now : Configuration) → is_same now target.now ≡ false
+        → result ≡ has_path strategy now target.now }
 {
     match strategy {
         Strategy::Shortest | Strategy::LearnersFirst => true,

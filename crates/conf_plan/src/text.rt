@@ -8,14 +8,14 @@
 //! ```
 //!
 //! What names no source here is own.
-ghost use Rattle.std.specs.Prelude.{◌≡◌, ◌⊎◌, ◌<◌, ◌≤◌, [], ◌∷◌, ◌++◌, List, None, Ok, Err, length, map, flat_map, IfOk, IfErr, IsErr, IsSome, OnOk, OnErr};
+ghost use Rattle.std.specs.Prelude.{◌≡◌, ◌⊎◌, ◌<◌, ◌++◌, None, Ok, Err, length, map, flat_map, IfOk, IsErr, IsSome, OnOk, OnErr};
 ghost use Rattle.std.specs.List.{join_with_byte};
 ghost use Rattle.ascii_text.specs.Lines.{full_lines};
 ghost use Rattle.ascii_text.specs.Tokens.{tokens_in};
 ghost use Rattle.conf_change.specs.ChangeList.{bad_token, letter_of};
 ghost use Rattle.conf_change.specs.Text.{Extends};
 ghost use Rattle.conf_change.specs.declared.step.Step.{Step};
-ghost use Rattle.conf_plan.specs.PlanText.{ParsesToPath, ParsesToPlan, HasPathFault, HasPlanFault, command_tokens, change_text, spaced_change, line_and_newline, plan_text};
+ghost use Rattle.conf_plan.specs.PlanText.{ParsesToPath, ParsesToPlan, command_tokens, change_text, spaced_change, line_and_newline, plan_text};
 ghost use Rattle.conf_plan.specs.PlanCode as code;
 ghost use Rattle.conf_plan.specs.PlanCode.{path_in, plan_in, step_in, enter_in, list_in};
 ghost use Rattle.conf_plan.specs.declared.text.PlanTextFault.{PlanTextFault};
@@ -105,7 +105,8 @@ fn append_plan(text: &mut Vec<u8>, steps: &[Step]) -> Result<(), NoMemory>
 }
 
 fn append_lines(text: &mut Vec<u8>, steps: &[Step]) -> Result<(), NoMemory>
-    ensures ok { OnOk result (text.new.items ≡ text.old.items ++ flat_map line_and_newline steps.now) }
+    ensures ok { OnOk result
+        (text.new.items ≡ text.old.items ++ flat_map line_and_newline steps.now) }
     ensures extends { Extends text.old.items text.new.items }
 {
     for step in steps {
@@ -140,7 +141,8 @@ pub fn command_text(step: &Step) -> &'static [u8]
 
 // Appends changes, each after a space.
 fn append_changes(text: &mut Vec<u8>, changes: &[Change]) -> Result<(), NoMemory>
-    ensures ok { OnOk result (text.new.items ≡ text.old.items ++ flat_map spaced_change changes.now) }
+    ensures ok { OnOk result
+        (text.new.items ≡ text.old.items ++ flat_map spaced_change changes.now) }
     ensures extends { Extends text.old.items text.new.items }
 {
     for change in changes {
@@ -180,8 +182,8 @@ fn append_token(text: &mut Vec<u8>, change: Change) -> Result<(), NoMemory>
     Ok(())
 }
 
-// The letter of a kind in a list of changes.
-fn letter(kind: Kind) -> u8
+/// The letter of a kind in a list of changes.
+pub fn letter(kind: Kind) -> u8
     ensures { result ≡ letter_of kind }
 {
     match kind {
@@ -193,17 +195,9 @@ fn letter(kind: Kind) -> u8
 }
 
 /// Reads the lines of a plan: a path of at most four steps. Refused as by [`read_path`], and at a fifth line, whatever
-/// it is.
+/// it is. The law [`one_plan_per_text`](crate::laws::one_plan_per_text) says which plan a text denotes.
 pub fn read_plan(alloc: Global, text: &[u8]) -> Result<Plan, PlanTextFault>
-    ensures denotes { IfOk result (ParsesToPlan text.now) }
-    ensures fault { IfErr result (λ fault. (fault ≡ PlanTextFault.NoMemory) ⊎ HasPlanFault text.now fault) }
-    ensures read { (steps : List Step) → ParsesToPlan text.now steps → (result ≡ Ok steps)
-        ⊎ (result ≡ Err PlanTextFault.NoMemory) }
-    ensures refused { (fault : PlanTextFault) → HasPlanFault text.now fault → (result ≡ Err fault)
-        ⊎ (result ≡ Err PlanTextFault.NoMemory) }
-
-    // As a function of the text.
-    ensures value { (result ≡ plan_in text.now) ⊎ (result ≡ Err PlanTextFault.NoMemory) }
+    ensures { (result ≡ plan_in text.now) ⊎ (result ≡ Err PlanTextFault.NoMemory) }
 {
     at_most_four(read_path(alloc, text))
 }
@@ -227,17 +221,10 @@ fn at_most_four(read: Result<Path, PlanTextFault>) -> Result<Plan, PlanTextFault
 
 /// Reads the lines of a path of any length, in the form of [`print_path`]; tokens may have any white space around them,
 /// and ids leading zeros. Refused at the first line that is not parsed as a step, and never with `TooManySteps`. A blank
-/// line is not a step, and the empty text is one blank line.
+/// line is not a step, and the empty text is one blank line. The law
+/// [`one_path_per_text`](crate::laws::one_path_per_text) says which path a text denotes.
 pub fn read_path(alloc: Global, text: &[u8]) -> Result<Path, PlanTextFault>
-    ensures denotes { IfOk result (ParsesToPath text.now) }
-    ensures fault { IfErr result (λ fault. (fault ≡ PlanTextFault.NoMemory) ⊎ HasPathFault text.now fault) }
-    ensures read { (steps : List Step) → ParsesToPath text.now steps → (result ≡ Ok steps)
-        ⊎ (result ≡ Err PlanTextFault.NoMemory) }
-    ensures refused { (fault : PlanTextFault) → HasPathFault text.now fault → (result ≡ Err fault)
-        ⊎ (result ≡ Err PlanTextFault.NoMemory) }
-
-    // As a function of the text.
-    ensures value { (result ≡ path_in text.now) ⊎ (result ≡ Err PlanTextFault.NoMemory) }
+    ensures { (result ≡ path_in text.now) ⊎ (result ≡ Err PlanTextFault.NoMemory) }
 {
     read_lines(alloc, text)
 }

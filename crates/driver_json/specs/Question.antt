@@ -3,7 +3,7 @@ use Rattle.std.specs.Prelude.{ℕ, List, codes, Option, Some, None, Result, Ok, 
 use Rattle.conf_driver.specs.View.{ViewState}
 use Rattle.serde_json.specs.Data.{Data, null, boolean, number, string, array, object}
 use Rattle.serde_json.specs.Find.{get}
-use Rattle.plan_input.specs.JsonText.{json_in}
+use Rattle.raft_json.specs.JsonText.{json_in}
 use Rattle.driver_json.specs.Values.{given, number_at, ids_at, strategy_at, configuration_at, progress_in}
 use Rattle.driver_json.specs.declared.line_fault.LineFault.{LineFault}
 use Rattle.driver_json.specs.declared.line_fault.LineFault.TheVariants.{NotAnObject}

@@ -1,7 +1,7 @@
 -- The keys of a line, and what is said of a line that is refused.
 use Rattle.std.specs.Prelude.{ℕ, List, ◌++◌, codes, decimal}
 use Rattle.conf_change.specs.declared.violation.Violation.{Violation}
-use Rattle.conf_change.specs.declared.violation.Violation.TheVariants.{ListedTwice, ZeroId, NextNotOutgoing, NextAndIncoming, LearnerAndVoter, NotJointButNext, NotJointButAutoLeave}
+use Rattle.conf_change.specs.declared.violation.Violation.TheVariants.{ListedTwice, ZeroId, NextNotOutgoing, NextAndIncoming, LearnerAndVoter, NotJointButAutoLeave}
 use Rattle.conf_driver.specs.declared.answer.NextFault.{NextFault}
 use Rattle.conf_driver.specs.declared.answer.NextFault.TheVariants as no_answer
 use Rattle.driver_json.specs.declared.line_fault.Expected.{Expected}
@@ -61,7 +61,6 @@ violation_text ZeroId = codes "0 is not an id"
 violation_text (NextNotOutgoing id) = decimal id ++ codes " is a next learner and not an outgoing voter"
 violation_text (NextAndIncoming id) = decimal id ++ codes " is a next learner and an incoming voter"
 violation_text (LearnerAndVoter id) = decimal id ++ codes " is a voter and a learner"
-violation_text (NotJointButNext id) = decimal id ++ codes " is a next learner without outgoing voters"
 violation_text NotJointButAutoLeave = codes "auto-leave without outgoing voters"
 
 -- why there is no answer

@@ -15,7 +15,7 @@ use crate::question::{Question, read_question};
 use conf_driver::{Action, NextFault, StuckReason, WaitReason, next};
 use conf_plan::{Path, plan_by};
 use plan_output::{add_line, first_line};
-use quorum_sets::{InlineIds, MemberSet, NoMemory, list_of};
+use quorum_sets::{InlineIds, MemberSet, NoMemory};
 use raft_json::ids_value;
 use serde_json::{Map, Value, put};
 use std::alloc::Global;
@@ -23,7 +23,8 @@ use std::alloc::Global;
 /// Appends the answer to a line, with a newline, and returns whether the line is refused. On `NoMemory` the text is
 /// unchanged.
 pub fn add_answer(alloc: Global, text: &mut Vec<u8>, line: &[u8]) -> Result<bool, NoMemory>
-    ensures ok { OnOk result (text.new.items ≡ text.old.items ++ value_line (answer_json (answer_to line.now))) }
+    ensures ok { OnOk result (text.new.items ≡ text.old.items
+        ++ value_line (answer_json (answer_to line.now))) }
     ensures refused { IfOk result (λ refused. refused ≡ is_err (answer_to line.now)) }
     ensures err { OnErr result (text.new.items ≡ text.old.items) }
 {
@@ -89,9 +90,9 @@ fn action_value(alloc: Global, question: &Question, action: &Action) -> Result<V
     ensures no_float { IfOk result (λ v. has_float (view v) ≡ false) }
 {
     match action {
-        Action::Start(ids) => set_value(alloc, "start", ids),
-        Action::Stop(ids) => set_value(alloc, "stop", ids),
-        Action::Transfer(id) => id_value(alloc, "transfer", *id),
+        Action::Start(ids) => named_value(alloc, "start", ids.as_slice()),
+        Action::Stop(ids) => named_value(alloc, "stop", ids.as_slice()),
+        Action::Transfer(id) => named_value(alloc, "transfer", &[*id]),
         Action::Propose(_) => proposal_value(alloc, question),
         Action::Wait(why, ids) => reason_value(alloc, "wait", ids, wait_name(*why)),
         Action::Stuck(why, ids) => reason_value(alloc, "stuck", ids, stuck_name(*why)),
@@ -100,20 +101,12 @@ fn action_value(alloc: Global, question: &Question, action: &Action) -> Result<V
 }
 
 // The object of an action that names these ids.
-fn set_value(alloc: Global, name: &str, ids: &InlineIds) -> Result<Value, NoMemory>
-    ensures value { IfOk result (λ v. view v ≡ object (spec.ids_members name.now (ascending ids.now) no_members)) }
+fn named_value(alloc: Global, name: &str, ids: &[u64]) -> Result<Value, NoMemory>
+    ensures value { IfOk result (λ v. view v
+        ≡ object (spec.ids_members name.now ids.now no_members)) }
     ensures no_float { IfOk result (λ v. has_float (view v) ≡ false) }
 {
-    let list = list_of(alloc, ids)?;
-    Ok(Value::Object(ids_members(alloc, name, list.as_slice())?))
-}
-
-// The object of an action that names an id.
-fn id_value(alloc: Global, name: &str, id: u64) -> Result<Value, NoMemory>
-    ensures value { IfOk result (λ v. view v ≡ object (spec.ids_members name.now (id ∷ []) no_members)) }
-    ensures no_float { IfOk result (λ v. has_float (view v) ≡ false) }
-{
-    Ok(Value::Object(ids_members(alloc, name, &[id])?))
+    Ok(Value::Object(ids_members(alloc, name, ids)?))
 }
 
 // The object of an action that names these ids, with the reason.
@@ -122,15 +115,15 @@ fn reason_value(alloc: Global, name: &str, ids: &InlineIds, why: &str) -> Result
         ≡ object (spec.ids_members name.now (ascending ids.now) (spec.reason why.now))) }
     ensures no_float { IfOk result (λ v. has_float (view v) ≡ false) }
 {
-    let list = list_of(alloc, ids)?;
-    let mut members = ids_members(alloc, name, list.as_slice())?;
+    let mut members = ids_members(alloc, name, ids.as_slice())?;
     put(&mut members, alloc, "why", Value::try_from_str(alloc, why)?)?;
     Ok(Value::Object(members))
 }
 
 // The keys of an action that names these ids.
 fn ids_members(alloc: Global, name: &str, ids: &[u64]) -> Result<Map<String, Value>, NoMemory>
-    ensures { IfOk result (λ members. members_view members.entries ≡ spec.ids_members name.now ids.now no_members) }
+    ensures { IfOk result (λ members. members_view members.entries
+        ≡ spec.ids_members name.now ids.now no_members) }
 {
     let mut members = Map::new(alloc);
     put(
@@ -192,8 +185,10 @@ fn first_line_of(
     question: &Question,
     path: &Path,
 ) -> Result<Map<String, Value>, NoMemory>
-    ensures line { IfOk result (λ members. members_view members.entries ≡ spec.first_line_of question.now path.now) }
-    ensures no_float { IfOk result (λ members. members_have_float (members_view members.entries) ≡ false) }
+    ensures line { IfOk result (λ members. members_view members.entries
+        ≡ spec.first_line_of question.now path.now) }
+    ensures no_float { IfOk result (λ members. members_have_float (members_view members.entries)
+        ≡ false) }
 {
     let Question {
         view,

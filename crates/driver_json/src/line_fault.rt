@@ -85,9 +85,6 @@ impl fmt::Display for Reason {
                 write!(f, "{id} is a next learner and an incoming voter")
             }
             Violation::LearnerAndVoter(id) => write!(f, "{id} is a voter and a learner"),
-            Violation::NotJointButNext(id) => {
-                write!(f, "{id} is a next learner without outgoing voters")
-            }
             Violation::NotJointButAutoLeave => f.write_str("auto-leave without outgoing voters"),
         }
     }

@@ -17,9 +17,11 @@ pub(crate) fn progress_in(
     alloc: Global,
     value: Option<&Value>,
 ) -> Result<Vec<MemberView>, LineFault>
-    ensures members { IfOk result (λ members. spec.progress_in (option_map (λ v. view v.now) value.entry)
+    ensures members { IfOk result
+        (λ members. spec.progress_in (option_map (λ v. view v.now) value.entry)
         ≡ Ok members.items) }
-    ensures fault { IfErr result (IsFaultOf (spec.progress_in (option_map (λ v. view v.now) value.entry))) }
+    ensures fault { IfErr result
+        (IsFaultOf (spec.progress_in (option_map (λ v. view v.now) value.entry))) }
 {
     match value {
         None | Some(Value::Null) => Ok(Vec::new(alloc)),
@@ -30,7 +32,8 @@ pub(crate) fn progress_in(
 
 // The members that the items are.
 fn members_in(alloc: Global, items: &Vec<Value>) -> Result<Vec<MemberView>, LineFault>
-    ensures members { IfOk result (λ members. spec.members_from 0 (items_view items.now.items) ≡ Ok members.items) }
+    ensures members { IfOk result (λ members. spec.members_from 0 (items_view items.now.items)
+        ≡ Ok members.items) }
     ensures fault { IfErr result (IsFaultOf (spec.members_from 0 (items_view items.now.items))) }
 {
     let mut members = Vec::with_capacity(alloc, items.len())?;
@@ -71,7 +74,8 @@ fn member_with(index: usize, item: &Value) -> Result<MemberView, LineFault>
 
 // The id that a value is. 0 is not an id.
 fn id_in(value: Option<&Value>) -> Option<u64>
-    ensures { result ≡ option_and_then spec.unless_zero (spec.number_in (option_map (λ v. view v.now) value.entry)) }
+    ensures { result ≡ option_and_then spec.unless_zero
+        (spec.number_in (option_map (λ v. view v.now) value.entry)) }
 {
     match number_in(value) {
         Some(0) | None => None,

@@ -12,8 +12,8 @@ use crate::values::{configuration_at, ids_at, number_at, strategy_at};
 use conf_change::Config;
 use conf_driver::View;
 use conf_plan::Strategy;
-use plan_input::json_in;
 use quorum_sets::InlineIds;
+use raft_json::json_in;
 use serde_json::Value;
 use std::alloc::Global;
 

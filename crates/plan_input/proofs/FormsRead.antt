@@ -16,7 +16,6 @@ use Rattle.plan_input.specs.declared.form.Form.{Form}
 use Rattle.plan_input.specs.declared.form.Form.TheVariants.{Json, ConfStateLine, Printed, Other}
 use Rattle.plan_input.proofs.Forms.{form-changes, form-line, form-printed}
 use Rattle.plan_input.proofs.JsonForm.{form-json}
-use Rattle.plan_input.proofs.JsonTexts.{saved_in_json-some}
 
 pub form-denoted : (form : Form) (text : List ℕ) (saved : ConfStateLists) → DenotesIn form text saved → form_of text ≡ form
 form-denoted Json text saved h = form-json text saved h
@@ -32,7 +31,7 @@ abbrev pub PrintedAreRead : Type 0
 PrintedAreRead = (text : List ℕ) (saved : ConfStateLists) → (DenotesConfig text saved) ↔ (config_in text ≡ Some saved)
 
 configuration_as-denoted : LinesAreRead → PrintedAreRead → (form : Form) (text : List ℕ) (saved : ConfStateLists) → DenotesIn form text saved → configuration_as form text ≡ as_text text (valid_of saved)
-configuration_as-denoted lines printed Json text saved h = ap (valid_or text (bad_json text)) (saved_in_json-some text saved h)
+configuration_as-denoted lines printed Json text saved h = ap (valid_or text (bad_json text)) h
 configuration_as-denoted lines printed ConfStateLine text saved h = ap (λ read. as_text text (unless_bad read)) ((lines text saved).0 h)
 configuration_as-denoted lines printed Printed text saved h = ap (valid_or text (bad_printed text)) ((printed text saved).0 h)
 configuration_as-denoted lines printed Other text saved h = absurd h

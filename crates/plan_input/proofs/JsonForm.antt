@@ -16,7 +16,7 @@ use Rattle.serde_json.specs.Data as values
 use Rattle.serde_json.specs.Read.{max_depth, number_of, of_items, of_json, read}
 use Rattle.ascii_text.specs.WhiteSpace.{is_space, without_leading_space}
 use Rattle.conf_change.specs.ConfState.{ConfStateLists}
-use Rattle.raft_json.specs.SavedJson.{IsSavedJson, saved_of_json}
+use Rattle.raft_json.specs.SavedJson.{saved_in_json, saved_of_json}
 use Rattle.plan_input.specs.Form.{form_of}
 use Rattle.plan_input.specs.declared.form.Form.TheVariants.{Json}
 use Rattle.plan_input.proofs.Forms.{form-after_space}
@@ -99,8 +99,12 @@ brace-first (x ∷ xs) rest e = by_class (class x) refl e (brace-first xs rest) 
       (found.0, ap (λ b. cond b (without_leading_space xs) (x ∷ xs)) (white x (space-class _ _ _ _ is)) ∙ found.1)
   by_class other is f later = let same = brace-lexeme _ _ rest f in absurd (no_word (x ∷ xs) cc)
 
-pub form-json : (text : List ℕ) (saved : ConfStateLists) → IsSavedJson text saved → form_of text ≡ Json
+of_utf8 : (saved : ConfStateLists) (utf8 : Bool) (d : Option values.Data) → option_and_then saved_of_json (cond utf8 d None) ≡ Some saved → option_and_then saved_of_json d ≡ Some saved
+of_utf8 saved true d h = h
+of_utf8 saved false d h = cc
+
+pub form-json : (text : List ℕ) (saved : ConfStateLists) → saved_in_json text ≡ Some saved → form_of text ≡ Json
 form-json text saved h =
-    let object = object-first saved (tokens text) h.1 in
+    let object = object-first saved (tokens text) (of_utf8 saved _ (read text) h) in
     let first = brace-first text object.0 object.1 in
     form-after_space text _ first.1

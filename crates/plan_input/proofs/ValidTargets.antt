@@ -17,7 +17,8 @@ use Rattle.conf_change.specs.declared.step.Step.TheVariants.{EnterJoint, LeaveJo
 use Rattle.conf_change.proofs.Offered.{ValidByMember-from_is_valid, is_valid-from_configuration_in, is_valid-from_members, is_valid-from_valid_of, outcome-is_valid}
 use Rattle.plan_input.specs.Changed.{after_changes, left_or_empty, when_left}
 use Rattle.plan_input.specs.Form.{form_of}
-use Rattle.plan_input.specs.Input.{as_text, bad_json, bad_printed, configuration_as, current_in, saved_in_json, target_as, target_in, target_of_changes, unless_refused, valid_or}
+use Rattle.raft_json.specs.SavedJson.{saved_in_json}
+use Rattle.plan_input.specs.Input.{as_text, bad_json, bad_printed, configuration_as, current_in, target_as, target_in, target_of_changes, unless_refused, valid_or}
 use Rattle.plan_input.specs.Refusal.{list_refusal}
 use Rattle.plan_input.specs.declared.form.Form.{Form}
 use Rattle.plan_input.specs.declared.form.Form.TheVariants.{Json, ConfStateLine, Printed, Other}

@@ -5,14 +5,10 @@ use Rattle.std.specs.List.{list_all, position_or_len, slice_split}
 use Rattle.plan_input.specs.ShortToken.{short_token}
 use Rattle.plan_input.specs.declared.id_hint.IdHint.{IdHint}
 
--- each byte is a decimal digit
-abbrev pub has_digits_alone : List ℕ → Bool
-has_digits_alone bytes = list_all is_ascii_digit bytes
-
 -- a run of hexadecimal digits is an id: etcd's ids are random numbers below 2^64, which nearly always have 13 to 16
 -- digits, and a letter among them
 abbrev pub is_hexadecimal_id : List ℕ → Bool
-is_hexadecimal_id run = nat_le 13 (length run) && nat_le (length run) 16 && not (has_digits_alone run)
+is_hexadecimal_id run = nat_le 13 (length run) && nat_le (length run) 16 && not (list_all is_ascii_digit run)
 
 -- the first hexadecimal id of a text
 abbrev pub hexadecimal_id_in : List ℕ → Option (List ℕ)

@@ -1,9 +1,8 @@
 -- The current configuration and the target that texts denote.
-use Rattle.std.specs.Prelude.{◌≡◌, ◌⊎◌, ℕ, Bool, true, false, List, Option, Some, None, option_and_then, Result, Ok, Err, nat_eq, if◌then◌else◌}
-use Rattle.std.specs.List.{list_any}
-use Rattle.std.specs.Str.{is_utf8}
-use Rattle.serde_json.specs.Read.{read}
-use Rattle.raft_json.specs.SavedJson.{saved_of_json}
+use Rattle.std.specs.Prelude.{◌≡◌, ◌⊎◌, ℕ, Bool, true, false, List, Option, Some, None, Result, Ok, Err, nat_eq, if◌then◌else◌}
+use Rattle.std.specs.Char.{is_ascii_digit}
+use Rattle.std.specs.List.{list_all, list_any}
+use Rattle.raft_json.specs.SavedJson.{saved_in_json}
 use Rattle.conf_change.specs.ChangeList.{BadToken, bad_token, changes_in, token_of}
 use Rattle.conf_change.specs.Configuration.{Configuration}
 use Rattle.conf_change.specs.ConfState.{ConfStateLists}
@@ -17,7 +16,7 @@ use Rattle.conf_change.specs.declared.saved_configuration.ConfStateFault.{ConfSt
 use Rattle.conf_change.specs.declared.saved_configuration.ConfStateFault.TheVariants as printed_fault
 use Rattle.plan_input.specs.Changed.{after_changes}
 use Rattle.plan_input.specs.Form.{form_of}
-use Rattle.plan_input.specs.HexadecimalId.{from_bracket, has_digits_alone, id_hint}
+use Rattle.plan_input.specs.HexadecimalId.{from_bracket, id_hint}
 use Rattle.plan_input.specs.Refusal.{list_refusal}
 use Rattle.plan_input.specs.ShortToken.{short_token}
 use Rattle.plan_input.specs.TextIds.{has_text_ids_in}
@@ -41,7 +40,7 @@ bad_printed text = if list_any (nat_eq 44) text then CommasBetween (id_hint text
 
 -- what is wrong with a token that is not a change
 abbrev pub bad_change : List ℕ → TextFault
-bad_change token = if has_digits_alone token then BareId (short_token token) else BadChange (short_token token) (id_hint token)
+bad_change token = if list_all is_ascii_digit token then BareId (short_token token) else BadChange (short_token token) (id_hint token)
 
 -- the error of a ConfState line, or of a saved configuration, as that of this text
 abbrev pub text_fault_of : List ℕ → ConfigurationFault → TextFault
@@ -72,10 +71,6 @@ as_text text (Err fault) = Err (text_fault_of text fault)
 abbrev pub valid_or : List ℕ → TextFault → Option ConfStateLists → Result Configuration TextFault
 valid_or text fault None = Err fault
 valid_or text fault (Some saved) = as_text text (valid_of saved)
-
--- the saved configuration of a text that is JSON
-abbrev pub saved_in_json : List ℕ → Option ConfStateLists
-saved_in_json text = if is_utf8 text then option_and_then saved_of_json (read text) else None
 
 -- the valid configuration that a text denotes in this form, or what is wrong with it
 abbrev pub configuration_as : Form → List ℕ → Result Configuration TextFault

@@ -1,11 +1,10 @@
 pub mod Form
 pub mod ShortToken
 pub mod HexadecimalId
-pub mod JsonText
 pub mod TextIds
 pub mod Changed
 pub mod Refusal
 pub mod Input
 pub mod Denoted
 pub mod MemberList
-pub mod Stranger
+pub mod Nonmember

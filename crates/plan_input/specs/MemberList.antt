@@ -2,7 +2,7 @@
 use Rattle.std.specs.Prelude.{ℕ, Bool, false, List, codes, is_some, option_and_then}
 use Rattle.serde_json.specs.Find.{get}
 use Rattle.plan_input.specs.Form.{form_of}
-use Rattle.plan_input.specs.JsonText.{json_in}
+use Rattle.raft_json.specs.JsonText.{json_in}
 use Rattle.plan_input.specs.declared.form.Form.{Form}
 use Rattle.plan_input.specs.declared.form.Form.TheVariants.{Json}
 

@@ -2,7 +2,7 @@
 use Rattle.std.specs.Prelude.{ℕ, Bool, false, ◌||◌, List, codes, Option, Some, None, is_some, option_and_then}
 use Rattle.serde_json.specs.Data.{Data, Items, no_items, item}
 use Rattle.serde_json.specs.Find.{as_array, as_str, get}
-use Rattle.plan_input.specs.JsonText.{json_in}
+use Rattle.raft_json.specs.JsonText.{json_in}
 
 -- there is a value, and it passes the test
 abbrev pub passes : {X : Type 0} → (X → Bool) → Option X → Bool

@@ -2,9 +2,10 @@
 //! hexadecimal.
 ghost use Rattle.std.specs.Prelude.{◌≡◌, ◌≤◌, length, option_map};
 ghost use Rattle.std.specs.List.{position_or_len};
-ghost use Rattle.plan_input.specs.HexadecimalId.{from_bracket, has_digits_alone, hexadecimal_id_in, id_hint, is_bracket, is_hexadecimal_id};
+ghost use Rattle.plan_input.specs.HexadecimalId.{from_bracket, hexadecimal_id_in, id_hint, is_bracket, is_hexadecimal_id};
 
 use crate::short_token::ShortToken;
+use ascii_text::number::has_digits_alone;
 use std::fmt;
 
 /// How the hexadecimal id of a text is written in decimal. It is printed after an error, and is empty if the text has no
@@ -53,13 +54,6 @@ fn is_hexadecimal_id(run: &[u8]) -> bool
     ensures { result ≡ is_hexadecimal_id run.now }
 {
     run.len() >= 13 && run.len() <= 16 && !has_digits_alone(run)
-}
-
-// Whether each byte is a decimal digit.
-pub(crate) fn has_digits_alone(bytes: &[u8]) -> bool
-    ensures { result ≡ has_digits_alone bytes.now }
-{
-    bytes.iter().all(|byte| byte.is_ascii_digit())
 }
 
 /// A text from its first bracket on. In JSON the ids of members are in a list, and other ids, as that of the cluster, are

@@ -29,10 +29,13 @@ use raft_json::laws::conf_state_json_reads_back;
 /// A text denotes a saved configuration in one form alone, which is the form that its beginning shows, and it denotes
 /// at most one there. A text that denotes changes denotes no configuration.
 pub fn one_form_per_text()
-    ensures form { (form : Form) (text : List ℕ) (saved : ConfStateLists) → DenotesIn form text saved
+    ensures form { (form : Form) (text : List ℕ) (saved : ConfStateLists)
+        → DenotesIn form text saved
         → form_of text ≡ form }
-    ensures changes { (text : List ℕ) (changes : List Change) → Denotes text changes → form_of text ≡ Other }
-    ensures one { (form : Form) (text : List ℕ) (a b : ConfStateLists) → DenotesIn form text a → DenotesIn form text b
+    ensures changes { (text : List ℕ) (changes : List Change) → Denotes text changes → form_of text
+        ≡ Other }
+    ensures one { (form : Form) (text : List ℕ) (a b : ConfStateLists) → DenotesIn form text a
+        → DenotesIn form text b
         → a ≡ b }
 {
     one_conf_state_per_text();
@@ -44,17 +47,23 @@ pub fn one_form_per_text()
 /// and otherwise is refused for the first one; a blank text is refused. What is printed of a valid configuration, its
 /// ConfState line and its JSON are all read as the configuration.
 pub fn each_form_is_read()
-    ensures current { (form : Form) (text : List ℕ) (saved : ConfStateLists) → DenotesIn form text saved
+    ensures current { (form : Form) (text : List ℕ) (saved : ConfStateLists)
+        → DenotesIn form text saved
         → current_in text ≡ as_text text (valid_of saved) }
     ensures target { (form : Form) (now : Configuration) (text : List ℕ) (saved : ConfStateLists)
         → DenotesIn form text saved → target_in now text ≡ as_text text (valid_of saved) }
-    ensures changes { (now : Configuration) (text : List ℕ) (changes : List Change) → Denotes text changes
-        → changes ≢ [] → NoneRefused now changes → target_in now text ≡ Ok (after_changes now changes) }
-    ensures refused { (now : Configuration) (text : List ℕ) (changes : List Change) (why : TextFault)
+    ensures changes { (now : Configuration) (text : List ℕ) (changes : List Change)
+        → Denotes text changes
+        → changes ≢ [] → NoneRefused now changes → target_in now text
+        ≡ Ok (after_changes now changes) }
+    ensures refused { (now : Configuration) (text : List ℕ) (changes : List Change)
+        (why : TextFault)
         → Denotes text changes
         → IsFirstRefusal now changes why → target_in now text ≡ Err why }
-    ensures blank { (now : Configuration) (text : List ℕ) → Denotes text [] → target_in now text ≡ Err Empty }
-    ensures printed { (c : Configuration) → is_valid c ≡ true → HasU64Lists c → current_in (config_text c) ≡ Ok c }
+    ensures blank { (now : Configuration) (text : List ℕ) → Denotes text [] → target_in now text
+        ≡ Err Empty }
+    ensures printed { (c : Configuration) → is_valid c ≡ true → HasU64Lists c
+        → current_in (config_text c) ≡ Ok c }
     ensures json { (c : Configuration) (text : List ℕ) → is_valid c ≡ true → IsUtf8 text
         → read text ≡ Some (conf_state_json (lists_of c)) → current_in text ≡ Ok c }
     ensures line { (c : Configuration) → is_valid c ≡ true → HasU64Lists c

@@ -29,20 +29,16 @@
 mod changed;
 mod form;
 mod id_hint;
-mod json_text;
 pub mod laws;
-mod member_list;
+mod nonmember;
 mod reading;
 mod refusal;
 mod short_token;
-mod stranger;
 mod text_fault;
 mod text_ids;
 
 pub use id_hint::IdHint;
-pub use json_text::json_in;
-pub use member_list::is_member_list;
-pub use reading::{read_current, read_target};
+pub use nonmember::first_nonmember;
+pub use reading::{Current, read_current, read_target};
 pub use short_token::ShortToken;
-pub use stranger::stranger_of;
 pub use text_fault::TextFault;

@@ -1,27 +1,41 @@
 //! Reading the current configuration and the target.
-ghost use Rattle.std.specs.Prelude.{◌≡◌, true, Ok, IfOk, IfErr};
+ghost use Rattle.std.specs.Prelude.{◌≡◌, true, Ok, Some, IfOk, IfErr};
 ghost use Rattle.conf_change.specs.ChangeList.{changes_in};
 ghost use Rattle.conf_change.specs.Configuration.{is_valid};
 ghost use Rattle.conf_change.specs.PrintedConfig.{config_in};
 ghost use Rattle.conf_change.specs.Violation.{valid_of, configuration_in};
-ghost use Rattle.plan_input.specs.Input.{as_text, bad_json, bad_printed, valid_or, saved_in_json, configuration_as, current_in, target_in, target_of_changes, IsFaultOf};
+ghost use Rattle.serde_json.specs.View.{view};
+ghost use Rattle.raft_json.specs.JsonText.{json_in};
+ghost use Rattle.plan_input.specs.MemberList.{has_members, is_member_list, is_member_list_as};
+ghost use Rattle.plan_input.specs.Input.{as_text, bad_printed, valid_or, configuration_as, current_in, target_in, target_of_changes, IsFaultOf};
 
 use crate::changed::after_changes;
 use crate::form::{Form, form_of};
 use crate::refusal::list_refusal;
 use crate::text_fault::TextFault;
+use crate::text_ids::has_text_ids;
 use conf_change::{
     Change, ConfState, Config, read_changes, read_config, read_configuration, valid_configuration,
 };
-use quorum_sets::MemberSet;
-use raft_json::{JsonFault, read_saved_json};
+use quorum_sets::InlineIds;
+use raft_json::{JsonFault, json_in, saved_of};
+use serde_json::Value;
 use std::alloc::Global;
+
+/// A current configuration, and whether its text is a list of members as etcdctl prints it: JSON of an object with the
+/// key `members`.
+#[derive(Drop)]
+pub struct Current {
+    pub config: Config<InlineIds>,
+    pub is_member_list: bool,
+}
 
 /// The valid configuration that a text denotes, in the form that its beginning shows: JSON if it begins with `{`, a
 /// ConfState line with `Voters:`, and a printed configuration with `voters`. Otherwise it is refused with UnknownForm.
-pub fn read_current<S: MemberSet>(alloc: Global, text: &[u8]) -> Result<Config<S>, TextFault>
-    ensures configuration { IfOk result (λ c. current_in text.now ≡ Ok c) }
-    ensures valid { IfOk result (λ c. is_valid c ≡ true) }
+pub fn read_current(alloc: Global, text: &[u8]) -> Result<Current, TextFault>
+    ensures configuration { IfOk result (λ current. current_in text.now ≡ Ok current.config) }
+    ensures valid { IfOk result (λ current. is_valid current.config ≡ true) }
+    ensures list { IfOk result (λ current. current.is_member_list ≡ is_member_list text.now) }
     ensures fault { IfErr result (IsFaultOf (current_in text.now)) }
 {
     read_as(alloc, form_of(text), text)
@@ -33,11 +47,11 @@ pub fn read_current<S: MemberSet>(alloc: Global, text: &[u8]) -> Result<Config<S
 /// change that is refused is one that removes an id which is not a member (NotAMember), or one that makes a member which
 /// an earlier change removes a voter or a learner (AddedAgain). A change without effect is no error otherwise, so that a
 /// command can be repeated.
-pub fn read_target<S: MemberSet>(
+pub fn read_target(
     alloc: Global,
-    now: &Config<S>,
+    now: &Config<InlineIds>,
     text: &[u8],
-) -> Result<Config<S>, TextFault>
+) -> Result<Config<InlineIds>, TextFault>
     requires { is_valid now.now ≡ true }
     ensures configuration { IfOk result (λ c. target_in now.now text.now ≡ Ok c) }
     ensures valid { IfOk result (λ c. is_valid c ≡ true) }
@@ -45,39 +59,66 @@ pub fn read_target<S: MemberSet>(
 {
     match form_of(text) {
         Form::Other => read_changed(alloc, now, text),
-        form => read_as(alloc, form, text),
+        form => Ok(read_as(alloc, form, text)?.config),
     }
 }
 
 // The valid configuration that a text denotes in this form.
-fn read_as<S: MemberSet>(alloc: Global, form: Form, text: &[u8]) -> Result<Config<S>, TextFault>
-    ensures configuration { IfOk result (λ c. configuration_as form text.now ≡ Ok c) }
-    ensures valid { IfOk result (λ c. is_valid c ≡ true) }
+fn read_as(alloc: Global, form: Form, text: &[u8]) -> Result<Current, TextFault>
+    ensures configuration { IfOk result (λ current. configuration_as form text.now
+        ≡ Ok current.config) }
+    ensures valid { IfOk result (λ current. is_valid current.config ≡ true) }
+    ensures list { IfOk result (λ current. current.is_member_list
+        ≡ is_member_list_as form text.now) }
     ensures fault { IfErr result (IsFaultOf (configuration_as form text.now)) }
 {
-    match form {
-        Form::Json => read_json(alloc, text),
-        Form::ConfStateLine => read_line(alloc, text),
-        Form::Printed => read_printed(alloc, text),
-        Form::Other => Err(TextFault::UnknownForm),
-    }
+    let config = match form {
+        Form::Json => return read_json(alloc, text),
+        Form::ConfStateLine => read_line(alloc, text)?,
+        Form::Printed => read_printed(alloc, text)?,
+        Form::Other => return Err(TextFault::UnknownForm),
+    };
+    Ok(Current {
+        config,
+        is_member_list: false,
+    })
 }
 
 // The valid configuration in JSON.
-fn read_json<S: MemberSet>(alloc: Global, text: &[u8]) -> Result<Config<S>, TextFault>
-    ensures configuration { IfOk result (λ c. valid_or text.now (bad_json text.now) (saved_in_json text.now) ≡ Ok c) }
-    ensures valid { IfOk result (λ c. is_valid c ≡ true) }
-    ensures fault { IfErr result (IsFaultOf (valid_or text.now (bad_json text.now) (saved_in_json text.now))) }
+fn read_json(alloc: Global, text: &[u8]) -> Result<Current, TextFault>
+    ensures configuration { IfOk result (λ current. configuration_as Form.Json text.now
+        ≡ Ok current.config) }
+    ensures valid { IfOk result (λ current. is_valid current.config ≡ true) }
+    ensures list { IfOk result (λ current. current.is_member_list ≡ has_members text.now) }
+    ensures fault { IfErr result (IsFaultOf (configuration_as Form.Json text.now)) }
 {
-    match read_saved_json(alloc, text) {
-        Ok(state) => valid(alloc, text, &state),
-        Err(JsonFault::BadJson) => Err(TextFault::bad_json(alloc, text)),
+    match json_in(alloc, text)? {
+        Some(value) => read_value(alloc, text, &value),
+        None => Err(TextFault::of_json(text, false)),
+    }
+}
+
+// The valid configuration in the value of a text.
+fn read_value(alloc: Global, text: &[u8], value: &Value) -> Result<Current, TextFault>
+    requires { json_in text.now ≡ Some (view value.now) }
+    ensures configuration { IfOk result (λ current. configuration_as Form.Json text.now
+        ≡ Ok current.config) }
+    ensures valid { IfOk result (λ current. is_valid current.config ≡ true) }
+    ensures list { IfOk result (λ current. current.is_member_list ≡ has_members text.now) }
+    ensures fault { IfErr result (IsFaultOf (configuration_as Form.Json text.now)) }
+{
+    match saved_of(alloc, value) {
+        Ok(state) => Ok(Current {
+            config: valid(alloc, text, &state)?,
+            is_member_list: value.get("members").is_some(),
+        }),
+        Err(JsonFault::BadJson) => Err(TextFault::of_json(text, has_text_ids(value))),
         Err(JsonFault::NoMemory) => Err(TextFault::NoMemory),
     }
 }
 
 // The valid configuration of a ConfState line.
-fn read_line<S: MemberSet>(alloc: Global, text: &[u8]) -> Result<Config<S>, TextFault>
+fn read_line(alloc: Global, text: &[u8]) -> Result<Config<InlineIds>, TextFault>
     ensures configuration { IfOk result (λ c. as_text text.now (configuration_in text.now) ≡ Ok c) }
     ensures valid { IfOk result (λ c. is_valid c ≡ true) }
     ensures fault { IfErr result (IsFaultOf (as_text text.now (configuration_in text.now))) }
@@ -89,10 +130,11 @@ fn read_line<S: MemberSet>(alloc: Global, text: &[u8]) -> Result<Config<S>, Text
 }
 
 // The valid configuration of a printed one.
-fn read_printed<S: MemberSet>(alloc: Global, text: &[u8]) -> Result<Config<S>, TextFault>
+fn read_printed(alloc: Global, text: &[u8]) -> Result<Config<InlineIds>, TextFault>
     ensures configuration { IfOk result (λ c. valid_or text.now (bad_printed text.now) (config_in text.now) ≡ Ok c) }
     ensures valid { IfOk result (λ c. is_valid c ≡ true) }
-    ensures fault { IfErr result (IsFaultOf (valid_or text.now (bad_printed text.now) (config_in text.now))) }
+    ensures fault { IfErr result
+        (IsFaultOf (valid_or text.now (bad_printed text.now) (config_in text.now))) }
 {
     match read_config(alloc, text) {
         Ok(state) => valid(alloc, text, &state),
@@ -101,11 +143,7 @@ fn read_printed<S: MemberSet>(alloc: Global, text: &[u8]) -> Result<Config<S>, T
 }
 
 // The valid configuration that the saved one of a text describes.
-fn valid<S: MemberSet>(
-    alloc: Global,
-    text: &[u8],
-    state: &ConfState,
-) -> Result<Config<S>, TextFault>
+fn valid(alloc: Global, text: &[u8], state: &ConfState) -> Result<Config<InlineIds>, TextFault>
     ensures configuration { IfOk result (λ c. as_text text.now (valid_of state.now) ≡ Ok c) }
     ensures valid { IfOk result (λ c. is_valid c ≡ true) }
     ensures fault { IfErr result (IsFaultOf (as_text text.now (valid_of state.now))) }
@@ -117,13 +155,14 @@ fn valid<S: MemberSet>(
 }
 
 // The target of the changes that a text denotes.
-fn read_changed<S: MemberSet>(
+fn read_changed(
     alloc: Global,
-    now: &Config<S>,
+    now: &Config<InlineIds>,
     text: &[u8],
-) -> Result<Config<S>, TextFault>
+) -> Result<Config<InlineIds>, TextFault>
     requires { is_valid now.now ≡ true }
-    ensures configuration { IfOk result (λ c. target_of_changes now.now (changes_in text.now) ≡ Ok c) }
+    ensures configuration { IfOk result (λ c. target_of_changes now.now (changes_in text.now)
+        ≡ Ok c) }
     ensures valid { IfOk result (λ c. is_valid c ≡ true) }
     ensures fault { IfErr result (IsFaultOf (target_of_changes now.now (changes_in text.now))) }
 {
@@ -134,11 +173,11 @@ fn read_changed<S: MemberSet>(
 }
 
 // The target of these changes, unless they are refused.
-fn target_of<S: MemberSet>(
+fn target_of(
     alloc: Global,
-    now: &Config<S>,
+    now: &Config<InlineIds>,
     changes: &[Change],
-) -> Result<Config<S>, TextFault>
+) -> Result<Config<InlineIds>, TextFault>
     requires { is_valid now.now ≡ true }
     ensures configuration { IfOk result (λ c. target_of_changes now.now (Ok changes.now) ≡ Ok c) }
     ensures valid { IfOk result (λ c. is_valid c ≡ true) }

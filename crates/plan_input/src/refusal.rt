@@ -11,10 +11,10 @@ ghost use Rattle.plan_input.specs.Refusal.{first_refusal, list_refusal, refusal,
 
 use crate::text_fault::TextFault;
 use conf_change::{Change, Config, Kind};
-use quorum_sets::MemberSet;
+use quorum_sets::InlineIds;
 
 /// Why a list of changes is no target of this configuration: it is empty, or it has a change that is refused.
-pub(crate) fn list_refusal<S: MemberSet>(now: &Config<S>, changes: &[Change]) -> Option<TextFault>
+pub(crate) fn list_refusal(now: &Config<InlineIds>, changes: &[Change]) -> Option<TextFault>
     ensures { result ≡ list_refusal now.now changes.now }
 {
     if changes.is_empty() {
@@ -25,7 +25,7 @@ pub(crate) fn list_refusal<S: MemberSet>(now: &Config<S>, changes: &[Change]) ->
 }
 
 // Why the first change is refused that is.
-fn first_refusal<S: MemberSet>(now: &Config<S>, changes: &[Change]) -> Option<TextFault>
+fn first_refusal(now: &Config<InlineIds>, changes: &[Change]) -> Option<TextFault>
     ensures { result ≡ first_refusal now.now changes.now }
 {
     for position in 0..changes.len() {
@@ -38,11 +38,7 @@ fn first_refusal<S: MemberSet>(now: &Config<S>, changes: &[Change]) -> Option<Te
 }
 
 // Why the change at a position of the list is refused.
-fn refusal_at<S: MemberSet>(
-    now: &Config<S>,
-    changes: &[Change],
-    position: usize,
-) -> Option<TextFault>
+fn refusal_at(now: &Config<InlineIds>, changes: &[Change], position: usize) -> Option<TextFault>
     requires { position < length changes.now }
     ensures { result ≡ refusal_at now.now changes.now position }
 {
@@ -51,7 +47,7 @@ fn refusal_at<S: MemberSet>(
 
 // Why a change is refused, if these are before it in the list: it removes an id that is not a member, or it makes a
 // member that is removed before a voter or a learner.
-fn refusal<S: MemberSet>(now: &Config<S>, before: &[Change], change: Change) -> Option<TextFault>
+fn refusal(now: &Config<InlineIds>, before: &[Change], change: Change) -> Option<TextFault>
     ensures { result ≡ refusal now.now before.now change }
 {
     let is_member = now.is_member(change.id);

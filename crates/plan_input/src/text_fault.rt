@@ -1,13 +1,12 @@
 //! Why a text is not a configuration, or not a target.
-ghost use Rattle.std.specs.Prelude.{◌≡◌, ◌⊎◌};
-ghost use Rattle.plan_input.specs.Input.{bad_change, bad_json, bad_printed, change_fault_of, json_fault, printed_fault_of, text_fault_of};
+ghost use Rattle.std.specs.Prelude.{◌≡◌};
+ghost use Rattle.plan_input.specs.Input.{bad_change, bad_printed, change_fault_of, json_fault, printed_fault_of, text_fault_of};
 
-use crate::id_hint::{IdHint, from_bracket, has_digits_alone};
+use crate::id_hint::{IdHint, from_bracket};
 use crate::short_token::ShortToken;
-use crate::text_ids::has_text_ids_in;
+use ascii_text::number::has_digits_alone;
 use conf_change::{ConfStateFault, ConfigurationFault, TokenFault, Violation};
 use quorum_sets::NoMemory;
-use std::alloc::Global;
 use thiserror::Error;
 
 /// Why a text is not a configuration, or not a target.
@@ -78,26 +77,16 @@ impl TextFault {
         }
     }
 
-    // The error of a text that is not JSON of a configuration.
-    pub(crate) fn bad_json(alloc: Global, text: &[u8]) -> TextFault
-        ensures { (result ≡ TextFault.NoMemory) ⊎ (result ≡ bad_json text.now) }
+    // The error of a text that is not JSON of a configuration, by whether an id in it is a text.
+    pub(crate) fn of_json(text: &[u8], has_text_ids: bool) -> TextFault
+        ensures { result ≡ json_fault text.now has_text_ids }
     {
-        match has_text_ids_in(alloc, text) {
-            Ok(has_text_ids) => json_fault(text, has_text_ids),
-            Err(error) => TextFault::from(error),
+        let hint = IdHint::new(from_bracket(text));
+        if has_text_ids {
+            TextFault::TextIds(hint)
+        } else {
+            TextFault::BadJson(hint)
         }
-    }
-}
-
-// What is wrong with a text that is not JSON of a configuration, by whether an id in it is a text.
-fn json_fault(text: &[u8], has_text_ids: bool) -> TextFault
-    ensures { result ≡ json_fault text.now has_text_ids }
-{
-    let hint = IdHint::new(from_bracket(text));
-    if has_text_ids {
-        TextFault::TextIds(hint)
-    } else {
-        TextFault::BadJson(hint)
     }
 }
 

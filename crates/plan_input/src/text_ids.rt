@@ -1,24 +1,12 @@
 //! JSON in which an id is a text, as in `{"voters":["1"]}`.
-ghost use Rattle.std.specs.Prelude.{◌≡◌, IfOk, codes};
+ghost use Rattle.std.specs.Prelude.{◌≡◌, codes};
 ghost use Rattle.serde_json.specs.View.{items_view, view};
-ghost use Rattle.plan_input.specs.TextIds.{any_at, any_item, has_text_id, has_text_ids, has_text_ids_in, is_text};
+ghost use Rattle.plan_input.specs.TextIds.{any_at, any_item, has_text_id, has_text_ids, is_text};
 
-use crate::json_text::json_in;
-use quorum_sets::NoMemory;
 use serde_json::Value;
-use std::alloc::Global;
 
-/// Whether the text is JSON in which an id is a text: that of a member, or one in a list of a ConfState.
-pub(crate) fn has_text_ids_in(alloc: Global, text: &[u8]) -> Result<bool, NoMemory>
-    ensures { IfOk result (λ has. has ≡ has_text_ids_in text.now) }
-{
-    match json_in(alloc, text)? {
-        Some(value) => Ok(has_text_ids(&value)),
-        None => Ok(false),
-    }
-}
-
-fn has_text_ids(value: &Value) -> bool
+/// Whether an id in JSON is a text: that of a member, or one in a list of a ConfState.
+pub(crate) fn has_text_ids(value: &Value) -> bool
     ensures { result ≡ has_text_ids (view value.now) }
 {
     has_text_member(value)

@@ -1,5 +1,4 @@
 mod StagesOnTheWay
-mod JoinedTexts
 mod GridLines
 mod TableRows
 mod NumberedIds

@@ -1,6 +1,6 @@
 -- The table of a path: a row for the configuration with which it begins, and one for each step. Each cell is given the
 -- names of the ids.
-use Rattle.std.specs.Prelude.{ℕ, ◌+◌, ◌-◌, ◌==◌, not, ◌&&◌, List, [], ◌∷◌, ◌++◌, map, length, replicate, codes, decimal, flat_map, nat_lt, slice_get, Option, Some, None, if◌then◌else◌}
+use Rattle.std.specs.Prelude.{ℕ, ◌+◌, ◌-◌, ◌==◌, not, ◌&&◌, List, [], ◌∷◌, ◌++◌, map, length, replicate, codes, decimal, flat_map, slice_get, Option, Some, None, if◌then◌else◌}
 use Rattle.std.specs.List.{join_with_byte}
 use Rattle.quorum_sets.specs.Ids.{Ids, has, ascending, size, ids_of, is_empty}
 use Rattle.quorum_sets.specs.Voters.{majority}
@@ -23,10 +23,6 @@ mark c id =
 -- a cell, padded on the left with spaces to this width
 abbrev pub flush_right : ℕ → List ℕ → List ℕ
 flush_right width cell = replicate (width - length cell) 32 ++ cell
-
--- the space before the text at this index; none before the first
-abbrev pub gap : ℕ → List ℕ
-gap index = text_if (nat_lt 0 index) (codes " ")
 
 -- the marks of ids, each flush right below the name of its id
 abbrev pub marks_text : (ℕ → List ℕ) → List ℕ → Configuration → List ℕ

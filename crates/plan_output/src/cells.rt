@@ -8,16 +8,15 @@
 //!
 //! `L` marks a learner. All cells are own.
 ghost use Rattle.std.specs.Prelude.{◌≡◌, ◌<◌, ◌^◌, ◌∷◌, ◌++◌, flat_map, IfOk, OnOk};
-ghost use Rattle.quorum_sets.specs.Ids.{ascending};
 ghost use Rattle.plan_output.specs.Names.{name_by, named_change, names_text};
 ghost use Rattle.plan_output.specs.Table as spec;
 
 use crate::names::Names;
 use crate::stage::Stage;
-use ascii_text::append::{append, append_number, append_times};
+use ascii_text::append::{append, append_gap, append_number, append_times};
 use conf_change::{Change, Config, Step};
-use conf_plan::{changes_text, command_text};
-use quorum_sets::{MemberSet, NoMemory, quorum};
+use conf_plan::{command_text, letter};
+use quorum_sets::{InlineIds, MemberSet, NoMemory, quorum};
 use std::alloc::Global;
 
 // The name of a step: its number, counted from 1, and its line, as in `1 simple l4 l5` or `1 simple l#4 l#5`.
@@ -27,104 +26,79 @@ pub(crate) fn step_name(
     number: usize,
     step: &Step,
 ) -> Result<Vec<u8>, NoMemory>
-    ensures { IfOk result (λ name. name.items ≡ spec.step_name (name_by names.now) number step.now) }
+    ensures { IfOk result (λ name. name.items ≡ spec.step_name (name_by names.now) number
+        step.now) }
 {
     let mut name = Vec::new(alloc);
     append_number(&mut name, number as u64)?;
     append(&mut name, b" ")?;
     append(&mut name, command_text(step))?;
-    append_changes(alloc, &mut name, names, step.changes())?;
+    append_changes(&mut name, names, step.changes())?;
     Ok(name)
 }
 
 // Appends changes, each after a space.
-fn append_changes(
-    alloc: Global,
-    text: &mut Vec<u8>,
-    names: &Names,
-    changes: &[Change],
-) -> Result<(), NoMemory>
+fn append_changes(text: &mut Vec<u8>, names: &Names, changes: &[Change]) -> Result<(), NoMemory>
     ensures { OnOk result (text.new.items
-        ≡ text.old.items ++ flat_map (λ change. 32 ∷ named_change (name_by names.now) change) changes.now) }
+        ≡ text.old.items ++ flat_map (λ change. 32 ∷ named_change (name_by names.now) change)
+        changes.now) }
 {
     for change in changes {
         append(text, b" ")?;
-        append_change(alloc, text, names, *change)?;
+        append_change(text, names, *change)?;
     }
     Ok(())
 }
 
-// Appends a change: its letter, with which its text begins, and the name of its id.
-fn append_change(
-    alloc: Global,
-    text: &mut Vec<u8>,
-    names: &Names,
-    change: Change,
-) -> Result<(), NoMemory>
-    ensures { OnOk result (text.new.items ≡ text.old.items ++ named_change (name_by names.now) change) }
+// Appends a change: its letter and the name of its id.
+fn append_change(text: &mut Vec<u8>, names: &Names, change: Change) -> Result<(), NoMemory>
+    ensures { OnOk result (text.new.items ≡ text.old.items
+        ++ named_change (name_by names.now) change) }
 {
-    let with_digits = changes_text(alloc, &[change])?;
-    append(text, &with_digits.as_slice()[..1])?;
+    text.push(letter(change.kind))?;
     names.append(text, change.id)
 }
 
 // The names of ids, ascending, with one space between, as in `4 5` or `#4 #5`.
-pub(crate) fn names_text<S: MemberSet>(
-    alloc: Global,
-    names: &Names,
-    ids: &S,
-) -> Result<Vec<u8>, NoMemory>
-    ensures { IfOk result (λ text. text.items ≡ names_text (name_by names.now) (ascending (S.ids ids.now))) }
+pub(crate) fn names_text(alloc: Global, names: &Names, ids: &[u64]) -> Result<Vec<u8>, NoMemory>
+    ensures { IfOk result (λ text. text.items ≡ names_text (name_by names.now) ids.now) }
 {
     let mut text = Vec::new(alloc);
-    for index in 0..ids.len() {
-        if let Some(id) = ids.at(index) {
-            append_gap(&mut text, index)?;
-            names.append(&mut text, id)?;
-        }
+    for (index, id) in ids.iter().enumerate() {
+        append_gap(&mut text, index)?;
+        names.append(&mut text, *id)?;
     }
     Ok(text)
 }
 
-// Appends the space before the text at this index; there is none before the first.
-fn append_gap(text: &mut Vec<u8>, index: usize) -> Result<(), NoMemory>
-    ensures { OnOk result (text.new.items ≡ text.old.items ++ spec.gap index) }
-{
-    if index > 0 {
-        append(text, b" ")?;
-    }
-    Ok(())
-}
-
 // The marks of these ids, each flush right below the name of its id.
-pub(crate) fn marks_text<S: MemberSet>(
+pub(crate) fn marks_text(
     alloc: Global,
     names: &Names,
-    ids: &S,
-    config: &Config<S>,
+    ids: &[u64],
+    config: &Config<InlineIds>,
 ) -> Result<Vec<u8>, NoMemory>
-    ensures { IfOk result (λ text. text.items
-        ≡ spec.marks_text (name_by names.now) (ascending (S.ids ids.now)) config.now) }
+    ensures { IfOk result (λ text. text.items ≡ spec.marks_text (name_by names.now) ids.now
+        config.now) }
 {
     let mut text = Vec::new(alloc);
-    for index in 0..ids.len() {
-        if let Some(id) = ids.at(index) {
-            append_gap(&mut text, index)?;
-            append_mark(&mut text, config, id, names.len(id))?;
-        }
+    for (index, id) in ids.iter().enumerate() {
+        append_gap(&mut text, index)?;
+        append_mark(&mut text, config, *id, names.len(*id))?;
     }
     Ok(text)
 }
 
 // Appends the mark of an id, padded on the left to this width.
-fn append_mark<S: MemberSet>(
+fn append_mark(
     text: &mut Vec<u8>,
-    config: &Config<S>,
+    config: &Config<InlineIds>,
     id: u64,
     width: usize,
 ) -> Result<(), NoMemory>
     requires { width < 2 ^ 63 }
-    ensures { OnOk result (text.new.items ≡ text.old.items ++ spec.flush_right width (spec.mark config.now id)) }
+    ensures { OnOk result (text.new.items ≡ text.old.items
+        ++ spec.flush_right width (spec.mark config.now id)) }
 {
     let mark = mark(config, id);
     append_times(text, b' ', width.saturating_sub(mark.len()))?;
@@ -133,7 +107,7 @@ fn append_mark<S: MemberSet>(
 
 // The mark of an id. In a joint configuration `V` is a voter of both sets, `+` one of the incoming set alone, and `-`
 // or `~` one of the outgoing set alone, where `~` is a next learner.
-fn mark<S: MemberSet>(config: &Config<S>, id: u64) -> &'static [u8]
+fn mark(config: &Config<InlineIds>, id: u64) -> &'static [u8]
     ensures { result.now ≡ spec.mark config.now id }
 {
     if config.incoming.contains(id) {
@@ -156,10 +130,7 @@ fn mark<S: MemberSet>(config: &Config<S>, id: u64) -> &'static [u8]
 }
 
 // The majority and the number of voters: `2 of 3`, or `3 of 5 and 2 of 3` in a joint configuration, incoming first.
-pub(crate) fn majority_text<S: MemberSet>(
-    alloc: Global,
-    config: &Config<S>,
-) -> Result<Vec<u8>, NoMemory>
+pub(crate) fn majority_text(alloc: Global, config: &Config<InlineIds>) -> Result<Vec<u8>, NoMemory>
     ensures { IfOk result (λ text. text.items ≡ spec.majority_text config.now) }
 {
     let mut text = Vec::new(alloc);
@@ -172,8 +143,8 @@ pub(crate) fn majority_text<S: MemberSet>(
 }
 
 // Appends the majority of one set of voters, as in `2 of 3`.
-fn append_majority<S: MemberSet>(text: &mut Vec<u8>, ids: &S) -> Result<(), NoMemory>
-    ensures { OnOk result (text.new.items ≡ text.old.items ++ spec.majority_of (S.ids ids.now)) }
+fn append_majority(text: &mut Vec<u8>, ids: &InlineIds) -> Result<(), NoMemory>
+    ensures { OnOk result (text.new.items ≡ text.old.items ++ spec.majority_of ids.now) }
 {
     append_number(text, quorum(ids.len()) as u64)?;
     append(text, b" of ")?;
@@ -195,7 +166,7 @@ pub(crate) fn down_text(alloc: Global, most: Option<usize>) -> Result<Vec<u8>, N
 
 // How many ids may be down until the members that have to catch up have done so. The cell is empty if none has to,
 // since the number is then that of the column `may be down`.
-pub(crate) fn until_text<S: MemberSet>(alloc: Global, stage: &Stage<S>) -> Result<Vec<u8>, NoMemory>
+pub(crate) fn until_text(alloc: Global, stage: &Stage) -> Result<Vec<u8>, NoMemory>
     ensures { IfOk result (λ text. text.items ≡ spec.until_text stage.now) }
 {
     if stage.catching_up().len() == 0 {
@@ -205,14 +176,14 @@ pub(crate) fn until_text<S: MemberSet>(alloc: Global, stage: &Stage<S>) -> Resul
 }
 
 // The heading of the last column: `besides 4 6`.
-pub(crate) fn besides_heading<S: MemberSet>(
+pub(crate) fn besides_heading(
     alloc: Global,
     names: &Names,
-    down: &S,
+    down: &InlineIds,
 ) -> Result<Vec<u8>, NoMemory>
-    ensures { IfOk result (λ text. text.items ≡ spec.besides_heading (name_by names.now) (S.ids down.now)) }
+    ensures { IfOk result (λ text. text.items ≡ spec.besides_heading (name_by names.now) down.now) }
 {
-    let ids = names_text(alloc, names, down)?;
+    let ids = names_text(alloc, names, down.as_slice())?;
     let mut text = Vec::from_slice(alloc, b"besides ")?;
     append(&mut text, ids.as_slice())?;
     Ok(text)

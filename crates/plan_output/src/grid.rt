@@ -76,8 +76,10 @@ pub(crate) fn grid_text(alloc: Global, rows: &[Row]) -> Result<Vec<u8>, NoMemory
 
 // The width of each column: that of its widest cell.
 fn widths(alloc: Global, rows: &[Row]) -> Result<Vec<usize>, NoMemory>
-    ensures widths { IfOk result (λ widths. (column : ℕ) → slice_index widths.items column ≡ width rows.now column) }
-    ensures small { IfOk result (λ widths. (column : ℕ) → slice_index widths.items column < 2 ^ 63) }
+    ensures widths { IfOk result (λ widths. (column : ℕ) → slice_index widths.items column
+        ≡ width rows.now column) }
+    ensures small { IfOk result (λ widths. (column : ℕ)
+        → slice_index widths.items column < 2 ^ 63) }
 {
     let mut widths = Vec::new(alloc);
     for column in 0..columns(rows) {
@@ -112,7 +114,8 @@ fn width(rows: &[Row], column: usize) -> usize
 // A line for each row, by the widths of the columns.
 fn lines_text(alloc: Global, rows: &[Row], widths: &[usize]) -> Result<Vec<u8>, NoMemory>
     requires { (column : ℕ) → slice_index widths.now column < 2 ^ 63 }
-    ensures { IfOk result (λ text. text.items ≡ flat_map (line_of_row (slice_index widths.now)) rows.now) }
+    ensures { IfOk result (λ text. text.items ≡ flat_map (line_of_row (slice_index widths.now))
+        rows.now) }
 {
     let mut text = Vec::new(alloc);
     for row in rows {
@@ -127,7 +130,8 @@ fn lines_text(alloc: Global, rows: &[Row], widths: &[usize]) -> Result<Vec<u8>, 
 // off the spaces at the end.
 fn cells_text(alloc: Global, row: &Row, widths: &[usize]) -> Result<Vec<u8>, NoMemory>
     requires { (column : ℕ) → slice_index widths.now column < 2 ^ 63 }
-    ensures { IfOk result (λ text. text.items ≡ grid.cells_text (slice_index widths.now) 0 row.now) }
+    ensures { IfOk result (λ text. text.items ≡ grid.cells_text (slice_index widths.now) 0
+        row.now) }
 {
     let mut text = Vec::new(alloc);
     for column in 0..row.len() {

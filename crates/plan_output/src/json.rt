@@ -31,7 +31,7 @@ use crate::stage::{Stage, stalls};
 use ascii_text::append::append;
 use conf_change::{Config, Step, conf_state};
 use conf_plan::Path;
-use quorum_sets::{MemberSet, NoMemory, list_of};
+use quorum_sets::{InlineIds, NoMemory};
 use raft_json::{conf_change_value, conf_state_value, ids_value};
 use serde_json::{Map, Value, put};
 use std::alloc::Global;
@@ -56,18 +56,18 @@ struct Number {
 // with `down` `{"down":[4],"plan":1,"stalls":false,"steps":0}`, where `stalls` is `true` if the configuration stalls.
 // `plan` is the number of the path, as the caller counts. Returns whether the path stalls with the ids that are down.
 // On `NoMemory` the text is unchanged.
-pub(crate) fn add_json_lines<S: MemberSet>(
+pub(crate) fn add_json_lines(
     alloc: Global,
     text: &mut Vec<u8>,
     plan: u64,
-    now: &Config<S>,
+    now: &Config<InlineIds>,
     path: &Path,
-    down: Option<&S>,
+    down: Option<&InlineIds>,
 ) -> Result<bool, NoMemory>
     ensures ok { OnOk result (text.new.items
-        ≡ text.old.items ++ json_text plan now.now path.now (option_map S.ids (option_copied down.entry))) }
+        ≡ text.old.items ++ json_text plan now.now path.now (option_copied down.entry)) }
     ensures stalls { IfOk result (λ stalls. stalls
-        ≡ stalls_with (option_map S.ids (option_copied down.entry)) now.now path.now) }
+        ≡ stalls_with (option_copied down.entry) now.now path.now) }
     ensures err { OnErr result (text.new.items ≡ text.old.items) }
 {
     let stalls = stalls_if_down(alloc, now, path, down)?;
@@ -85,7 +85,8 @@ pub fn add_no_plan_line(
     plan: u64,
     why: &str,
 ) -> Result<(), NoMemory>
-    ensures ok { OnOk result (text.new.items ≡ text.old.items ++ value_line (no_plan_json plan why.now)) }
+    ensures ok { OnOk result (text.new.items ≡ text.old.items
+        ++ value_line (no_plan_json plan why.now)) }
     ensures err { OnErr result (text.new.items ≡ text.old.items) }
 {
     let why = Value::try_from_str(alloc, why)?;
@@ -96,16 +97,17 @@ pub fn add_no_plan_line(
 }
 
 /// The keys of the first line of a path in JSON: that of its first step, or of a path without a step.
-pub fn first_line<S: MemberSet>(
+pub fn first_line(
     alloc: Global,
     plan: u64,
-    now: &Config<S>,
+    now: &Config<InlineIds>,
     path: &Path,
-    down: Option<&S>,
+    down: Option<&InlineIds>,
 ) -> Result<Map<String, Value>, NoMemory>
     ensures line { IfOk result (λ members. slice_get (path_json plan now.now path.now
-        (option_map S.ids (option_copied down.entry))) 0 ≡ Some (object (members_view members.entries))) }
-    ensures no_float { IfOk result (λ members. members_have_float (members_view members.entries) ≡ false) }
+        (option_copied down.entry)) 0 ≡ Some (object (members_view members.entries))) }
+    ensures no_float { IfOk result (λ members. members_have_float (members_view members.entries)
+        ≡ false) }
 {
     let stalls = stalls_if_down(alloc, now, path, down)?;
     let each = path.one_change_each(alloc)?;
@@ -137,21 +139,21 @@ pub fn add_line(alloc: Global, text: &mut Vec<u8>, value: &Value) -> Result<(), 
 }
 
 // The lines of these steps. They are built apart from the text, so that all of them are appended or none.
-fn lines_of<S: MemberSet>(
+fn lines_of(
     alloc: Global,
     plan: u64,
-    now: &Config<S>,
+    now: &Config<InlineIds>,
     path: &Path,
-    down: Option<&S>,
+    down: Option<&InlineIds>,
     stalls: Option<bool>,
 ) -> Result<Vec<u8>, NoMemory>
     ensures { IfOk result (λ lines. lines.items
-        ≡ flat_map value_line (each_json (option_map S.ids (option_copied down.entry)) stalls plan now.now path.now)) }
+        ≡ flat_map value_line (each_json (option_copied down.entry) stalls plan now.now path.now)) }
 {
     let mut lines = Vec::new(alloc);
     if path.len() == 0 {
-        let value = no_steps_value(alloc, plan, down, stalls)?;
-        add_line(alloc, &mut lines, &value)?;
+        let members = no_steps_members(alloc, plan, down, stalls)?;
+        add_line(alloc, &mut lines, &Value::Object(members))?;
         return Ok(lines);
     }
     let steps = path.as_slice();
@@ -164,21 +166,22 @@ fn lines_of<S: MemberSet>(
             stalls,
         };
         let after = before.next(alloc, step)?;
-        add_step(alloc, &mut lines, number, &before, step, &after, down)?;
+        let members = step_members(alloc, number, &before, step, &after, down)?;
+        add_line(alloc, &mut lines, &Value::Object(members))?;
         before = after;
     }
     Ok(lines)
 }
 
 // Whether the path stalls, if ids are given that are down.
-fn stalls_if_down<S: MemberSet>(
+fn stalls_if_down(
     alloc: Global,
-    now: &Config<S>,
+    now: &Config<InlineIds>,
     path: &Path,
-    down: Option<&S>,
+    down: Option<&InlineIds>,
 ) -> Result<Option<bool>, NoMemory>
     ensures { IfOk result (λ answer. answer
-        ≡ option_map (stage_spec.stalls now.now path.now) (option_map S.ids (option_copied down.entry))) }
+        ≡ option_map (stage_spec.stalls now.now path.now) (option_copied down.entry)) }
 {
     match down {
         Some(down) => Ok(Some(stalls(alloc, now, path, down)?)),
@@ -186,44 +189,15 @@ fn stalls_if_down<S: MemberSet>(
     }
 }
 
-// Appends the line of one step.
-fn add_step<S: MemberSet>(
-    alloc: Global,
-    lines: &mut Vec<u8>,
-    number: Number,
-    before: &Stage<S>,
-    step: &Step,
-    after: &Stage<S>,
-    down: Option<&S>,
-) -> Result<(), NoMemory>
-    ensures { OnOk result (lines.new.items ≡ lines.old.items ++ value_line
-        (step_json (option_map S.ids (option_copied down.entry)) number.stalls number.plan number.steps number.step before.now step.now after.now)) }
-{
-    let value = step_value(alloc, number, before, step, after, down)?;
-    add_line(alloc, lines, &value)
-}
-
-// The object of a path without a step.
-fn no_steps_value<S: MemberSet>(
-    alloc: Global,
-    plan: u64,
-    down: Option<&S>,
-    stalls: Option<bool>,
-) -> Result<Value, NoMemory>
-    ensures { IfOk result (λ v. view v ≡ no_steps_json (option_map S.ids (option_copied down.entry)) stalls plan) }
-{
-    Ok(Value::Object(no_steps_members(alloc, plan, down, stalls)?))
-}
-
 // The keys of a path without a step.
-fn no_steps_members<S: MemberSet>(
+fn no_steps_members(
     alloc: Global,
     plan: u64,
-    down: Option<&S>,
+    down: Option<&InlineIds>,
     stalls: Option<bool>,
 ) -> Result<Map<String, Value>, NoMemory>
     ensures { IfOk result (λ members. object (members_view members.entries)
-        ≡ no_steps_json (option_map S.ids (option_copied down.entry)) stalls plan) }
+        ≡ no_steps_json (option_copied down.entry) stalls plan) }
 {
     let mut members = Map::new(alloc);
     if let Some(down) = down {
@@ -237,33 +211,18 @@ fn no_steps_members<S: MemberSet>(
     Ok(members)
 }
 
-// The object of a step, which leads from the stage before it to the one after.
-fn step_value<S: MemberSet>(
-    alloc: Global,
-    number: Number,
-    before: &Stage<S>,
-    step: &Step,
-    after: &Stage<S>,
-    down: Option<&S>,
-) -> Result<Value, NoMemory>
-    ensures { IfOk result (λ v. view v
-        ≡ step_json (option_map S.ids (option_copied down.entry)) number.stalls number.plan number.steps number.step before.now step.now after.now) }
-{
-    let members = step_members(alloc, number, before, step, after, down)?;
-    Ok(Value::Object(members))
-}
-
 // The keys of a step, which leads from the stage before it to the one after.
-fn step_members<S: MemberSet>(
+fn step_members(
     alloc: Global,
     number: Number,
-    before: &Stage<S>,
+    before: &Stage,
     step: &Step,
-    after: &Stage<S>,
-    down: Option<&S>,
+    after: &Stage,
+    down: Option<&InlineIds>,
 ) -> Result<Map<String, Value>, NoMemory>
     ensures { IfOk result (λ members. object (members_view members.entries)
-        ≡ step_json (option_map S.ids (option_copied down.entry)) number.stalls number.plan number.steps number.step before.now step.now after.now) }
+        ≡ step_json (option_copied down.entry) number.stalls number.plan number.steps number.step
+        before.now step.now after.now) }
 {
     let mut members = step_keys(alloc, number, before, step, after)?;
     if let Some(stalls) = number.stalls {
@@ -289,23 +248,23 @@ fn step_members<S: MemberSet>(
 }
 
 // The ids of a set, in ascending order.
-fn set_value<S: MemberSet>(alloc: Global, ids: &S) -> Result<Value, NoMemory>
-    ensures { IfOk result (λ v. view v ≡ ids_json (ascending (S.ids ids.now))) }
+fn set_value(alloc: Global, ids: &InlineIds) -> Result<Value, NoMemory>
+    ensures { IfOk result (λ v. view v ≡ ids_json (ascending ids.now)) }
 {
-    let list = list_of(alloc, ids)?;
-    ids_value(alloc, list.as_slice())
+    ids_value(alloc, ids.as_slice())
 }
 
 // The keys `conf_change` to `until_then`, which every object of a step has.
-fn step_keys<S: MemberSet>(
+fn step_keys(
     alloc: Global,
     number: Number,
-    before: &Stage<S>,
+    before: &Stage,
     step: &Step,
-    after: &Stage<S>,
+    after: &Stage,
 ) -> Result<Map<String, Value>, NoMemory>
     ensures { IfOk result (λ members. members_view members.entries
-        ≡ spec.step_keys None None number.plan number.steps number.step before.now step.now after.now) }
+        ≡ spec.step_keys None None number.plan number.steps number.step before.now step.now
+        after.now) }
 {
     let conf_change = conf_change_value(alloc, before.config(), step)?;
     let state = conf_state(alloc, after.config())?;

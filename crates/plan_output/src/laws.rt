@@ -30,7 +30,8 @@ pub fn stages_are_on_the_way()
 /// only a line that names a configuration with auto-leave leads through one. The last line names the target. `made` are
 /// the ids that are down as the path is made, and `down` those of which the lines report, if there are any.
 pub fn json_lines_lead_to_the_target()
-    ensures { (strategy : Strategy) (made : Ids) (down : Option Ids) (plan : ℕ) (now target : Configuration)
+    ensures { (strategy : Strategy) (made : Ids) (down : Option Ids) (plan : ℕ)
+        (now target : Configuration)
         → IsValidWithVoter now → IsValidWithVoter target
         → has_path strategy now target ≡ true
         → LinesLead now now (path_json plan now (path_by strategy made now target) down) target }
@@ -45,17 +46,22 @@ pub fn json_lines_lead_to_the_target()
 /// In a table with an id of more than six digits, the names of the ids are `#1`, `#2`, .. in ascending order. In each
 /// table, no two ids have the same name.
 pub fn names_denote_one_id()
-    ensures ascending { (ids : Ids) (index : ℕ) → list_any is_long (ascending ids) ≡ true → index < size ids
-        → name_by (numbered_of (ascending ids)) (slice_index (ascending ids) index) ≡ codes "#" ++ decimal (index + 1) }
+    ensures ascending { (ids : Ids) (index : ℕ) → list_any is_long (ascending ids) ≡ true
+        → index < size ids
+        → name_by (numbered_of (ascending ids)) (slice_index (ascending ids) index) ≡ codes "#"
+        ++ decimal (index + 1) }
     ensures one { (ids : Ids) (a b : ℕ) → size ids < 2 ^ 64 → a < 2 ^ 64 → b < 2 ^ 64
-        → name_by (numbered_of (ascending ids)) a ≡ name_by (numbered_of (ascending ids)) b → a ≡ b }
+        → name_by (numbered_of (ascending ids)) a ≡ name_by (numbered_of (ascending ids)) b → a
+        ≡ b }
 {}
 
 /// In a table without an id of more than six digits, the names of ids are their digits, a step is the line that
 /// `add_steps` appends, and nothing follows the rows.
 pub fn short_ids_are_their_digits()
-    ensures names { (ids : List ℕ) (id : ℕ) → list_any is_long ids ≡ false → name_by (numbered_of ids) id ≡ decimal id }
+    ensures names { (ids : List ℕ) (id : ℕ) → list_any is_long ids ≡ false
+        → name_by (numbered_of ids) id ≡ decimal id }
     ensures lines { (ids : List ℕ) (step : Step) → list_any is_long ids ≡ false
         → named_line (name_by (numbered_of ids)) step ≡ line_text step }
-    ensures nothing { (ids : List ℕ) → list_any is_long ids ≡ false → denoted_text (numbered_of ids) ≡ [] }
+    ensures nothing { (ids : List ℕ) → list_any is_long ids ≡ false → denoted_text (numbered_of ids)
+        ≡ [] }
 {}

@@ -8,14 +8,14 @@
 //! ```
 ghost use Rattle.std.specs.Prelude.{◌≡◌, ◌<◌, ◌≤◌, ◌^◌, ◌++◌, [], decimal, length, map, IfOk, OnOk};
 ghost use Rattle.std.specs.List.{list_any};
-ghost use Rattle.quorum_sets.specs.Ids.{ascending};
+ghost use Rattle.quorum_sets.specs.AscendingLists.{IsAscending};
 ghost use Rattle.plan_output.specs.Names as spec;
 ghost use Rattle.plan_output.specs.Names.{denoted_row, is_long, name_by, numbered_of};
 
 use crate::grid::{Row, grid_text};
 use ascii_text::append::{append, append_number};
 use itoa::Buffer;
-use quorum_sets::{MemberSet, NoMemory, list_of};
+use quorum_sets::NoMemory;
 use std::alloc::Global;
 use std::marker::Model;
 
@@ -48,12 +48,14 @@ impl Names {
     }
 
     /// The names in a table with columns for these ids: numbers if one of them has more than six digits.
-    pub(crate) fn of_columns<S: MemberSet>(alloc: Global, ids: &S) -> Result<Names, NoMemory>
-        ensures { IfOk result (λ names. names ≡ numbered_of (ascending (S.ids ids.now))) }
+    pub(crate) fn of_columns(alloc: Global, ids: &[u64]) -> Result<Names, NoMemory>
+        requires { IsAscending ids.now }
+        ensures { IfOk result (λ names. names ≡ numbered_of ids.now) }
     {
-        let numbered = list_of(alloc, ids)?;
-        if some_is_long(numbered.as_slice()) {
-            Ok(Names { numbered })
+        if some_is_long(ids) {
+            Ok(Names {
+                numbered: Vec::from_slice(alloc, ids)?,
+            })
         } else {
             Ok(Names::digits(alloc))
         }

@@ -1,5 +1,5 @@
 //! The outputs of a path: its steps, its table, and its JSON lines.
-ghost use Rattle.std.specs.Prelude.{◌≡◌, ◌++◌, Ok, option_copied, option_map, IfOk, OnOk, OnErr};
+ghost use Rattle.std.specs.Prelude.{◌≡◌, ◌++◌, Ok, option_copied, IfOk, OnOk, OnErr};
 ghost use Rattle.conf_plan.specs.PlanCode.{path_in};
 ghost use Rattle.conf_plan.specs.PlanText.{plan_text};
 ghost use Rattle.plan_output.specs.Output.{text_as};
@@ -10,7 +10,7 @@ use crate::steps::add_steps;
 use crate::table::add_table;
 use conf_change::Config;
 use conf_plan::Path;
-use quorum_sets::{MemberSet, NoMemory};
+use quorum_sets::{InlineIds, NoMemory};
 use std::alloc::Global;
 
 /// What is printed of a path.
@@ -27,20 +27,21 @@ pub enum Output {
 /// Appends a path in an output, and returns whether it stalls with the ids that are down, if any are given. The number
 /// is that of the path, as the caller counts; only the JSON lines have it. `conf_plan::read_path` reads the steps as
 /// the same path. On `NoMemory` the text is unchanged.
-pub fn add_path<S: MemberSet>(
+pub fn add_path(
     alloc: Global,
     text: &mut Vec<u8>,
     output: Output,
     number: u64,
-    now: &Config<S>,
+    now: &Config<InlineIds>,
     path: &Path,
-    down: Option<&S>,
+    down: Option<&InlineIds>,
 ) -> Result<bool, NoMemory>
     ensures ok { OnOk result (text.new.items ≡ text.old.items
-        ++ text_as output number (option_map S.ids (option_copied down.entry)) now.now path.now) }
-    ensures reads_back { OnOk result (output ≡ Output.Steps → path_in (plan_text path.now) ≡ Ok path.now) }
+        ++ text_as output number (option_copied down.entry) now.now path.now) }
+    ensures reads_back { OnOk result (output ≡ Output.Steps → path_in (plan_text path.now)
+        ≡ Ok path.now) }
     ensures stalls { IfOk result (λ stalls. stalls
-        ≡ stalls_with (option_map S.ids (option_copied down.entry)) now.now path.now) }
+        ≡ stalls_with (option_copied down.entry) now.now path.now) }
     ensures err { OnErr result (text.new.items ≡ text.old.items) }
 {
     match output {

@@ -10,7 +10,7 @@
 //! ```
 //!
 //! What names no source here is own.
-ghost use Rattle.std.specs.Prelude.{◌≡◌, option_copied, option_map, IfOk};
+ghost use Rattle.std.specs.Prelude.{◌≡◌, option_copied, IfOk};
 ghost use Rattle.quorum_sets.specs.Ids.{no_ids, union};
 ghost use Rattle.quorum_sets.specs.Tolerance as tolerance;
 ghost use Rattle.quorum_sets.specs.Tolerance.{IsMostDown};
@@ -20,41 +20,41 @@ ghost use Rattle.plan_output.specs.Stages.{StageState, first_stage, configuratio
 
 use conf_change::{Config, Refused, Step, next_config};
 use conf_plan::{Path, catching_up};
-use quorum_sets::{MemberSet, NoMemory, may_be_down, union};
+use quorum_sets::{InlineIds, MemberSet, NoMemory, may_be_down, union};
 use std::alloc::Global;
 use std::marker::Model;
 
 /// A configuration on the way, and its members that have to catch up there: the step that led to it reset their
 /// progress, or made them members, so they begin with an empty log.
 #[derive(Drop)]
-pub struct Stage<S: MemberSet> {
-    config: Config<S>,
-    catching_up: S,
+pub struct Stage {
+    config: Config<InlineIds>,
+    catching_up: InlineIds,
 }
 
-impl<S: MemberSet> Model for Stage<S> {
+impl Model for Stage {
     ghost use Rattle.plan_output.specs.Stages.{StageState, stage_code};
 
     ghost Value = { StageState };
 
     ghost coded = { stage_code };
 
-    ghost view = { λ s. record { config = s.config; catching_up = S.ids s.catching_up } };
+    ghost view = { λ s. record { config = s.config; catching_up = s.catching_up } };
 }
 
-impl<S: MemberSet> Stage<S> {
+impl Stage {
     /// The stage before the first step, where no member has to catch up.
-    pub fn first(alloc: Global, now: &Config<S>) -> Result<Stage<S>, NoMemory>
+    pub fn first(alloc: Global, now: &Config<InlineIds>) -> Result<Stage, NoMemory>
         ensures { IfOk result (λ stage. stage ≡ first_stage now.now) }
     {
         Ok(Stage {
             config: now.try_clone()?,
-            catching_up: S::empty(alloc),
+            catching_up: InlineIds::empty(alloc),
         })
     }
 
     /// The stage that a step leads to. A step that is refused changes nothing.
-    pub fn next(&self, alloc: Global, step: &Step) -> Result<Stage<S>, NoMemory>
+    pub fn next(&self, alloc: Global, step: &Step) -> Result<Stage, NoMemory>
         ensures { IfOk result (λ stage. stage ≡ stage_after self.now.config step.now) }
     {
         let config = after_step(&self.config, step)?;
@@ -66,15 +66,15 @@ impl<S: MemberSet> Stage<S> {
     }
 
     /// The configuration of the stage.
-    pub fn config(&self) -> &Config<S>
+    pub fn config(&self) -> &Config<InlineIds>
         ensures { result.now ≡ self.now.config }
     {
         &self.config
     }
 
     /// Its members that have to catch up, a set of ids that may be empty.
-    pub fn catching_up(&self) -> &S
-        ensures { S.ids result.now ≡ self.now.catching_up }
+    pub fn catching_up(&self) -> &InlineIds
+        ensures { result.now ≡ self.now.catching_up }
     {
         &self.catching_up
     }
@@ -85,7 +85,7 @@ impl<S: MemberSet> Stage<S> {
         ensures most { IsMostDown (voters_of self.now.config) no_ids result }
         ensures counted { result ≡ spec.stage_may_be_down self.now }
     {
-        let no_ids = S::empty(self.catching_up.allocator());
+        let no_ids = InlineIds::empty(self.catching_up.allocator());
         self.most_down(&no_ids)
     }
 
@@ -101,19 +101,19 @@ impl<S: MemberSet> Stage<S> {
     /// How many ids may be down besides these, while the members that have to catch up do not count either. `None` if
     /// the others are not a quorum even if all of them are up: the stage stalls. With 3 down that is 0 of `(1 2 3)`,
     /// and `None` of `(1 3)`. An id that is not a member changes nothing.
-    pub fn may_be_down_besides(&self, down: &S) -> Result<Option<usize>, NoMemory>
+    pub fn may_be_down_besides(&self, down: &InlineIds) -> Result<Option<usize>, NoMemory>
         ensures most { IfOk result (λ most. IsMostDown (voters_of self.now.config)
-            (union (S.ids down.now) self.now.catching_up) most) }
-        ensures counted { IfOk result (λ most. most ≡ spec.may_be_down_besides self.now (S.ids down.now)) }
+            (union down.now self.now.catching_up) most) }
+        ensures counted { IfOk result (λ most. most ≡ spec.may_be_down_besides self.now down.now) }
     {
-        let away = union(down, self.catching_up())?;
-        Ok(self.most_down(&away))
+        let uncounted = union(down, self.catching_up())?;
+        Ok(self.most_down(&uncounted))
     }
 
     // How many ids may be down while the others, without these that do not count, are still a quorum.
-    fn most_down(&self, uncounted: &S) -> Option<usize>
-        ensures most { IsMostDown (voters_of self.now.config) (S.ids uncounted.now) result }
-        ensures counted { result ≡ tolerance.may_be_down (voters_of self.now.config) (S.ids uncounted.now) }
+    fn most_down(&self, uncounted: &InlineIds) -> Option<usize>
+        ensures most { IsMostDown (voters_of self.now.config) uncounted.now result }
+        ensures counted { result ≡ tolerance.may_be_down (voters_of self.now.config) uncounted.now }
     {
         let config = &self.config;
         may_be_down((&config.incoming, &config.outgoing), uncounted)
@@ -121,11 +121,7 @@ impl<S: MemberSet> Stage<S> {
 }
 
 /// The stages of a path: the configuration with which it begins, and the one after each step.
-pub fn stages<S: MemberSet>(
-    alloc: Global,
-    now: &Config<S>,
-    path: &Path,
-) -> Result<Vec<Stage<S>>, NoMemory>
+pub fn stages(alloc: Global, now: &Config<InlineIds>, path: &Path) -> Result<Vec<Stage>, NoMemory>
     ensures { IfOk result (λ stages. stages.items ≡ spec.stages now.now path.now) }
 {
     let mut stages = Vec::new(alloc);
@@ -140,7 +136,7 @@ pub fn stages<S: MemberSet>(
 }
 
 // The configuration after a step.
-fn after_step<S: MemberSet>(before: &Config<S>, step: &Step) -> Result<Config<S>, NoMemory>
+fn after_step(before: &Config<InlineIds>, step: &Step) -> Result<Config<InlineIds>, NoMemory>
     ensures { IfOk result (λ config. config ≡ configuration_after_step before.now step.now) }
 {
     match next_config(before, step.kind(), step.changes()) {
@@ -153,24 +149,21 @@ fn after_step<S: MemberSet>(before: &Config<S>, step: &Step) -> Result<Config<S>
 /// Whether a path stalls with these ids down: in the configuration with which it begins, or in one after a step, no
 /// number of ids may be down besides these, while the members that have to catch up do not count either. With 2 down,
 /// `(1 2 3)` commits and `(1 2)` stalls.
-pub fn stalls<S: MemberSet>(
+pub fn stalls(
     alloc: Global,
-    now: &Config<S>,
+    now: &Config<InlineIds>,
     path: &Path,
-    down: &S,
+    down: &InlineIds,
 ) -> Result<bool, NoMemory>
-    ensures { IfOk result (λ answer. answer ≡ spec.stalls now.now path.now (S.ids down.now)) }
+    ensures { IfOk result (λ answer. answer ≡ spec.stalls now.now path.now down.now) }
 {
     some_stalls(stages(alloc, now, path)?.as_slice(), down)
 }
 
 // Whether ids are given that are down, and one of these stages stalls then.
-pub(crate) fn stalls_at<S: MemberSet>(
-    stages: &[Stage<S>],
-    down: Option<&S>,
-) -> Result<bool, NoMemory>
+pub(crate) fn stalls_at(stages: &[Stage], down: Option<&InlineIds>) -> Result<bool, NoMemory>
     ensures { IfOk result (λ answer. answer
-        ≡ spec.stalls_at (option_map S.ids (option_copied down.entry)) stages.now) }
+        ≡ spec.stalls_at (option_copied down.entry) stages.now) }
 {
     match down {
         Some(down) => some_stalls(stages, down),
@@ -179,8 +172,8 @@ pub(crate) fn stalls_at<S: MemberSet>(
 }
 
 // Whether one of these stages stalls with these ids down.
-fn some_stalls<S: MemberSet>(stages: &[Stage<S>], down: &S) -> Result<bool, NoMemory>
-    ensures { IfOk result (λ answer. answer ≡ spec.some_stalls stages.now (S.ids down.now)) }
+fn some_stalls(stages: &[Stage], down: &InlineIds) -> Result<bool, NoMemory>
+    ensures { IfOk result (λ answer. answer ≡ spec.some_stalls stages.now down.now) }
 {
     for stage in stages {
         if stage.may_be_down_besides(down)?.is_none() {

@@ -8,7 +8,6 @@
 //!
 //! What names no source here is own.
 ghost use Rattle.std.specs.Prelude.{◌≡◌, ◌++◌, Ok, option_copied, option_map, IfOk, OnOk, OnErr};
-ghost use Rattle.quorum_sets.specs.Ids.{ascending};
 ghost use Rattle.conf_change.specs.Text.{spaced_numbers};
 ghost use Rattle.conf_plan.specs.PlanCode.{path_in};
 ghost use Rattle.conf_plan.specs.PlanText.{plan_text};
@@ -22,20 +21,20 @@ use crate::stage::stalls;
 use ascii_text::append::append;
 use conf_change::Config;
 use conf_plan::{Path, print_path};
-use quorum_sets::{MemberSet, NoMemory, commits_without};
+use quorum_sets::{InlineIds, NoMemory, commits_without};
 use std::alloc::Global;
 
 /// The note that a path stalls with the ids that are down, such as `stalls with 4 5 down`. It is `no quorum with 4 5 down:
 /// no step can be made` if the configuration with which the path begins has no quorum then. `None` if the path does not
 /// stall, or if no ids are given.
-pub fn stall_note<S: MemberSet>(
+pub fn stall_note(
     alloc: Global,
-    now: &Config<S>,
+    now: &Config<InlineIds>,
     path: &Path,
-    down: Option<&S>,
+    down: Option<&InlineIds>,
 ) -> Result<Option<Vec<u8>>, NoMemory>
     ensures { IfOk result (λ note. option_map (λ note. note.items) note
-        ≡ spec.stall_note (option_map S.ids (option_copied down.entry)) now.now path.now) }
+        ≡ spec.stall_note (option_copied down.entry) now.now path.now) }
 {
     match down {
         Some(down) if stalls(alloc, now, path, down)? => Ok(Some(stall_text(alloc, now, down)?)),
@@ -44,29 +43,25 @@ pub fn stall_note<S: MemberSet>(
 }
 
 // The text of that note.
-fn stall_text<S: MemberSet>(alloc: Global, now: &Config<S>, down: &S) -> Result<Vec<u8>, NoMemory>
-    ensures { IfOk result (λ text. text.items ≡ spec.stall_text now.now (S.ids down.now)) }
+fn stall_text(alloc: Global, now: &Config<InlineIds>, down: &InlineIds) -> Result<Vec<u8>, NoMemory>
+    ensures { IfOk result (λ text. text.items ≡ spec.stall_text now.now down.now) }
 {
+    let ids = down.as_slice();
     if commits_without((&now.incoming, &now.outgoing), down) {
-        around_ids(alloc, b"stalls with ", down, b" down")
+        around_ids(alloc, b"stalls with ", ids, b" down")
     } else {
         around_ids(
             alloc,
             b"no quorum with ",
-            down,
+            ids,
             b" down: no step can be made",
         )
     }
 }
 
 // Ids between two texts.
-fn around_ids<S: MemberSet>(
-    alloc: Global,
-    before: &[u8],
-    ids: &S,
-    after: &[u8],
-) -> Result<Vec<u8>, NoMemory>
-    ensures { IfOk result (λ text. text.items ≡ before.now ++ spaced_numbers (ascending (S.ids ids.now)) ++ after.now) }
+fn around_ids(alloc: Global, before: &[u8], ids: &[u64], after: &[u8]) -> Result<Vec<u8>, NoMemory>
+    ensures { IfOk result (λ text. text.items ≡ before.now ++ spaced_numbers ids.now ++ after.now) }
 {
     let digits = names_text(alloc, &Names::digits(alloc), ids)?;
     let mut text = Vec::from_slice(alloc, before)?;
@@ -77,18 +72,18 @@ fn around_ids<S: MemberSet>(
 
 // Appends the lines of a path, and before them as a comment the note that it stalls, if it does with the ids that are
 // down. Returns whether it stalls. On `NoMemory` the text is unchanged.
-pub(crate) fn add_steps<S: MemberSet>(
+pub(crate) fn add_steps(
     alloc: Global,
     text: &mut Vec<u8>,
-    now: &Config<S>,
+    now: &Config<InlineIds>,
     path: &Path,
-    down: Option<&S>,
+    down: Option<&InlineIds>,
 ) -> Result<bool, NoMemory>
     ensures ok { OnOk result (text.new.items
-        ≡ text.old.items ++ steps_text (option_map S.ids (option_copied down.entry)) now.now path.now) }
+        ≡ text.old.items ++ steps_text (option_copied down.entry) now.now path.now) }
     ensures reads_back { OnOk result (path_in (plan_text path.now) ≡ Ok path.now) }
     ensures stalls { IfOk result (λ stalls. stalls
-        ≡ stalls_with (option_map S.ids (option_copied down.entry)) now.now path.now) }
+        ≡ stalls_with (option_copied down.entry) now.now path.now) }
     ensures err { OnErr result (text.new.items ≡ text.old.items) }
 {
     let note = stall_note(alloc, now, path, down)?;

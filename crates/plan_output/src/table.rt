@@ -9,7 +9,7 @@
 //! ```
 //!
 //! If an id has more than six digits, the table calls its ids by numbers ([`Names`]).
-ghost use Rattle.std.specs.Prelude.{◌≡◌, ◌++◌, option_copied, option_map, IfOk, OnOk, OnErr};
+ghost use Rattle.std.specs.Prelude.{◌≡◌, ◌++◌, option_copied, IfOk, OnOk, OnErr};
 ghost use Rattle.quorum_sets.specs.Ids.{ascending};
 ghost use Rattle.plan_output.specs.Names.{name_by};
 ghost use Rattle.plan_output.specs.Stages.{stalls_with};
@@ -25,7 +25,7 @@ use crate::stage::{Stage, stages, stalls_at};
 use ascii_text::append::append;
 use conf_change::Config;
 use conf_plan::Path;
-use quorum_sets::{MemberSet, NoMemory, union};
+use quorum_sets::{InlineIds, MemberSet, NoMemory, union};
 use std::alloc::Global;
 
 // Appends the table of a path: a row for the configuration with which it begins, and one for each step with the
@@ -34,17 +34,17 @@ use std::alloc::Global;
 // while the members that have to catch up do not count either. Each line ends with a newline. If an id of a column has
 // more than six digits, these ids are called `#1`, `#2` and so on; an empty line and a line for each of them follow.
 // Returns whether the path stalls with the ids that are down. On `NoMemory` the text is unchanged (own).
-pub(crate) fn add_table<S: MemberSet>(
+pub(crate) fn add_table(
     alloc: Global,
     text: &mut Vec<u8>,
-    now: &Config<S>,
+    now: &Config<InlineIds>,
     path: &Path,
-    down: Option<&S>,
+    down: Option<&InlineIds>,
 ) -> Result<bool, NoMemory>
     ensures ok { OnOk result (text.new.items
-        ≡ text.old.items ++ table_text now.now path.now (option_map S.ids (option_copied down.entry))) }
+        ≡ text.old.items ++ table_text now.now path.now (option_copied down.entry)) }
     ensures stalls { IfOk result (λ stalls. stalls
-        ≡ stalls_with (option_map S.ids (option_copied down.entry)) now.now path.now) }
+        ≡ stalls_with (option_copied down.entry) now.now path.now) }
     ensures err { OnErr result (text.new.items ≡ text.old.items) }
 {
     let stages = stages(alloc, now, path)?;
@@ -55,36 +55,37 @@ pub(crate) fn add_table<S: MemberSet>(
 }
 
 // The table of these stages. It is made apart from the text, so that all of it is appended or nothing.
-fn table_of<S: MemberSet>(
+fn table_of(
     alloc: Global,
-    stages: &[Stage<S>],
+    stages: &[Stage],
     path: &Path,
-    down: Option<&S>,
+    down: Option<&InlineIds>,
 ) -> Result<Vec<u8>, NoMemory>
     ensures { IfOk result (λ table. table.items
         ≡ spec.table_of (ascending (spec.ids_on_the_way stages.now)) stages.now path.now
-        (option_map S.ids (option_copied down.entry))) }
+        (option_copied down.entry)) }
 {
-    let ids = ids_on_the_way(alloc, stages)?;
-    let names = Names::of_columns(alloc, &ids)?;
-    let rows = rows(alloc, &names, &ids, stages, path, down)?;
+    let members = ids_on_the_way(alloc, stages)?;
+    let ids = members.as_slice();
+    let names = Names::of_columns(alloc, ids)?;
+    let rows = rows(alloc, &names, ids, stages, path, down)?;
     let mut table = grid_text(alloc, rows.as_slice())?;
     append(&mut table, denoted_text(alloc, &names)?.as_slice())?;
     Ok(table)
 }
 
 // The row of headings, and a row for each stage of the path, with columns for these ids.
-fn rows<S: MemberSet>(
+fn rows(
     alloc: Global,
     names: &Names,
-    ids: &S,
-    stages: &[Stage<S>],
+    ids: &[u64],
+    stages: &[Stage],
     path: &Path,
-    down: Option<&S>,
+    down: Option<&InlineIds>,
 ) -> Result<Vec<Row>, NoMemory>
     ensures { IfOk result (λ rows. rows.items
-        ≡ spec.stage_rows (name_by names.now) (ascending (S.ids ids.now)) stages.now path.now
-        (option_map S.ids (option_copied down.entry))) }
+        ≡ spec.stage_rows (name_by names.now) ids.now stages.now path.now
+        (option_copied down.entry)) }
 {
     let mut rows = Vec::new(alloc);
     rows.push(headings(alloc, names, ids, down)?)?;
@@ -97,10 +98,10 @@ fn rows<S: MemberSet>(
 
 // The ids that are members at some stage. They are the same in each row, so that a reader can follow one id down its
 // column.
-fn ids_on_the_way<S: MemberSet>(alloc: Global, stages: &[Stage<S>]) -> Result<S, NoMemory>
-    ensures { IfOk result (λ ids. S.ids ids ≡ spec.ids_on_the_way stages.now) }
+fn ids_on_the_way(alloc: Global, stages: &[Stage]) -> Result<InlineIds, NoMemory>
+    ensures { IfOk result (λ ids. ids ≡ spec.ids_on_the_way stages.now) }
 {
-    let mut ids = S::empty(alloc);
+    let mut ids = InlineIds::empty(alloc);
     for stage in stages {
         ids = union(&ids, &stage.config().members()?)?;
     }
@@ -108,14 +109,14 @@ fn ids_on_the_way<S: MemberSet>(alloc: Global, stages: &[Stage<S>]) -> Result<S,
 }
 
 // The headings of the columns; the second one is the names of the ids.
-fn headings<S: MemberSet>(
+fn headings(
     alloc: Global,
     names: &Names,
-    ids: &S,
-    down: Option<&S>,
+    ids: &[u64],
+    down: Option<&InlineIds>,
 ) -> Result<Row, NoMemory>
     ensures { IfOk result (λ row. row
-        ≡ spec.headings (name_by names.now) (ascending (S.ids ids.now)) (option_map S.ids (option_copied down.entry))) }
+        ≡ spec.headings (name_by names.now) ids.now (option_copied down.entry)) }
 {
     let mut row = Row::new(alloc);
     row.add(Vec::from_slice(alloc, b"step")?)?;
@@ -132,7 +133,8 @@ fn headings<S: MemberSet>(
 
 // The name of a stage: `now`, or the step that leads to it. Stage 0 is before the first step.
 fn stage_name(alloc: Global, names: &Names, path: &Path, index: usize) -> Result<Vec<u8>, NoMemory>
-    ensures { IfOk result (λ name. name.items ≡ spec.stage_name (name_by names.now) path.now index) }
+    ensures { IfOk result (λ name. name.items ≡ spec.stage_name (name_by names.now) path.now
+        index) }
 {
     if index > 0 {
         if let Some(step) = path.step(index - 1) {
@@ -143,25 +145,23 @@ fn stage_name(alloc: Global, names: &Names, path: &Path, index: usize) -> Result
 }
 
 // The row of a stage, which begins with its name.
-fn row<S: MemberSet>(
+fn row(
     alloc: Global,
     names: &Names,
-    ids: &S,
-    down: Option<&S>,
+    ids: &[u64],
+    down: Option<&InlineIds>,
     name: Vec<u8>,
-    stage: &Stage<S>,
+    stage: &Stage,
 ) -> Result<Row, NoMemory>
     ensures { IfOk result (λ row. row
-        ≡ spec.row (name_by names.now) (ascending (S.ids ids.now))
-        (option_map S.ids (option_copied down.entry)) name.items
-        stage.now) }
+        ≡ spec.row (name_by names.now) ids.now (option_copied down.entry) name.items stage.now) }
 {
     let mut row = Row::new(alloc);
     row.add(name)?;
     row.add(marks_text(alloc, names, ids, stage.config())?)?;
     row.add(majority_text(alloc, stage.config())?)?;
     row.add(down_text(alloc, stage.may_be_down())?)?;
-    row.add(names_text(alloc, names, stage.catching_up())?)?;
+    row.add(names_text(alloc, names, stage.catching_up().as_slice())?)?;
     row.add(until_text(alloc, stage)?)?;
     if let Some(down) = down {
         row.add(down_text(alloc, stage.may_be_down_besides(down)?)?)?;

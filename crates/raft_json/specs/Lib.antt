@@ -1,6 +1,7 @@
 pub mod IdsJson
 pub mod ConfStateJson
 pub mod MemberListJson
+pub mod JsonText
 pub mod SavedJson
 pub mod ConfChangeJson
 pub mod ConfChangeRead

@@ -26,7 +26,8 @@ pub fn conf_change_value<S: MemberSet>(
     step: &Step,
 ) -> Result<Value, NoMemory>
     ensures { IfOk result (λ v. view v
-        ≡ conf_change_json (proposal.transition_of step.now) (proposed_changes before.now step.now)) }
+        ≡ conf_change_json (proposal.transition_of step.now)
+        (proposed_changes before.now step.now)) }
 {
     let changes = proposed(alloc, before, step)?;
     let transition = Value::try_from_str(alloc, transition_name(transition_of(step)))?;

@@ -14,7 +14,7 @@ use thiserror::Error;
 /// Why the JSON of a saved configuration was not read.
 #[derive(Clone, Copy, Debug, PartialEq, Eq, Error)]
 pub enum JsonFault {
-    /// The text is not JSON, or not an object of a form that [`read_saved_json`](crate::read_saved_json) reads.
+    /// It is not an object of a form that [`saved_of`](crate::saved_of) reads.
     #[error("bad JSON of a configuration")]
     BadJson,
     /// An allocation failed.
@@ -39,22 +39,6 @@ impl From<AllocFailed<u64>> for JsonFault {
 
     fn from(_error: AllocFailed<u64>) -> JsonFault {
         JsonFault::NoMemory
-    }
-}
-
-impl From<serde_json::Error> for JsonFault {
-    ghost use Rattle.std.specs.Prelude.{◌↔◌};
-    ghost use Rattle.serde_json.specs.Errors.{IsMemory};
-    ghost use Rattle.raft_json.specs.declared.conf_state_json.JsonFault.TheVariants.{NoMemory};
-
-    ghost from_gives = { λ error fault. (fault ≡ NoMemory) ↔ IsMemory error };
-
-    fn from(error: serde_json::Error) -> JsonFault {
-        if error.is_memory() {
-            JsonFault::NoMemory
-        } else {
-            JsonFault::BadJson
-        }
     }
 }
 

@@ -10,8 +10,10 @@ use std::alloc::Global;
 
 /// Reads the ids at a key; the list is empty if the key is missing or null.
 pub fn ids_in(alloc: Global, value: Option<&Value>) -> Result<Vec<u64>, JsonFault>
-    ensures ok { IfOk result (λ ids. spec.ids_in (option_map (λ v. view v.now) value.entry) ≡ Some ids.items) }
-    ensures bad { result ≡ Err JsonFault.BadJson → spec.ids_in (option_map (λ v. view v.now) value.entry) ≡ None }
+    ensures ok { IfOk result (λ ids. spec.ids_in (option_map (λ v. view v.now) value.entry)
+        ≡ Some ids.items) }
+    ensures bad { result ≡ Err JsonFault.BadJson
+        → spec.ids_in (option_map (λ v. view v.now) value.entry) ≡ None }
 {
     match value {
         None | Some(Value::Null) => Ok(Vec::new(alloc)),
@@ -22,7 +24,8 @@ pub fn ids_in(alloc: Global, value: Option<&Value>) -> Result<Vec<u64>, JsonFaul
 
 fn ids_from(alloc: Global, items: &Vec<Value>) -> Result<Vec<u64>, JsonFault>
     ensures ok { IfOk result (λ ids. spec.ids_from (items_view items.now.items) ≡ Some ids.items) }
-    ensures bad { result ≡ Err JsonFault.BadJson → spec.ids_from (items_view items.now.items) ≡ None }
+    ensures bad { result ≡ Err JsonFault.BadJson → spec.ids_from (items_view items.now.items)
+        ≡ None }
 {
     let mut ids = Vec::with_capacity(alloc, items.len())?;
     for item in items {

@@ -43,7 +43,8 @@ pub fn proposed_step_leads_alike()
         → outcome before (proposed_step before (EnterJoint auto_leave changes)) ≡ Ok after }
     ensures leave { (before : Configuration) → proposed_step before LeaveJoint ≡ LeaveJoint }
     ensures simple_named { (before after : Configuration) (changes : List Change)
-        → outcome before (Simple changes) ≡ Ok after → 0 < length (proposed_changes before (Simple changes)) }
+        → outcome before (Simple changes) ≡ Ok after
+        → 0 < length (proposed_changes before (Simple changes)) }
     ensures enter_named { (before after : Configuration) (auto_leave : Bool) (changes : List Change)
         → outcome before (EnterJoint auto_leave changes) ≡ Ok after
         → 0 < length (proposed_changes before (EnterJoint auto_leave changes)) }
@@ -53,7 +54,8 @@ pub fn proposed_step_leads_alike()
 /// for it ends in the configuration after the step, or with auto-leave in the one that leaving that gives. The
 /// configuration before the step must be valid and have a voter.
 pub fn etcd_carries_out_the_step()
-    ensures { (before after : Configuration) (step : Step) → is_valid before ≡ true → has_voter before ≡ true
+    ensures { (before after : Configuration) (step : Step) → is_valid before ≡ true
+        → has_voter before ≡ true
         → outcome before step ≡ Ok after
         → carried_out before (proposal_of before step) ≡ result_ok (after_auto_leave (Ok after)) }
 {}

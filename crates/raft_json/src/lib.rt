@@ -1,15 +1,15 @@
 //! The JSON of raftpb messages: saved configurations, and changes to propose to a cluster of etcd's raft.
 //!
 //! A program that embeds etcd's raft keeps a `raftpb.ConfState` and proposes `raftpb.ConfChangeV2`. Go's encoding/json
-//! reads and writes both as objects. [`read_saved_json`] reads a saved configuration, whose keys may be in any order or
-//! missing, and [`conf_state_value`] makes its JSON, with all keys in alphabetical order:
+//! reads and writes both as objects. [`saved_of`] reads a saved configuration, whose keys may be in any order or missing,
+//! and [`conf_state_value`] makes its JSON, with all keys in alphabetical order:
 //!
 //! ```text
 //! {"voters":[1,2,3],"learners":[4]}
 //! {"auto_leave":false,"learners":[4],"learners_next":[],"voters":[1,2,3],"voters_outgoing":[]}
 //! ```
 //!
-//! [`read_saved_json`] reads also what `etcdctl member list -w json` prints, of which it takes the ids and who learns:
+//! [`saved_of`] reads also what `etcdctl member list -w json` prints, of which it takes the ids and who learns:
 //!
 //! ```text
 //! {"members":[{"ID":1,"name":"a"},{"ID":2,"name":"b","isLearner":true}]}   is   {"voters":[1],"learners":[2]}
@@ -33,7 +33,7 @@
 //! [`conf_state_value`] and [`conf_change_value`] return a JSON value; print it to get its line:
 //!
 //! ```text
-//! let state = read_saved_json(alloc, b"{\"voters\":[1,2,3]}")?;
+//! let state = saved_of(alloc, &value)?;
 //! let line = conf_state_value(alloc, &state)?.to_string(alloc)?;
 //! ```
 #![tactic(auto)]
@@ -41,6 +41,7 @@
 pub mod conf_change_json;
 pub mod conf_state_json;
 mod ids_json;
+mod json_text;
 pub mod laws;
 mod member_list_json;
 pub mod proposal;
@@ -49,5 +50,6 @@ pub mod saved_json;
 pub use conf_change_json::conf_change_value;
 pub use conf_state_json::{JsonFault, conf_state_value, flag_in};
 pub use ids_json::{ids_in, ids_value};
+pub use json_text::json_in;
 pub use proposal::{proposed_update, transition_of};
-pub use saved_json::{read_saved_json, saved_of};
+pub use saved_json::saved_of;

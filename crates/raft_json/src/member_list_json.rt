@@ -25,7 +25,8 @@ struct Member {
 /// The saved configuration with the members that are listed, in their order. An id may repeat.
 pub(crate) fn conf_state_of_member_list(alloc: Global, list: &Value) -> Result<ConfState, JsonFault>
     ensures ok { IfOk result (λ state. conf_state_of_member_list (view list.now) ≡ Some state) }
-    ensures bad { result ≡ Err JsonFault.BadJson → conf_state_of_member_list (view list.now) ≡ None }
+    ensures bad { result ≡ Err JsonFault.BadJson → conf_state_of_member_list (view list.now)
+        ≡ None }
 {
     let items = list.as_array().ok_or(JsonFault::BadJson)?;
     conf_state_of_items(alloc, items)
@@ -33,8 +34,10 @@ pub(crate) fn conf_state_of_member_list(alloc: Global, list: &Value) -> Result<C
 
 // The saved configuration with the members that the items denote.
 fn conf_state_of_items(alloc: Global, items: &Vec<Value>) -> Result<ConfState, JsonFault>
-    ensures ok { IfOk result (λ state. option_map spec.conf_state_of_members (spec.members_from (items_view items.now.items)) ≡ Some state) }
-    ensures bad { result ≡ Err JsonFault.BadJson → spec.members_from (items_view items.now.items) ≡ None }
+    ensures ok { IfOk result (λ state. option_map spec.conf_state_of_members
+        (spec.members_from (items_view items.now.items)) ≡ Some state) }
+    ensures bad { result ≡ Err JsonFault.BadJson → spec.members_from (items_view items.now.items)
+        ≡ None }
 {
     let mut voters = Vec::with_capacity(alloc, items.len())?;
     let mut learners = Vec::new(alloc);

@@ -63,6 +63,9 @@ next_from_joint c within true e =
     is_empty-from_none c.learners_next (λ q. false_from_ne_true (has c.learners_next q) (λ here.
     true≢false (sym (within q here) ∙ has-none_in_empty c.outgoing e q)))
 
+pub next_is_joint : (c : Configuration) → is_within c.learners_next c.outgoing ≡ true → (is_joint c || is_empty c.learners_next) ≡ true
+next_is_joint c within = next_from_joint c (within_members c.learners_next c.outgoing within) (is_empty c.outgoing) refl
+
 pub ValidByMember-from_is_valid : (c : Configuration) → is_valid c ≡ true → ValidByMember c
 ValidByMember-from_is_valid c e = record {
   zero_incoming = grind arith;

@@ -1,6 +1,6 @@
 -- What is wrong with a configuration or a saved form is there exactly if it is not valid.
 use Rattle.std.proofs.Common.{◌≡◌, ℕ, ◌<◌, ◌≤◌, Bool, true, false, cond, not, ◌&&◌, ◌||◌, List, [], ◌∷◌, length, refl, sym, ap, subst, ◌∙◌, eq-eqb, eqb-true, arith, slice_get}
-use Rattle.std.specs.Prelude.{Option, Some, None, Ok, find, option_map, option_and_then, is_some, nat_eq}
+use Rattle.std.specs.Prelude.{Option, Some, None, Result, Ok, Err, ◌↔◌, find, option_map, option_and_then, is_some, nat_eq}
 use Rattle.std.specs.Option.{option_or}
 use Rattle.std.specs.List.{list_all}
 use Rattle.std.proofs.Math.Bool.{not-not}
@@ -10,70 +10,65 @@ use Rattle.quorum_sets.proofs.Offered.{ascending-no_ids, size-with_id}
 use Rattle.conf_change.specs.Configuration.{Configuration, keeps, is_joint, is_valid, invariants, first_broken}
 use Rattle.conf_change.specs.ConfState.{ConfStateLists, Describes, names_once, names_each_once, named_by}
 use Rattle.conf_change.specs.Described.{described}
-use Rattle.conf_change.specs.Violation.{violation_by, violation_of, first_repeat, repeat_in, unless_violated, valid_of, unless_bad, configuration_in}
+use Rattle.conf_change.specs.Violation.{violation_of, first_repeat, repeat_in, unless_violated, valid_of, unless_bad, configuration_in}
 use Rattle.conf_change.specs.ConfStateLine.{conf_state_in}
 use Rattle.conf_change.specs.declared.config.Invariant.{Invariant}
 use Rattle.conf_change.specs.declared.config.Invariant.TheVariants.{ZeroId, NextNotOutgoing, NextAndIncoming, LearnerAndVoter, NotJointButNext, NotJointButAutoLeave}
 use Rattle.conf_change.specs.declared.violation.Violation.{Violation}
 use Rattle.conf_change.specs.declared.violation.Violation.TheVariants.{ListedTwice}
+use Rattle.conf_change.specs.declared.violation.Violation.TheVariants as violated
 use Rattle.conf_change.proofs.SetWalks.FindId.{list_all-find}
+use Rattle.conf_change.proofs.Configurations.Validity.{next_is_joint}
 use Rattle.conf_change.proofs.Configurations.DescribedByLists.{Describes-from_names_each_once, described-from_Describes}
 
--- ---- a list without an id that passes a test
-none_passes : {X : Type 0} (test fails : X → Bool) (xs : List X) → ((x : X) → test x ≡ not (fails x)) → find fails xs ≡ None → list_all test xs ≡ true
-none_passes test fails xs same e = list_all-find test fails xs same ∙ ap (λ o. not (is_some o)) e
+-- ---- the first broken invariant
+-- no id is in one of two sets exactly if none is in either
+both_apart : (a b : ℕ → Bool) (xs : List ℕ) → (list_all (λ x. not (a x)) xs && list_all (λ x. not (b x)) xs) ≡ not (is_some (find (λ x. a x || b x) xs))
+both_apart a b [] = refl
+both_apart a b (x ∷ xs) = grind (arith, both_apart a b xs)
 
-neither_passes : (a b : ℕ → Bool) (xs : List ℕ) → find (λ x. a x || b x) xs ≡ None → (list_all (λ x. not (a x)) xs && list_all (λ x. not (b x)) xs) ≡ true
-neither_passes a b [] e = refl
-neither_passes a b (x ∷ xs) e = grind (arith, neither_passes a b xs)
+-- the invariant that a violation breaks
+abbrev pub broken_by : Violation → Invariant
+broken_by (ListedTwice _) = ZeroId
+broken_by violated.ZeroId = ZeroId
+broken_by (violated.NextNotOutgoing _) = NextNotOutgoing
+broken_by (violated.NextAndIncoming _) = NextAndIncoming
+broken_by (violated.LearnerAndVoter _) = LearnerAndVoter
+broken_by violated.NotJointButAutoLeave = NotJointButAutoLeave
 
-none_first : (joint : Bool) (xs : List ℕ) → slice_get xs 0 ≡ None → (joint || nat_eq (length xs) 0) ≡ true
-none_first joint [] e = grind arith
-none_first joint (x ∷ xs) e = cc
+pub first_broken-by_violation : (c : Configuration) → first_broken c ≡ option_map broken_by (violation_of c)
+first_broken-by_violation c =
+    let outside = find (λ id. not (has c.outgoing id)) (ascending c.learners_next) in
+    let within : keeps c NextNotOutgoing ≡ not (is_some outside) = list_all-find (has c.outgoing) _ (ascending c.learners_next) (λ id. sym (not-not (has c.outgoing id))) in
+    let apart : keeps c NextAndIncoming ≡ not (is_some (find (has c.incoming) (ascending c.learners_next))) = list_all-find _ (has c.incoming) (ascending c.learners_next) (λ id. refl) in
+    let learns : keeps c LearnerAndVoter ≡ not (is_some (find (λ id. has c.incoming id || has c.outgoing id) (ascending c.learners))) = both_apart (has c.incoming) (has c.outgoing) (ascending c.learners) in
+    let joint : keeps c NextNotOutgoing ≡ true → keeps c NotJointButNext ≡ true = next_is_joint c in
+    grind (arith, within, apart, learns, joint)
 
-mapped_none : {A B : Type 0} (f : A → B) (o : Option A) → option_map f o ≡ None → o ≡ None
-mapped_none f o e = grind arith
+-- a configuration is valid exactly if it has no violation
+pub is_valid-by_violation : (c : Configuration) → is_valid c ≡ not (is_some (violation_of c))
+is_valid-by_violation c =
+    list_all-find (keeps c) (λ i. not (keeps c i)) invariants (λ i. sym (not-not (keeps c i)))
+    ∙ ap (λ o. not (is_some o)) (first_broken-by_violation c) ∙ same (violation_of c)
+  where
+    same : (o : Option Violation) → not (is_some (option_map broken_by o)) ≡ not (is_some o)
+    same o = grind arith
 
--- an invariant of which no violation is found is kept
-kept : (c : Configuration) (invariant : Invariant) → violation_by c invariant ≡ None → keeps c invariant ≡ true
-kept c ZeroId e = cc
-kept c NextNotOutgoing e = none_passes (has c.outgoing) _ (ascending c.learners_next) (λ id. sym (not-not (has c.outgoing id))) (mapped_none _ _ e)
-kept c NextAndIncoming e = none_passes _ (has c.incoming) (ascending c.learners_next) (λ id. refl) (mapped_none _ _ e)
-kept c LearnerAndVoter e = neither_passes (has c.incoming) (has c.outgoing) (ascending c.learners) (mapped_none _ _ e)
-kept c NotJointButNext e = none_first (is_joint c) (ascending c.learners_next) (mapped_none _ _ e)
-kept c NotJointButAutoLeave e = cc
-
--- a broken one is found
-violation_by-broken : (c : Configuration) (invariant : Invariant) → keeps c invariant ≡ false → violation_by c invariant ≡ None → ⊥
-violation_by-broken c invariant broken e = let kept_too = kept c invariant e in cc
-
--- what is found passes
-found_passes : {X : Type 0} (test : X → Bool) (xs : List X) (x : X) → find test xs ≡ Some x → test x ≡ true
-found_passes test [] x e = cc
-found_passes test (y ∷ xs) x e = grind (arith, found_passes test xs x)
-
-not-true : (b : Bool) → not b ≡ true → b ≡ false
-not-true b e = grind arith
-
--- the first broken one is
-pub violation_by-first : (c : Configuration) (invariant : Invariant) → first_broken c ≡ Some invariant → violation_by c invariant ≡ None → ⊥
-violation_by-first c invariant first = violation_by-broken c invariant (not-true (keeps c invariant) (found_passes (λ i. not (keeps c i)) invariants invariant first))
-
--- a valid configuration has no violation
 none-from_is_valid : (c : Configuration) → is_valid c ≡ true → violation_of c ≡ None
-none-from_is_valid c valid =
-    ap (option_and_then (violation_by c)) (none _ (sym (list_all-find (keeps c) (λ i. not (keeps c i)) invariants (λ i. sym (not-not (keeps c i)))) ∙ valid))
-  where
-    none : (o : Option Invariant) → not (is_some o) ≡ true → o ≡ None
-    none o e = grind arith
+none-from_is_valid c valid = grind (arith, is_valid-by_violation c)
 
--- a configuration without a violation is valid
-pub is_valid-from_none : (c : Configuration) → violation_of c ≡ None → is_valid c ≡ true
-is_valid-from_none c none = by_first (first_broken c) refl none
-  where
-    by_first : (o : Option Invariant) → first_broken c ≡ o → option_and_then (violation_by c) o ≡ None → is_valid c ≡ true
-    by_first None is e = none_passes (keeps c) _ invariants (λ i. sym (not-not (keeps c i))) is
-    by_first (Some invariant) is e = absurd (violation_by-first c invariant is e)
+is_valid-from_none : (c : Configuration) → violation_of c ≡ None → is_valid c ≡ true
+is_valid-from_none c none = is_valid-by_violation c ∙ ap (λ o. not (is_some o)) none
+
+-- the first broken invariant is that of the violation
+pub first_exactly : (c : Configuration) (violation : Violation) (result : Result (Unit {0}) Invariant) → Some violation ≡ violation_of c → result ≡ Err (broken_by violation)
+    → (broken : Invariant) → (result ≡ Err broken) ↔ (first_broken c ≡ Some broken)
+first_exactly c violation result is made broken =
+    let first : first_broken c ≡ Some (broken_by violation) = first_broken-by_violation c ∙ ap (option_map broken_by) (sym is) in
+    (λ e. cc, λ e. cc)
+
+pub no_violation : (c : Configuration) (o : Option Violation) → o ≡ violation_of c → (o ≡ None) ↔ (is_valid c ≡ true)
+no_violation c o is = (λ none. is_valid-by_violation c ∙ ap (λ o. not (is_some o)) (sym is ∙ none), λ valid. is ∙ none-from_is_valid c valid)
 
 -- ---- lists that name an id twice
 size-few : (list : List ℕ) → size (ids_of list) ≤ length list

@@ -1,5 +1,5 @@
 -- One change changes one voter at most, and what it leaves of the voters.
-use Rattle.std.proofs.Common.{◌≡◌, ◌≢◌, ℕ, ◌≤◌, Bool, true, false, ◌==◌, [], ◌∷◌, refl, sym, subst, ◌∙◌, arith, eqb-true, eq-eqb}
+use Rattle.std.proofs.Common.{◌≡◌, ◌≢◌, ℕ, ◌≤◌, Bool, true, false, ◌==◌, List, [], ◌∷◌, length, refl, sym, subst, ◌∙◌, arith, eqb-true, eq-eqb}
 use Rattle.std.proofs.lemmas.Bool.{false≢true}
 use Rattle.quorum_sets.specs.Ids.{difference_count}
 use Rattle.quorum_sets.proofs.Offered.{difference_count-with_id, difference_count-without_id}
@@ -30,3 +30,8 @@ one_at_most Update c id false e = unaltered c (result_of c (only Update id)) (re
 
 pub one_change-one_voter : (c : Configuration) (x : Change) → difference_count c.incoming (result_of c (x ∷ [])).incoming ≤ 1
 one_change-one_voter c x = one_at_most x.kind c x.id (x.id == 0) refl
+
+pub few_voters : (c : Configuration) (changes : List Change) → length changes ≡ 1 → difference_count c.incoming (result_of c changes).incoming ≤ 1
+few_voters c [] e = absurd (omega (arith, e))
+few_voters c (x ∷ []) e = one_change-one_voter c x
+few_voters c (x ∷ y ∷ rest) e = absurd (omega (arith, e))

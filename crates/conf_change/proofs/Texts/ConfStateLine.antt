@@ -223,8 +223,3 @@ line_grouped old p a q b r c s d t f = simp append_assoc
 abbrev pub onto_numbers : List ℕ → Option (List ℕ) → Option (List ℕ)
 onto_numbers done (Some more) = Some (done ++ more)
 onto_numbers done None = None
-
-pub DenotesConfState-none : (text : List ℕ) (saved : ConfStateLists) → conf_state_in text ≡ None → DenotesConfState text saved → ⊥
-DenotesConfState-none text saved none h = let some = conf_state_in-ok text saved h in cc
-
-pub ruleset line_laws = (conf_state_in-ok, DenotesConfState-from_some)

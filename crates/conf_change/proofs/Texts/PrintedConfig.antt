@@ -185,13 +185,8 @@ DenotesConfig-from_some text saved e =
 pub DenotesConfig-same : (text : List ℕ) (a b : ConfStateLists) → DenotesConfig text a → DenotesConfig text b → a ≡ b
 DenotesConfig-same text a b first second = same_Some a b (sym (config_in-ok text a first) ∙ config_in-ok text b second)
 
-pub DenotesConfig-none : (text : List ℕ) (saved : ConfStateLists) → config_in text ≡ None → DenotesConfig text saved → ⊥
-DenotesConfig-none text saved none h = let some = config_in-ok text saved h in cc
-
 -- ---- the tokens, one by one
 -- the numbers so far, before those of the rest
 abbrev pub onto_read : List ℕ → Option Read → Option Read
 onto_read numbers None = None
 onto_read numbers (Some read) = Some (numbers ++ read.0, read.1)
-
-pub ruleset printed_laws = (config_in-ok, DenotesConfig-from_some)

@@ -168,25 +168,25 @@ joining-fits down c target valid id joins = record {
   learning = λ newcomer learners few. inr (inr few);
 }
 
-few-late : (down away : Ids) (c target : Configuration) (retires : List ℕ) → ((q : ℕ) → has away q ≡ true → has down q ≡ true) → ValidByMember target
-    → let others = ascending (ids_where (λ id. not (has c.learners id)) (ascending (ids_where (λ id. not (has c.incoming id) && not (has away id)) (ascending target.incoming)))) in
-    AreOnce (in_turn others retires ++ (joining (has away) c target ++ new_learners c target)) → All (Retires c target) retires
-    → AreFew down c target (in_turn others retires ++ (joining (has away) c target ++ new_learners c target))
-few-late down away c target retires within valid once retire =
+few-late : (down in_order : Ids) (c target : Configuration) (retires : List ℕ) → ((q : ℕ) → has in_order q ≡ true → has down q ≡ true) → ValidByMember target
+    → let others = ascending (ids_where (λ id. not (has c.learners id)) (ascending (ids_where (λ id. not (has c.incoming id) && not (has in_order id)) (ascending target.incoming)))) in
+    AreOnce (in_turn others retires ++ (joining (has in_order) c target ++ new_learners c target)) → All (Retires c target) retires
+    → AreFew down c target (in_turn others retires ++ (joining (has in_order) c target ++ new_learners c target))
+few-late down in_order c target retires within valid once retire =
     let some = learners_that_stay down c target in
-    let joins = ids_where (λ id. not (has c.incoming id) && not (has away id)) (ascending target.incoming) in
+    let joins = ids_where (λ id. not (has c.incoming id) && not (has in_order id)) (ascending target.incoming) in
     let others = ascending (ids_where (λ id. not (has c.learners id)) (ascending joins)) in
-    let last = joining (has away) c target in
+    let last = joining (has in_order) c target in
     let news = new_learners c target in
     let Fits : ℕ → Type 0 = FitsIn down c target some in
     let few : (learners : Ids) → size learners ≤ size some → AreFewLearners down c target learners = λ learners few. inr (inr (omega (arith, few))) in
     let others_fit = All-where Fits (λ id. not (has c.learners id)) joins (λ q here.
-    joining-fits down c target valid q (grind (arith, here, has-where (λ id. not (has c.incoming id) && not (has away id)) target.incoming q))) in
+    joining-fits down c target valid q (grind (arith, here, has-where (λ id. not (has c.incoming id) && not (has in_order id)) target.incoming q))) in
     let retires_fit = All-weaker (Retires c target) Fits (λ q one. record {
       learns = λ learns. grind (arith, has-that_stay down c target q, one.votes, learns);
       learning = λ newcomer. absurd (grind (arith, newcomer, one.stops));
     }) retires retire in
-    let last_fits = All-joining Fits (has away) c target (λ q here. joining-fits down c target valid q (grind (arith, here))) in
+    let last_fits = All-joining Fits (has in_order) c target (λ q here. joining-fits down c target valid q (grind (arith, here))) in
     few-among down c target some (in_turn others retires) (last ++ news) once few (All-in_turn Fits others retires others_fit retires_fit)
     (λ q here.
     let whole = times-append q (in_turn others retires) (last ++ news) in
@@ -198,7 +198,7 @@ few-late down away c target retires within valid once retire =
       end,
       times-in_turn q others retires,
       times-where q (λ id. not (has c.learners id)) joins,
-      times-joining q (has away) c target,
+      times-joining q (has in_order) c target,
       times-where q (λ id. not (has c.incoming id || has target.incoming id || has c.learners id)) target.learners,
       retires-no_learner c target q retires retire,
       valid.learner_incoming q,
@@ -209,16 +209,16 @@ few-late down away c target retires within valid once retire =
     (λ once among. few-among down c target some last news once few last_fits among (λ once among. few-new down c target once))
 
 -- ---- all of the order
-pub order-is_few : (down away : Ids) (c target : Configuration) → ((q : ℕ) → has away q ≡ true → has down q ≡ true) → ValidByMember c → ValidByMember target
-    → mixed c.learners target.learners (order away c target) ≡ c.learners → AreFew down c target (order away c target)
-order-is_few down away c target within valid_c valid all =
+pub order-is_few : (down in_order : Ids) (c target : Configuration) → ((q : ℕ) → has in_order q ≡ true → has down q ≡ true) → ValidByMember c → ValidByMember target
+    → mixed c.learners target.learners (order in_order c target) ≡ c.learners → AreFew down c target (order in_order c target)
+order-is_few down in_order c target within valid_c valid all =
     let some = learners_at_first down c target in
     let Fits : ℕ → Type 0 = FitsIn down c target some in
     let few : (learners : Ids) → size learners ≤ size some → AreFewLearners down c target learners = λ learners few. inl few in
-    let up : ℕ → Bool = λ id. not (has away id) in
+    let up : ℕ → Bool = λ id. not (has in_order id) in
     let joins = ids_where (λ id. not (has c.incoming id) && up id) (ascending target.incoming) in
-    few-among down c target some (retiring (has away) c target) _ (AreOnce-order away c target) few
-    (All-where Fits (λ id. not (has target.incoming id) && has away id) c.incoming (λ q here. record {
+    few-among down c target some (retiring (has in_order) c target) _ (AreOnce-order in_order c target) few
+    (All-where Fits (λ id. not (has target.incoming id) && has in_order id) c.incoming (λ q here. record {
       learns = λ learns. grind (arith, has-at_first down c target q, within q, here, learns);
       learning = λ newcomer. absurd (grind (arith, newcomer, here));
     }))
@@ -231,7 +231,7 @@ order-is_few down away c target within valid_c valid all =
     })) among
     (λ once among.
     few-in_turn down c target (ascending (ids_where (has c.learners) (ascending joins))) (ascending (ids_where (λ id. not (has c.learners id)) (ascending joins))) (retiring up c target)
-    (joining (has away) c target ++ new_learners c target) once
+    (joining (has in_order) c target ++ new_learners c target) once
     (All-where (IsPromoted c target) (has c.learners) joins (λ q here. record {
       learns = (and_parts (has c.learners q) _ here).0;
       votes = grind (arith, valid.learner_incoming q, here, has-where (λ id. not (has c.incoming id) && up id) target.incoming q);
@@ -241,4 +241,4 @@ order-is_few down away c target within valid_c valid all =
       learns = grind (arith, valid_c.learner_incoming q, here);
       stops = grind (arith, here);
     }))
-    (size-among _ some among) (λ retires once retire. few-late down away c target retires within valid once retire)))
+    (size-among _ some among) (λ retires once retire. few-late down in_order c target retires within valid once retire)))

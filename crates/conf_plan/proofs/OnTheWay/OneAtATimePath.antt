@@ -49,24 +49,24 @@ ready-from down c target (id ∷ left) fine calm few = (
 -- the ids that are down in the order are down
 down_in_order-within : (down : Ids) (c target : Configuration) (q : ℕ) → has (down_in_order down c target) q ≡ true → has down q ≡ true
 down_in_order-within down c target q =
-    cond_both (commits_without (voters_of c) down && commits_without (voters_of target) down) down no_ids (λ away. has away q ≡ true → has down q ≡ true) (λ commit here. here)
+    cond_both (commits_without (voters_of c) down && commits_without (voters_of target) down) down no_ids (λ ids. has ids q ≡ true → has down q ≡ true) (λ commit here. here)
     (λ stalls here. absurd (both_ways (has no_ids q) (has-no_ids q) here))
 
 from_single-has_turns : (down : Ids) (c target : Configuration) → IsSingle c → IsSingle target → IsRunWith (IsTurnFrom down c target) c (one_at_a_time_from_single down c target) target
 from_single-has_turns down c target single_c single =
-    let away = down_in_order down c target in
-    let ids = order away c target in
+    let in_order = down_in_order down c target in
+    let ids = order in_order c target in
     let valid_c = ValidByMember-from_is_valid c single_c.valid_with_voter.valid in
     let valid = ValidByMember-from_is_valid target single.valid_with_voter.valid in
-    let start = between-all_left away c target valid_c valid in
+    let start = between-all_left in_order c target valid_c valid in
     let end : between c target [] ≡ single_with target.incoming target.learners = λ i. single_with (mixed-none_left c.incoming target.incoming i) (mixed-none_left c.learners target.learners i) in
     let Leads : Configuration → Configuration → Type 0 = λ a b. IsRunWith (IsTurnFrom down c target) a (flat_map (steps_of c target) ids) b in
     subst (λ a. Leads a target) (start ∙ single_with-own c single_c)
     (subst (Leads (between c target ids)) (end ∙ single_with-own target single)
-    (steps_of-lead_on (IsFine down c target) (IsCalm away target) c target ids valid_c valid (outgoing-none target single.single) (AreOnce-order away c target)
+    (steps_of-lead_on (IsFine down c target) (IsCalm in_order target) c target ids valid_c valid (outgoing-none target single.single) (AreOnce-order in_order c target)
     (λ d fine. is_empty-in_order down c target d.incoming (not-true _ single_c.valid_with_voter.voter) (not-true _ single.valid_with_voter.voter) fine.voters)
-    (ready-from down c target ids (order-is_fine away c target (ap (λ (d : Configuration). d.incoming) start)) (order-is_calm away c target)
-    (order-is_few down away c target (down_in_order-within down c target) valid_c valid (ap (λ (d : Configuration). d.learners) start)))))
+    (ready-from down c target ids (order-is_fine in_order c target (ap (λ (d : Configuration). d.incoming) start)) (order-is_calm in_order c target)
+    (order-is_few down in_order c target (down_in_order-within down c target) valid_c valid (ap (λ (d : Configuration). d.learners) start)))))
 
 turns-keep : (Fine Calm : Configuration → Type 0) (target before after : Configuration) (steps : List Step) (q : ℕ) → is_member target q ≡ true → is_member before q ≡ true
     → IsRunWith (IsTurn Fine Calm target) before steps after → IsRunWith (Keeps q) before steps after
@@ -159,6 +159,6 @@ one_at_a_time-keeps_promises down now target now_valid_with_voter valid_with_vot
       down_first = λ commits commits_at_target.
           let all : down_in_order down (left_first now) target ≡ down = cond-true _ down no_ids (and_from _ _ commits commits_at_target) in
           IsRunWith-weaker Holds (AddsNoneBefore down target)
-          (λ before after step change joiner id was is is_down. change.calm joiner was is id (subst (λ away. has away id ≡ true) (sym all) is_down)) now target steps changes;
+          (λ before after step change joiner id was is is_down. change.calm joiner was is id (subst (λ ids. has ids id ≡ true) (sym all) is_down)) now target steps changes;
       few_learners = IsRunWith-weaker Holds (λ before step after. HasFewLearners down (left_first now) target after) (λ before after step change. change.few) now target steps changes;
     }

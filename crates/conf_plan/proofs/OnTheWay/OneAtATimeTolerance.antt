@@ -49,40 +49,40 @@ count_of-done p had gets id left once =
 
 -- ---- by how much those that are up outnumber those that are down
 abbrev up_of : Ids → Ids → ℕ
-up_of away voters = count_of (λ id. not (has away id)) voters
+up_of down voters = count_of (λ id. not (has down id)) voters
 
 abbrev down_of : Ids → Ids → ℕ
-down_of away voters = count_of (has away) voters
+down_of down voters = count_of (has down) voters
 
 -- by as much as at this end, or more
 abbrev pub IsNoWorse : Ids → Ids → Ids → Type 0
-IsNoWorse away end voters = up_of away end + down_of away voters ≤ up_of away voters + down_of away end
+IsNoWorse down end voters = up_of down end + down_of down voters ≤ up_of down voters + down_of down end
 
 abbrev pub IsNoWorseThanOne : Ids → Ids → Ids → Ids → Type 0
-IsNoWorseThanOne away now target voters = IsNoWorse away now voters ⊎ IsNoWorse away target voters
+IsNoWorseThanOne down now target voters = IsNoWorse down now voters ⊎ IsNoWorse down target voters
 
 -- whether an id counts among the voters that are up, or that are down
 abbrev is_up : Ids → Ids → ℕ → ℕ
-is_up away voters id = cond (not (has away id) && has voters id) 1 0
+is_up down voters id = cond (not (has down id) && has voters id) 1 0
 
 abbrev is_down : Ids → Ids → ℕ → ℕ
-is_down away voters id = cond (has away id && has voters id) 1 0
+is_down down voters id = cond (has down id && has voters id) 1 0
 
-lead-done : (away had gets : Ids) (id : ℕ) (left : List ℕ) → times id left ≡ 0
-    → up_of away (mixed had gets (id ∷ left)) + down_of away (mixed had gets left) + is_up away gets id + is_down away had id
-    ≡ up_of away (mixed had gets left) + down_of away (mixed had gets (id ∷ left)) + is_up away had id + is_down away gets id
-lead-done away had gets id left once =
-    let of_up = count_of-done (λ id. not (has away id)) had gets id left once in
-    let of_down = count_of-done (has away) had gets id left once in
+lead-done : (down had gets : Ids) (id : ℕ) (left : List ℕ) → times id left ≡ 0
+    → up_of down (mixed had gets (id ∷ left)) + down_of down (mixed had gets left) + is_up down gets id + is_down down had id
+    ≡ up_of down (mixed had gets left) + down_of down (mixed had gets (id ∷ left)) + is_up down had id + is_down down gets id
+lead-done down had gets id left once =
+    let of_up = count_of-done (λ id. not (has down id)) had gets id left once in
+    let of_down = count_of-done (has down) had gets id left once in
     omega arith
 
 -- where the votes of an id change from these to those, it does not grow
 abbrev Loses : Ids → Ids → Ids → ℕ → Type 0
-Loses away had gets id = is_up away gets id + is_down away had id ≤ is_up away had id + is_down away gets id
+Loses down had gets id = is_up down gets id + is_down down had id ≤ is_up down had id + is_down down gets id
 
 -- it grows by one
 abbrev GainsOne : Ids → Ids → Ids → ℕ → Type 0
-GainsOne away had gets id = is_up away had id + is_down away gets id + 1 ≡ is_up away gets id + is_down away had id
+GainsOne down had gets id = is_up down had id + is_down down gets id + 1 ≡ is_up down gets id + is_down down had id
 
 -- ---- the voters on the way
 -- something holds of each part of a list from an id on
@@ -91,71 +91,71 @@ EachRest Holds [] = Holds []
 EachRest Holds (id ∷ left) = Holds (id ∷ left) × EachRest Holds left
 
 abbrev pub AreFine : Ids → Ids → Ids → List ℕ → Type 0
-AreFine away had gets left = EachRest (λ left. IsNoWorseThanOne away had gets (mixed had gets left)) left
+AreFine down had gets left = EachRest (λ left. IsNoWorseThanOne down had gets (mixed had gets left)) left
 
 -- where the rest only loses, all is no worse than at the end
-fine-at_end : (away had gets : Ids) (left : List ℕ) → AreOnce left → All (Loses away had gets) left → AreFine away had gets left × IsNoWorse away gets (mixed had gets left)
-fine-at_end away had gets [] once loses =
-    let same : IsNoWorse away gets (mixed had gets []) = subst (IsNoWorse away gets) (sym (mixed-none_left had gets)) (omega arith) in
+fine-at_end : (down had gets : Ids) (left : List ℕ) → AreOnce left → All (Loses down had gets) left → AreFine down had gets left × IsNoWorse down gets (mixed had gets left)
+fine-at_end down had gets [] once loses =
+    let same : IsNoWorse down gets (mixed had gets []) = subst (IsNoWorse down gets) (sym (mixed-none_left had gets)) (omega arith) in
     (inr same, same)
-fine-at_end away had gets (id ∷ left) once loses =
-    let lead = lead-done away had gets id left (AreOnce-first id left once) in
-    let one = All-head (Loses away had gets) id left loses in
-    let later = fine-at_end away had gets left (AreOnce-rest id left once) (All-tail (Loses away had gets) id left loses) in
+fine-at_end down had gets (id ∷ left) once loses =
+    let lead = lead-done down had gets id left (AreOnce-first id left once) in
+    let one = All-head (Loses down had gets) id left loses in
+    let later = fine-at_end down had gets left (AreOnce-rest id left once) (All-tail (Loses down had gets) id left loses) in
     let after = later.1 in
-    let now : IsNoWorse away gets (mixed had gets (id ∷ left)) = omega arith in
+    let now : IsNoWorse down gets (mixed had gets (id ∷ left)) = omega arith in
     ((inr now, later.0), now)
 
 -- where the first ids lose nothing, all is no worse than at the start
-fine-at_start : (away had gets : Ids) (first rest : List ℕ) → AreOnce (first ++ rest) → All (Loses away gets had) first → IsNoWorse away had (mixed had gets (first ++ rest))
-    → (AreOnce rest → IsNoWorse away had (mixed had gets rest) → AreFine away had gets rest) → AreFine away had gets (first ++ rest)
-fine-at_start away had gets [] rest once gains now then = then once now
-fine-at_start away had gets (id ∷ first) rest once gains now then =
-    let lead = lead-done away had gets id (first ++ rest) (AreOnce-first id (first ++ rest) once) in
-    let one = All-head (Loses away gets had) id first gains in
-    (inl now, fine-at_start away had gets first rest (AreOnce-rest id (first ++ rest) once) (All-tail (Loses away gets had) id first gains) (omega arith) then)
+fine-at_start : (down had gets : Ids) (first rest : List ℕ) → AreOnce (first ++ rest) → All (Loses down gets had) first → IsNoWorse down had (mixed had gets (first ++ rest))
+    → (AreOnce rest → IsNoWorse down had (mixed had gets rest) → AreFine down had gets rest) → AreFine down had gets (first ++ rest)
+fine-at_start down had gets [] rest once gains now then = then once now
+fine-at_start down had gets (id ∷ first) rest once gains now then =
+    let lead = lead-done down had gets id (first ++ rest) (AreOnce-first id (first ++ rest) once) in
+    let one = All-head (Loses down gets had) id first gains in
+    (inl now, fine-at_start down had gets first rest (AreOnce-rest id (first ++ rest) once) (All-tail (Loses down gets had) id first gains) (omega arith) then)
 
 -- where one joins before another retires, and the rest only loses
-fine-in_turn : (away had gets : Ids) (joins retires rest : List ℕ) → AreOnce (in_turn joins retires ++ rest)
-    → All (GainsOne away had gets) joins → All (GainsOne away gets had) retires → All (Loses away had gets) rest
-    → IsNoWorse away had (mixed had gets (in_turn joins retires ++ rest)) → AreFine away had gets (in_turn joins retires ++ rest)
-fine-in_turn away had gets [] retires rest once gain lose worse now =
-    (fine-at_end away had gets (retires ++ rest) once (All-append (Loses away had gets) retires rest (All-weaker (GainsOne away gets had) (Loses away had gets) (λ q one. omega arith) retires lose) worse)).0
-fine-in_turn away had gets (x ∷ joins) [] rest once gain lose worse now =
-    fine-at_start away had gets (x ∷ joins) rest once (All-weaker (GainsOne away had gets) (Loses away gets had) (λ q one. omega arith) (x ∷ joins) gain) now (λ once now. (fine-at_end away had gets rest once worse).0)
-fine-in_turn away had gets (x ∷ joins) (y ∷ retires) rest once gain lose worse now =
+fine-in_turn : (down had gets : Ids) (joins retires rest : List ℕ) → AreOnce (in_turn joins retires ++ rest)
+    → All (GainsOne down had gets) joins → All (GainsOne down gets had) retires → All (Loses down had gets) rest
+    → IsNoWorse down had (mixed had gets (in_turn joins retires ++ rest)) → AreFine down had gets (in_turn joins retires ++ rest)
+fine-in_turn down had gets [] retires rest once gain lose worse now =
+    (fine-at_end down had gets (retires ++ rest) once (All-append (Loses down had gets) retires rest (All-weaker (GainsOne down gets had) (Loses down had gets) (λ q one. omega arith) retires lose) worse)).0
+fine-in_turn down had gets (x ∷ joins) [] rest once gain lose worse now =
+    fine-at_start down had gets (x ∷ joins) rest once (All-weaker (GainsOne down had gets) (Loses down gets had) (λ q one. omega arith) (x ∷ joins) gain) now (λ once now. (fine-at_end down had gets rest once worse).0)
+fine-in_turn down had gets (x ∷ joins) (y ∷ retires) rest once gain lose worse now =
     let left = in_turn joins retires ++ rest in
     let once_y = AreOnce-rest x (y ∷ left) once in
-    let joined = lead-done away had gets x (y ∷ left) (AreOnce-first x (y ∷ left) once) in
-    let retired = lead-done away had gets y left (AreOnce-first y left once_y) in
-    let one_more = All-head (GainsOne away had gets) x joins gain in
-    let one_less = All-head (GainsOne away gets had) y retires lose in (
+    let joined = lead-done down had gets x (y ∷ left) (AreOnce-first x (y ∷ left) once) in
+    let retired = lead-done down had gets y left (AreOnce-first y left once_y) in
+    let one_more = All-head (GainsOne down had gets) x joins gain in
+    let one_less = All-head (GainsOne down gets had) y retires lose in (
       inl now,
-      (inl (omega arith), fine-in_turn away had gets joins retires rest (AreOnce-rest y left once_y) (All-tail (GainsOne away had gets) x joins gain) (All-tail (GainsOne away gets had) y retires lose) worse (omega arith)),
+      (inl (omega arith), fine-in_turn down had gets joins retires rest (AreOnce-rest y left once_y) (All-tail (GainsOne down had gets) x joins gain) (All-tail (GainsOne down gets had) y retires lose) worse (omega arith)),
     )
 
-pub order-is_fine : (away : Ids) (c target : Configuration) → mixed c.incoming target.incoming (order away c target) ≡ c.incoming → AreFine away c.incoming target.incoming (order away c target)
-order-is_fine away c target all =
+pub order-is_fine : (down : Ids) (c target : Configuration) → mixed c.incoming target.incoming (order down c target) ≡ c.incoming → AreFine down c.incoming target.incoming (order down c target)
+order-is_fine down c target all =
     let had = c.incoming in
     let gets = target.incoming in
-    let up : ℕ → Bool = λ id. not (has away id) in
-    fine-at_start away had gets (retiring (has away) c target) _ (AreOnce-order away c target)
-    (All-where (Loses away gets had) (λ id. not (has gets id) && has away id) had (λ q here. grind (arith, here)))
-    (subst (IsNoWorse away had) (sym all) (omega arith))
+    let up : ℕ → Bool = λ id. not (has down id) in
+    fine-at_start down had gets (retiring (has down) c target) _ (AreOnce-order down c target)
+    (All-where (Loses down gets had) (λ id. not (has gets id) && has down id) had (λ q here. grind (arith, here)))
+    (subst (IsNoWorse down had) (sym all) (omega arith))
     (λ once now.
-    fine-at_start away had gets (leaving_learners c target) _ once
-    (All-where (Loses away gets had) (λ id. not (has had id || has gets id || has target.learners id)) c.learners (λ q here. grind (arith, here))) now
-    (λ once now. fine-in_turn away had gets (joining up c target) (retiring up c target) _ once (All-joining (GainsOne away had gets) up c target (λ q here. grind (arith, here)))
-    (All-where (GainsOne away gets had) (λ id. not (has gets id) && up id) had (λ q here. grind (arith, here)))
-    (All-append (Loses away had gets) (joining (has away) c target) _ (All-joining (Loses away had gets) (has away) c target (λ q here. grind (arith, here)))
-    (All-where (Loses away had gets) (λ id. not (has had id || has gets id || has c.learners id)) target.learners (λ q here. grind (arith, here)))) now))
+    fine-at_start down had gets (leaving_learners c target) _ once
+    (All-where (Loses down gets had) (λ id. not (has had id || has gets id || has target.learners id)) c.learners (λ q here. grind (arith, here))) now
+    (λ once now. fine-in_turn down had gets (joining up c target) (retiring up c target) _ once (All-joining (GainsOne down had gets) up c target (λ q here. grind (arith, here)))
+    (All-where (GainsOne down gets had) (λ id. not (has gets id) && up id) had (λ q here. grind (arith, here)))
+    (All-append (Loses down had gets) (joining (has down) c target) _ (All-joining (Loses down had gets) (has down) c target (λ q here. grind (arith, here)))
+    (All-where (Loses down had gets) (λ id. not (has had id || has gets id || has c.learners id)) target.learners (λ q here. grind (arith, here)))) now))
 
 -- ---- what is tolerated
 -- voters that tolerate something besides these ids commit without them
-commits_without-from_Tolerates : (voters : Voters) (away : Ids) (k : ℕ) → Tolerates voters away k → commits_without voters away ≡ true
-commits_without-from_Tolerates voters away k tolerates =
+commits_without-from_Tolerates : (voters : Voters) (down : Ids) (k : ℕ) → Tolerates voters down k → commits_without voters down ≡ true
+commits_without-from_Tolerates voters down k tolerates =
     let none = ap length ascending-no_ids in
-    ap (commits_without voters) (has-same_ids away (union no_ids away) (λ q. sym (has-union no_ids away q ∙ ap (λ b. b || has away q) (has-no_ids q)))) ∙ tolerates no_ids (omega arith)
+    ap (commits_without voters) (has-same_ids down (union no_ids down) (λ q. sym (has-union no_ids down q ∙ ap (λ b. b || has down q) (has-no_ids q)))) ∙ tolerates no_ids (omega arith)
 
 -- where something is tolerated at both ends, the order is the one for the ids that are down
 pub IsAsTolerant-in_order : (down : Ids) (now c target after : Configuration) → c.incoming ≡ now.incoming → c.outgoing ≡ no_ids → after.outgoing ≡ no_ids
@@ -171,7 +171,7 @@ IsAsTolerant-in_order down now c target after same single_c single no_worse k by
     let all_of_c = count_of-rest c.incoming down in
     let all_of_target = count_of-rest target.incoming down in
     let all = count_of-rest after.incoming down in
-    alone after single (elim (subst (λ away. IsNoWorseThanOne away c.incoming target.incoming after.incoming) counted no_worse) [
+    alone after single (elim (subst (λ ids. IsNoWorseThanOne ids c.incoming target.incoming after.incoming) counted no_worse) [
       | inl as_now ↦ omega arith
       | inr as_target ↦ omega arith
     ])
@@ -179,12 +179,12 @@ IsAsTolerant-in_order down now c target after same single_c single no_worse k by
 -- ---- some voter is up
 -- more are up than down
 abbrev AreMostUp : Ids → Ids → Type 0
-AreMostUp away voters = down_of away voters < up_of away voters
+AreMostUp down voters = down_of down voters < up_of down voters
 
-most_up : (voters : Voters) (away : Ids) → commits_without voters away ≡ true → AreMostUp away voters.incoming
-most_up voters away commits =
-    let most = ltb-true _ _ (and_parts (majority_passes (λ id. not (has away id)) voters.incoming) _ (sym (commits_without-majority_passes voters away) ∙ commits)).0 in
-    let all = count_of-rest voters.incoming away in
+most_up : (voters : Voters) (down : Ids) → commits_without voters down ≡ true → AreMostUp down voters.incoming
+most_up voters down commits =
+    let most = ltb-true _ _ (and_parts (majority_passes (λ id. not (has down id)) voters.incoming) _ (sym (commits_without-majority_passes voters down) ∙ commits)).0 in
+    let all = count_of-rest voters.incoming down in
     omega arith
 
 all_up : (ids : Ids) → is_empty ids ≡ false → AreMostUp no_ids ids
@@ -197,12 +197,12 @@ all_up ids some =
 pub is_empty-in_order : (down : Ids) (c target : Configuration) (voters : Ids) → is_empty c.incoming ≡ false → is_empty target.incoming ≡ false
     → IsNoWorseThanOne (down_in_order down c target) c.incoming target.incoming voters → is_empty voters ≡ false
 is_empty-in_order down c target voters some_c some no_worse =
-    let away = down_in_order down c target in
+    let in_order = down_in_order down c target in
     let up =
-    cond_both (commits_without (voters_of c) down && commits_without (voters_of target) down) down no_ids (λ away. AreMostUp away c.incoming × AreMostUp away target.incoming)
+    cond_both (commits_without (voters_of c) down && commits_without (voters_of target) down) down no_ids (λ ids. AreMostUp ids c.incoming × AreMostUp ids target.incoming)
     (λ commit. let parts = and_parts _ _ commit in (most_up (voters_of c) down parts.0, most_up (voters_of target) down parts.1))
     (λ stalls. (all_up c.incoming some_c, all_up target.incoming some)) in
     let up_c = up.0 in
     let up_target = up.1 in
-    let within = count_by-le-length (λ id. not (has away id)) (ascending voters) in
+    let within = count_by-le-length (λ id. not (has in_order id)) (ascending voters) in
     ne_eqb (size voters) 0 (λ none. elim no_worse [ inl as_now ↦ absurd (omega (arith, none)) | inr as_target ↦ absurd (omega (arith, none)) ])

@@ -55,29 +55,29 @@ planned-keeps_quorums now target now_valid_with_voter valid_with_voter =
     (λ differs c single same. planned_from_single-keeps_quorums now c target single valid_with_voter same)
 
 -- ---- what is tolerated
--- those of some ids that are not away
+-- those of some ids that are not down
 abbrev staying : Ids → Ids → Ids
-staying all away = ids_where (λ id. not (has away id)) (ascending all)
+staying all down = ids_where (λ id. not (has down id)) (ascending all)
 
 abbrev voter_ids : Configuration → Ids
 voter_ids c = union c.incoming c.outgoing
 
 -- among the ids are all voters of the configuration, so it commits exactly where those that stay are a quorum
-staying-commits : (c : Configuration) (all away : Ids) → ((q : ℕ) → has (voter_ids c) q ≡ true → has all q ≡ true) → is_quorum (voters_of c) (staying all away) ≡ commits_without (voters_of c) away
-staying-commits c all away among =
-    is_quorum-without (voters_of c) away (staying all away) (λ q here.
-    grind (arith, has-ids_where (λ id. not (has away id)) (ascending all) q, has-ascending all q, among q, has-union c.incoming c.outgoing q, here))
+staying-commits : (c : Configuration) (all down : Ids) → ((q : ℕ) → has (voter_ids c) q ≡ true → has all q ≡ true) → is_quorum (voters_of c) (staying all down) ≡ commits_without (voters_of c) down
+staying-commits c all down among =
+    is_quorum-without (voters_of c) down (staying all down) (λ q here.
+    grind (arith, has-ids_where (λ id. not (has down id)) (ascending all) q, has-ascending all q, among q, has-union c.incoming c.outgoing q, here))
 
-IsAsTolerant-from_quorums : (uncounted : Ids) (now target c : Configuration) → HasQuorumsOf now target c → IsAsTolerant uncounted now target c
-IsAsTolerant-from_quorums uncounted now target c quorums k by_now by_target down few =
-    let away = union down uncounted in
+IsAsTolerant-from_quorums : (down : Ids) (now target c : Configuration) → HasQuorumsOf now target c → IsAsTolerant down now target c
+IsAsTolerant-from_quorums down now target c quorums k by_now by_target more few =
+    let both = union more down in
     let others = union (voter_ids now) (voter_ids target) in
     let all = union (voter_ids c) others in
     let in_c = λ (q : ℕ). has-union (voter_ids c) others q in
     let in_others = λ (q : ℕ). has-union (voter_ids now) (voter_ids target) q in
-    sym (staying-commits c all away (λ q here. grind (arith, in_c q, here)))
-    ∙ quorums (staying all away) (staying-commits now all away (λ q here. grind (arith, in_c q, in_others q, here)) ∙ by_now down few)
-    (staying-commits target all away (λ q here. grind (arith, in_c q, in_others q, here)) ∙ by_target down few)
+    sym (staying-commits c all both (λ q here. grind (arith, in_c q, here)))
+    ∙ quorums (staying all both) (staying-commits now all both (λ q here. grind (arith, in_c q, in_others q, here)) ∙ by_now more few)
+    (staying-commits target all both (λ q here. grind (arith, in_c q, in_others q, here)) ∙ by_target more few)
 
 pub KeepsTolerance-from_quorums : (down : Ids) (now target : Configuration) (steps : List Step) → KeepsQuorums now steps target → KeepsTolerance down now steps target
 KeepsTolerance-from_quorums down now target steps keeps =

@@ -82,22 +82,6 @@ pub means-or_refuses : (Means : List Step → Type 0) (Refuses : PlanTextFault �
 means-or_refuses Means Refuses (Ok steps) h = inl (steps, h)
 means-or_refuses Means Refuses (Err fault) h = inr (fault, h)
 
--- a result that is the answer, or out of memory
-pub record IsGiven (Means : List Step → Type 0) (Refuses : PlanTextFault → Type 0) (result : Result (List Step) PlanTextFault) : Type 0 where
-  pub holds : IfOk result Means
-  pub fault : IfErr result (λ fault. (fault ≡ NoMemory) ⊎ Refuses fault)
-  pub read : (steps : List Step) → Means steps → (result ≡ Ok steps) ⊎ (result ≡ Err NoMemory)
-  pub refused : (fault : PlanTextFault) → Refuses fault → (result ≡ Err fault) ⊎ (result ≡ Err NoMemory)
-
-pub IsGiven-from_exact : (Means : List Step → Type 0) (Refuses : PlanTextFault → Type 0) (answer result : Result (List Step) PlanTextFault) → IsExact Means Refuses answer
-    → (result ≡ answer) ⊎ (result ≡ Err NoMemory) → IsGiven Means Refuses result
-IsGiven-from_exact Means Refuses answer result exact given = record {
-  holds = grind (arith, given, exact.is);
-  fault = grind (arith, given, exact.is);
-  read = λ steps means. grind (arith, given, exact.ok steps means);
-  refused = λ why refuses. grind (arith, given, exact.err why refuses);
-}
-
 -- ---- paths
 path_in-steps : (text : List ℕ) → ¬ (IsNothingToDo text) → path_in text ≡ steps_in (plan_lines text)
 path_in-steps text none = cond-false (is_nothing_to_do (plan_lines text)) _ _ (false_from_ne_true _ (λ e. none (IsNothingToDo-from_true text e)))

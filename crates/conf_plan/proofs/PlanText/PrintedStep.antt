@@ -1,23 +1,31 @@
 -- The line of a step, in the parts in which it is appended.
 use Rattle.std.proofs.Common.{◌≡◌, ℕ, List, [], ◌∷◌, ◌++◌, map, sym, ap, ◌∙◌}
-use Rattle.std.specs.Prelude.{codes, flat_map}
+use Rattle.std.specs.Prelude.{codes, decimal, flat_map}
 use Rattle.std.specs.List.{join_with_byte}
 use Rattle.std.proofs.lemmas.List.{append_assoc, append-nil}
+use Rattle.conf_change.specs.ChangeList.{letter_of}
 use Rattle.conf_change.specs.declared.change.Change.{Change}
 use Rattle.conf_change.specs.declared.step.Step.{Step}
 use Rattle.conf_change.specs.declared.step.Step.TheVariants.{Simple, EnterJoint, LeaveJoint}
 use Rattle.conf_change.specs.Step.{changes_of}
-use Rattle.conf_plan.specs.PlanText.{flag_token, command_tokens, change_text, spaced_change, line_text, line_and_newline}
+use Rattle.conf_plan.specs.PlanText.{flag_token, command_tokens, spaced_change, line_and_newline}
 
-pub join-changes : (token : List ℕ) (changes : List Change) → join_with_byte 32 (token ∷ map change_text changes) ≡ token ++ flat_map spaced_change changes
-join-changes token [] = sym (append-nil token)
-join-changes token (change ∷ changes) = ap (λ rest. token ++ 32 ∷ rest) (join-changes (change_text change) changes)
+-- a change, with any names for ids
+abbrev named : (ℕ → List ℕ) → Change → List ℕ
+named name change = letter_of change.kind ∷ name change.id
 
-line_text-parts : (step : Step) → line_text step ≡ join_with_byte 32 (command_tokens step) ++ flat_map spaced_change (changes_of step)
-line_text-parts (Simple changes) = join-changes (codes "simple") changes
-line_text-parts (EnterJoint auto_leave changes) =
-    ap (λ rest. codes "enter-joint" ++ 32 ∷ rest) (join-changes (flag_token auto_leave) changes) ∙ sym (append_assoc (codes "enter-joint") (32 ∷ flag_token auto_leave) (flat_map spaced_change changes))
-line_text-parts LeaveJoint = sym (append-nil (codes "leave-joint"))
+abbrev spaced : (ℕ → List ℕ) → List Change → List ℕ
+spaced name changes = flat_map (λ change. 32 ∷ named name change) changes
+
+pub join-changes : (name : ℕ → List ℕ) (token : List ℕ) (changes : List Change) → join_with_byte 32 (token ∷ map (named name) changes) ≡ token ++ spaced name changes
+join-changes name token [] = sym (append-nil token)
+join-changes name token (change ∷ changes) = ap (λ rest. token ++ 32 ∷ rest) (join-changes name (named name change) changes)
+
+pub line-parts : (name : ℕ → List ℕ) (step : Step) → join_with_byte 32 (command_tokens step ++ map (named name) (changes_of step)) ≡ join_with_byte 32 (command_tokens step) ++ spaced name (changes_of step)
+line-parts name (Simple changes) = join-changes name (codes "simple") changes
+line-parts name (EnterJoint auto_leave changes) =
+    ap (λ rest. codes "enter-joint" ++ 32 ∷ rest) (join-changes name (flag_token auto_leave) changes) ∙ sym (append_assoc (codes "enter-joint") (32 ∷ flag_token auto_leave) (spaced name changes))
+line-parts name LeaveJoint = sym (append-nil (codes "leave-joint"))
 
 pub line_and_newline-appended : (old : List ℕ) (step : Step) → old ++ join_with_byte 32 (command_tokens step) ++ flat_map spaced_change (changes_of step) ++ 10 ∷ [] ≡ old ++ line_and_newline step
-line_and_newline-appended old step = rw (line_text-parts step) (simp append_assoc)
+line_and_newline-appended old step = rw (line-parts decimal step) (simp append_assoc)

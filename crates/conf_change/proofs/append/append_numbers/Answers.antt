@@ -1,9 +1,9 @@
 use Rattle.std.proofs.Common.{◌<◌, ◌^◌, arith}
+use Rattle.std.specs.Prelude.{decimal}
 use Rattle.std.proofs.lemmas.Grind.{common_steps}
 use Rattle.std.proofs.lemmas.List.Elements.{All-from_get_or}
 use Rattle.conf_change.proofs.Texts.ConfStateLine.{ParsesToNumbers-spaced}
-use Rattle.ascii_text.proofs.Offered.{Extends-append}
-use Rattle.conf_change.proofs.Texts.AppendedParts.{spaced_numbers-one_more}
+use Rattle.ascii_text.proofs.Offered.{Extends-append, join-one_more}
 use Rattle.conf_change.proofs.append.append_numbers.Goals as goal
 
 pub returns-in_err-append_number_at-clause-extends : goal.returns-in_err-append_number_at-clause-extends
@@ -11,7 +11,7 @@ returns-in_err-append_number_at-clause-extends c =
     Extends-append _ _ _ (rw c.loop-position.invariant at c.append_number_at.ensures.extends)
 
 pub loop-position-preserved : goal.loop-position-preserved
-loop-position-preserved c = grind (arith, common_steps, spaced_numbers-one_more)
+loop-position-preserved c = grind (arith, common_steps, join-one_more decimal)
 
 pub returns-clause-parsed : goal.returns-clause-parsed
 returns-clause-parsed c =

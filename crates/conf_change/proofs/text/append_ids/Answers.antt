@@ -1,8 +1,8 @@
 use Rattle.std.proofs.Common.{arith}
+use Rattle.std.specs.Prelude.{decimal}
 use Rattle.std.proofs.lemmas.Grind.{common_steps}
 use Rattle.std.proofs.lemmas.Option.{gets}
-use Rattle.ascii_text.proofs.Offered.{Extends-append}
-use Rattle.conf_change.proofs.Texts.AppendedParts.{spaced_numbers-one_more}
+use Rattle.ascii_text.proofs.Offered.{Extends-append, join-one_more}
 use Rattle.conf_change.proofs.text.append_ids.Goals as goal
 use Rattle.conf_change.proofs.text.append_ids.Goals.{in-Some+in_ok-append_number_at, in_default}
 
@@ -12,6 +12,6 @@ returns-in_err-append_number_at-clause-extends g c =
 
 pub loop-position-preserved : goal.loop-position-preserved
 loop-position-preserved g c = elim c.match-at.branch [
-  | in-Some+in_ok-append_number_at w ↦ grind (arith, common_steps, gets, spaced_numbers-one_more)
+  | in-Some+in_ok-append_number_at w ↦ grind (arith, common_steps, gets, join-one_more decimal)
   | in_default w ↦ grind (arith, gets)
 ]

@@ -39,9 +39,9 @@ returns-clause-stop c strategy target down view ids id is here =
       runs = of_now.0;
       not_now = not_now;
       not_target = not_target;
-      not_on_the_way = λ other away valid_now valid_target path.
+      not_on_the_way = λ other other_down valid_now valid_target path.
           each-weaker (HasMembersOf now target) (λ d. is_member d id ≡ false) (λ d members. outside (is_member d id) (is_member now id) (is_member target id) (members id) not_now not_target) now target _
-          (c.one_change_each_leads.ensures other away now target valid_now valid_target path).members;
+          (c.one_change_each_leads.ensures other other_down now target valid_now valid_target path).members;
       known = λ voter votes not_down.
           having-all view view.conf_index (voter_ids now ∖ down) voter stopped.known (has-without-is (voter_ids now) down voter (has-union now.incoming now.outgoing voter ∙ votes) not_down);
     }

@@ -9,8 +9,8 @@ use Rattle.conf_plan.proofs.one_at_a_time.ids_in_order.Goals as goal
 pub returns : goal.returns
 returns g c =
     let target = c.args.target.now in
-    let incoming = g.S.MemberSet.ids c.args.start.now.incoming.now in
-    let learners = g.S.MemberSet.ids c.args.start.now.learners.now in
+    let incoming = g.S.MemberSet.ids c.start.inside.incoming.now in
+    let learners = g.S.MemberSet.ids c.start.inside.learners.now in
     let to = g.S.MemberSet.ids c.target.inside.incoming in
     let to_learn = g.S.MemberSet.ids c.target.inside.learners in
     let start = single_with incoming learners in
@@ -44,5 +44,5 @@ returns g c =
     let turns = in_turn (spec.joining is_up start target) (spec.retiring is_up start target) in
     let last = spec.joining is_down start target in
     let end = spec.new_learners start target in
-    c.in_ok-add_ids-3.ensures.ok ∙ (λ i. with_last i ++ news i) ∙ append_assoc ((first ++ leaving) ++ turns) last end ∙ append_assoc (first ++ leaving) turns (last ++ end)
-    ∙ append_assoc first leaving (turns ++ (last ++ end))
+    rw (← c.start.view_is) (c.in_ok-add_ids-3.ensures.ok ∙ (λ i. with_last i ++ news i) ∙ append_assoc ((first ++ leaving) ++ turns) last end ∙ append_assoc (first ++ leaving) turns (last ++ end)
+    ∙ append_assoc first leaving (turns ++ (last ++ end)))

@@ -11,10 +11,10 @@ pub returns : goal.returns
 returns g c =
     let own = g.S.MemberSet.ids in
     let target = c.args.target.now in
-    let voters = own c.args.start.now.incoming.now in
-    let learners = own c.args.start.now.learners.now in
+    let voters = own c.start.inside.incoming.now in
+    let learners = own c.start.inside.learners.now in
     let all = union voters learners in
-    IfOk-weaker c.filtered.result (λ shared. own shared ≡ ids_where (is_shared target) (ascending (own c.in_ok-members.members))) _
+    rw (← c.start.view_is) (IfOk-weaker c.filtered.result (λ shared. own shared ≡ ids_where (is_shared target) (ascending (own c.in_ok-members.members))) _
     (λ shared is.
     is ∙ ap (λ s. ids_where (is_shared target) (ascending s)) c.in_ok-members.ensures
     ∙ has-same_ids _ _ (λ q.
@@ -26,4 +26,4 @@ returns g c =
       is_member-single_with voters learners q,
       has-shared_members (single_with voters learners) target q,
     )))
-    (c.filtered.ensures (is_shared target) (λ id answer given. search rules))
+    (c.filtered.ensures (is_shared target) (λ id answer given. search rules)))

@@ -1,5 +1,7 @@
-use Rattle.std.proofs.Common.{[], ap, ◌∙◌}
-use Rattle.std.specs.Prelude.{option_and_then}
+use Rattle.std.proofs.Common.{[], ap, cond, ◌∙◌}
+use Rattle.std.specs.Prelude.{None, option_and_then}
+use Rattle.std.proofs.lemmas.Str.{is_utf8-from_IsUtf8}
+use Rattle.serde_json.specs.Read.{read}
 use Rattle.conf_change.specs.ConfState.{lists_of}
 use Rattle.conf_change.specs.ConfStateLine.{conf_state_text}
 use Rattle.conf_change.specs.Text.{config_text}
@@ -36,7 +38,7 @@ returns-clause-printed c = λ configuration valid small.
 
 pub returns-clause-json : goal.returns-clause-json
 returns-clause-json c = λ configuration text valid utf8 is.
-    returns-clause-current c Json text (lists_of configuration) (utf8, ap (option_and_then saved_of_json) is ∙ c.conf_state_json_reads_back.ensures (lists_of configuration))
+    returns-clause-current c Json text (lists_of configuration) (ap (option_and_then saved_of_json) (ap (λ b. cond b (read text) None) (is_utf8-from_IsUtf8 text utf8) ∙ is) ∙ c.conf_state_json_reads_back.ensures (lists_of configuration))
     ∙ ap (as_text text) ((c.valid_is_described.ensures (lists_of configuration) configuration).1 (c.conf_state_describes.ensures.own configuration, valid))
 
 pub returns-clause-line : goal.returns-clause-line

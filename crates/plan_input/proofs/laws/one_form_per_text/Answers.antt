@@ -17,7 +17,7 @@ returns-clause-changes c = form-changes
 
 one : ((text : List ℕ) (a b : ConfStateLists) → DenotesConfState text a → DenotesConfState text b → a ≡ b) → ((text : List ℕ) (a b : ConfStateLists) → DenotesConfig text a → DenotesConfig text b → a ≡ b) →
     (form : Form) (text : List ℕ) (a b : ConfStateLists) → DenotesIn form text a → DenotesIn form text b → a ≡ b
-one lines printed Json text a b first second = let same = sym first.1 ∙ second.1 in cc
+one lines printed Json text a b first second = let same = sym first ∙ second in cc
 one lines printed ConfStateLine text a b first second = lines text a b first second
 one lines printed Printed text a b first second = printed text a b first second
 one lines printed Other text a b first second = absurd first

@@ -4,4 +4,4 @@ use Rattle.plan_input.proofs.ValidTargets.{after_changes-valid}
 use Rattle.plan_input.proofs.reading.target_of.Goals as goal
 
 pub returns-in-Ok-clause-valid : goal.returns-in-Ok-clause-valid
-returns-in-Ok-clause-valid g c = ap is_valid c.in-Ok.ensures ∙ after_changes-valid c.args.now.now c.args.changes.now c.requires
+returns-in-Ok-clause-valid c = ap is_valid c.in-Ok.ensures ∙ after_changes-valid c.args.now.now c.args.changes.now c.requires

@@ -4,14 +4,14 @@ use Rattle.plan_input.proofs.Refusals.{first_from-here, first_from-later}
 use Rattle.plan_input.proofs.refusal.first_refusal.Goals as goal
 
 pub returns-then-is_some : goal.returns-then-is_some
-returns-then-is_some g c =
+returns-then-is_some c =
     let n = length c.args.changes.now in
     let k = c.loop-position.position in
     sym (c.loop-position.invariant
     ∙ first_from-here (refusal_at c.args.now.now c.args.changes.now) k (n - k) (n - (k + 1)) _ (omega (arith, c.loop-position-test.true)) c.refusal_at-why.ensures (sym c.is_some.ensures ∙ c.if-is_some.true))
 
 pub loop-position-preserved : goal.loop-position-preserved
-loop-position-preserved g c =
+loop-position-preserved c =
     let n = length c.args.changes.now in
     let k = c.loop-position.position in
     c.loop-position.invariant

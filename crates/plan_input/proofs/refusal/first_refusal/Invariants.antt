@@ -5,4 +5,4 @@ use Rattle.plan_input.proofs.refusal.first_refusal.Given as goal
 
 -- no change before the position is refused
 abbrev pub invariant-loop-position : goal.invariant-loop-position
-invariant-loop-position g l = first_refusal l.now l.changes ≡ first_from (refusal_at l.now l.changes) l.position (length l.changes - l.position)
+invariant-loop-position l = first_refusal l.now l.changes ≡ first_from (refusal_at l.now l.changes) l.position (length l.changes - l.position)

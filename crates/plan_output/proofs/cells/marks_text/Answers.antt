@@ -3,13 +3,9 @@ use Rattle.std.proofs.lemmas.Grind.{common_steps}
 use Rattle.std.proofs.lemmas.Option.{gets}
 use Rattle.plan_output.specs.Names.{name_by}
 use Rattle.plan_output.specs.Table.{mark, flush_right}
-use Rattle.plan_output.proofs.JoinedTexts.{join-one_more}
+use Rattle.ascii_text.proofs.Offered.{join-one_more}
 use Rattle.plan_output.proofs.cells.marks_text.Goals as goal
-use Rattle.plan_output.proofs.cells.marks_text.Goals.{in-Some+in_ok-append_gap+in_ok-append_mark, in_default}
 
 pub loop-index-preserved : goal.loop-index-preserved
-loop-index-preserved g c = elim c.match-at.branch [
-  | in-Some+in_ok-append_gap+in_ok-append_mark w ↦
-      grind (arith, common_steps, gets, join-one_more (λ id. flush_right (length (name_by c.args.names.now id)) (mark c.args.config.now id)))
-  | in_default w ↦ grind (arith, gets)
-]
+loop-index-preserved c =
+    grind (arith, common_steps, gets, join-one_more (λ id. flush_right (length (name_by c.args.names.now id)) (mark c.args.config.now id)))

@@ -1,24 +1,31 @@
 use Rattle.std.proofs.Common.{◌+◌, ◌++◌, length, sym, ap, ◌∙◌, arith}
-use Rattle.std.specs.Prelude.{option_copied, option_map}
+use Rattle.std.specs.Prelude.{option_copied}
 use Rattle.std.proofs.lemmas.List.{append-nil, drop_all}
 use Rattle.plan_output.specs.Stages.{first_stage}
 use Rattle.serde_json.specs.Written.{has_float}
-use Rattle.plan_output.proofs.JsonLines.{has_float-no_steps_json, lines, lines-all, lines-next}
+use Rattle.serde_json.proofs.Views.{view-Object}
+use Rattle.plan_output.specs.Json.{value_line}
+use Rattle.plan_output.proofs.JsonLines.{has_float-no_steps_json, has_float-step_json, lines, lines-all, lines-next}
 use Rattle.plan_output.proofs.json.lines_of.Goals as goal
 
 pub add_line-requires : goal.add_line-requires
-add_line-requires g c =
-    ap has_float c.in_ok-value.ensures ∙ has_float-no_steps_json (option_map g.S.MemberSet.ids (option_copied c.args.down)) c.args.stalls c.args.plan
+add_line-requires c =
+    ap has_float (view-Object _ ∙ c.in_ok-members.ensures) ∙ has_float-no_steps_json (option_copied c.args.down) c.args.stalls c.args.plan
+
+pub add_line-requires-in-loop-index : goal.add_line-requires-in-loop-index
+add_line-requires-in-loop-index c =
+    ap has_float (view-Object _ ∙ c.in_ok-members-2.ensures)
+    ∙ has_float-step_json (option_copied c.args.down) c.args.stalls c.args.plan (length c.as_slice-steps.result.now) (c.loop-index.index + 1) c.loop-index.before c.index-steps-index.result c.in_ok-after.after
 
 pub loop-index-preserved : goal.loop-index-preserved
-loop-index-preserved g c =
+loop-index-preserved c =
     let steps = c.as_slice-steps.result.now in
-    lines-next (option_map g.S.MemberSet.ids (option_copied c.args.down)) c.args.stalls c.args.plan (length steps) c.loop-index.index c.loop-index.before c.index-steps-index.result
-    c.in_ok-after.after steps c.loop-index.lines.items _ c.loop-index-test.true c.index-steps-index.is c.in_ok-after.ensures c.in_ok-add_step.ensures ∙ c.loop-index.invariant
+    lines-next (option_copied c.args.down) c.args.stalls c.args.plan (length steps) c.loop-index.index c.loop-index.before c.index-steps-index.result
+    c.in_ok-after.after steps c.loop-index.lines.items _ c.loop-index-test.true c.index-steps-index.is c.in_ok-after.ensures (c.in_ok-add_line-2.ensures.ok ∙ ap (λ d. c.loop-index.lines.items ++ value_line d) (view-Object _ ∙ c.in_ok-members-2.ensures)) ∙ c.loop-index.invariant
 
 pub returns : goal.returns
-returns g c =
-    let down = option_map g.S.MemberSet.ids (option_copied c.args.down) in
+returns c =
+    let down = option_copied c.args.down in
     let steps = c.as_slice-steps.result.now in
     let text = c.loop-index.lines.items in
     sym (append-nil text)

@@ -3,4 +3,4 @@ use Rattle.plan_output.specs.Stages as spec
 use Rattle.plan_output.proofs.stage.some_stalls.Given as goal
 
 abbrev pub invariant-loop-stage : goal.invariant-loop-stage
-invariant-loop-stage g l = spec.some_stalls (take l.stage-index l.stages) (g.S.MemberSet.ids l.down) ≡ false
+invariant-loop-stage l = spec.some_stalls (take l.stage-index l.stages) l.down ≡ false

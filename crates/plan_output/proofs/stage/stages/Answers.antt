@@ -5,7 +5,7 @@ use Rattle.plan_output.proofs.StagesOnTheWay.{stages_after-next}
 use Rattle.plan_output.proofs.stage.stages.Goals as goal
 
 pub loop-step-preserved : goal.loop-step-preserved
-loop-step-preserved g c =
+loop-step-preserved c =
     let steps = c.as_slice-step-items.result.now in
     let i = c.loop-step.step-index in
     let step = c.step-item.result in
@@ -16,7 +16,7 @@ loop-step-preserved g c =
     ∙ stages_after-next c.loop-step.stages.items last next step (drop i steps) (drop (i + 1) steps) first c.in_ok-next.ensures ∙ c.loop-step.invariant
 
 pub returns : goal.returns
-returns g c =
+returns c =
     let steps = c.as_slice-step-items.result.now in
     c.in_ok-push-2.ensures.items
     ∙ ap (λ more. c.loop-step.stages.items ++ c.loop-step.last ∷ spec.stages_after c.loop-step.last.config more) (sym (drop_all c.loop-step.step-index steps c.loop-step-test.false))

@@ -3,4 +3,4 @@ use Rattle.plan_output.specs.Table as spec
 use Rattle.plan_output.proofs.table.ids_on_the_way.Given as goal
 
 abbrev pub invariant-loop-stage : goal.invariant-loop-stage
-invariant-loop-stage g l = g.S.MemberSet.ids l.ids ≡ spec.ids_on_the_way (take l.stage-index l.stages)
+invariant-loop-stage l = l.ids ≡ spec.ids_on_the_way (take l.stage-index l.stages)

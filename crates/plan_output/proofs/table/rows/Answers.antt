@@ -1,17 +1,16 @@
 use Rattle.std.proofs.Common.{◌+◌, [], ◌∷◌, ◌++◌, drop, sym, ap, ◌∙◌}
-use Rattle.std.specs.Prelude.{option_map, option_copied}
+use Rattle.std.specs.Prelude.{option_copied}
 use Rattle.std.proofs.lemmas.List.{append-nil, drop_all}
-use Rattle.quorum_sets.specs.Ids.{ascending}
 use Rattle.plan_output.specs.Names.{name_by}
 use Rattle.plan_output.specs.Table.{row, rows_of}
 use Rattle.plan_output.proofs.TableRows.{rows_of-next}
 use Rattle.plan_output.proofs.table.rows.Goals as goal
 
 pub loop-index-preserved : goal.loop-index-preserved
-loop-index-preserved g c =
+loop-index-preserved c =
     let name = name_by c.args.names.now in
-    let ids = ascending (g.S.MemberSet.ids c.args.ids.now) in
-    let down = option_map g.S.MemberSet.ids (option_copied c.args.down) in
+    let ids = c.args.ids.now in
+    let down = option_copied c.args.down in
     let path = c.args.path.now in
     let all = c.args.stages.now in
     let i = c.loop-index.index in
@@ -23,10 +22,10 @@ loop-index-preserved g c =
     ∙ rows_of-next name ids down path i here all so_far c.loop-index-test.true c.index-stages-index.is ∙ c.loop-index.invariant
 
 pub returns : goal.returns
-returns g c =
+returns c =
     let name = name_by c.args.names.now in
-    let ids = ascending (g.S.MemberSet.ids c.args.ids.now) in
-    let down = option_map g.S.MemberSet.ids (option_copied c.args.down) in
+    let ids = c.args.ids.now in
+    let down = option_copied c.args.down in
     let path = c.args.path.now in
     let all = c.args.stages.now in
     let rows = c.loop-index.rows.items in

@@ -1,5 +1,5 @@
 use Rattle.std.proofs.Common.{◌++◌, ap, ◌∙◌}
-use Rattle.std.specs.Prelude.{option_map, option_copied}
+use Rattle.std.specs.Prelude.{option_copied}
 use Rattle.quorum_sets.specs.Ids.{ascending}
 use Rattle.plan_output.specs.Grid.{grid_text}
 use Rattle.plan_output.specs.Names.{denoted_text, name_by}
@@ -8,13 +8,14 @@ use Rattle.plan_output.specs.Table.{stage_rows}
 use Rattle.plan_output.proofs.table.table_of.Goals as goal
 
 pub returns : goal.returns
-returns g c =
-    let down = option_map g.S.MemberSet.ids (option_copied c.args.down) in
+returns c =
+    let down = option_copied c.args.down in
     let stages = c.args.stages.now in
     let path = c.args.path.now in
-    let ids = ascending (g.S.MemberSet.ids c.in_ok-ids.ids) in
+    let ids = c.as_slice-ids.result.now in
     let rows = c.in_ok-table.ensures ∙ ap grid_text (c.as_slice.ensures.value ∙ c.in_ok-rows.ensures) in
     let denoted = c.as_slice-2.ensures.value ∙ c.in_ok-denoted_text.ensures in
     c.in_ok-append.ensures.ok ∙ (λ k. rows k ++ denoted k)
     ∙ ap (λ numbered. grid_text (stage_rows (name_by numbered) ids stages path down) ++ denoted_text numbered) c.in_ok-names.ensures
-    ∙ ap (λ set. spec.table_of (ascending set) stages path down) c.in_ok-ids.ensures
+    ∙ ap (λ ids. spec.table_of ids stages path down) c.as_slice-ids.ensures.ids
+    ∙ ap (λ set. spec.table_of (ascending set) stages path down) c.in_ok-members.ensures

@@ -5,7 +5,7 @@ use Rattle.conf_change.specs.Configuration.{voters_of}
 use Rattle.plan_output.proofs.stage.Stage.may_be_down_besides.Goals as goal
 
 pub returns-clause-counted : goal.returns-clause-counted
-returns-clause-counted g c = c.most_down.ensures.counted ∙ ap (may_be_down (voters_of c.args.self.now.config)) (c.in_ok-away.ensures ∙ ap (union (g.S.MemberSet.ids c.args.down.now)) c.catching_up.ensures)
+returns-clause-counted c = c.most_down.ensures.counted ∙ ap (may_be_down (voters_of c.args.self.now.config)) (c.in_ok-uncounted.ensures ∙ ap (union c.args.down.now) c.catching_up.ensures)
 
 pub returns-clause-most : goal.returns-clause-most
-returns-clause-most g c = subst (λ uncounted. IsMostDown (voters_of c.args.self.now.config) uncounted c.most_down.result) (c.in_ok-away.ensures ∙ ap (union (g.S.MemberSet.ids c.args.down.now)) c.catching_up.ensures) c.most_down.ensures.most
+returns-clause-most c = subst (λ uncounted. IsMostDown (voters_of c.args.self.now.config) uncounted c.most_down.result) (c.in_ok-uncounted.ensures ∙ ap (union c.args.down.now) c.catching_up.ensures) c.most_down.ensures.most

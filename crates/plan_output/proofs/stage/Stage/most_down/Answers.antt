@@ -6,11 +6,11 @@ use Rattle.plan_output.specs.Stages.{StageState}
 use Rattle.plan_output.proofs.stage.Stage.most_down.Goals as goal
 
 pub returns-clause-counted : goal.returns-clause-counted
-returns-clause-counted g c =
+returns-clause-counted c =
     c.may_be_down.ensures.counted
-    ∙ ap (λ voters. tolerance.may_be_down voters (g.S.MemberSet.ids c.args.uncounted.now)) (ap voters_of c.config.view_is ∙ ap (λ (s : StageState). voters_of s.config) c.self.view_is)
+    ∙ ap (λ voters. tolerance.may_be_down voters c.args.uncounted.now) (ap voters_of c.config.view_is ∙ ap (λ (s : StageState). voters_of s.config) c.self.view_is)
 
 pub returns-clause-most : goal.returns-clause-most
-returns-clause-most g c =
-    subst (λ voters. IsMostDown voters (g.S.MemberSet.ids c.args.uncounted.now) c.may_be_down.result)
+returns-clause-most c =
+    subst (λ voters. IsMostDown voters c.args.uncounted.now c.may_be_down.result)
     (ap voters_of c.config.view_is ∙ ap (λ (s : StageState). voters_of s.config) c.self.view_is) c.may_be_down.ensures.most
