@@ -1,17 +1,17 @@
--- How the texts of replies grow, and that what is found can stand.
-use Rattle.std.proofs.Common.{◌≡◌, ℕ, zero, suc, ◌+◌, List, [], ◌∷◌, ◌++◌, take, sym, ap, ◌∙◌, subst, add-one}
-use Rattle.std.specs.Prelude.{Some, Result, Ok, Err, IfOk, OnOk, flat_map, slice_get}
+-- How the texts of replies grow, and whose reply it is.
+use Rattle.std.proofs.Common.{◌≡◌, ℕ, zero, suc, ◌+◌, List, [], ◌∷◌, ◌++◌, take, sym, ap, ◌∙◌, add-one}
+use Rattle.std.specs.Prelude.{Some, Result, Ok, Err, OnOk, flat_map, slice_get}
 use Rattle.std.proofs.lemmas.List.{append_assoc, append-nil}
 use Rattle.conf_change.specs.Configuration.{Configuration}
-use Rattle.conf_change.specs.ChangerState.{ChangerState}
 use Rattle.conf_change.specs.Text.{config_text, progress_text}
 use Rattle.conf_change.specs.TrackerState.{TrackerState}
 use Rattle.ascii_text.specs.Lines.{newline}
 use Rattle.conf_change.specs.declared.progress.Progress.{Progress}
 use Rattle.conf_session.specs.ReplyTexts.{line, member_line, member_lines, tracker_text}
-use Rattle.conf_session.specs.ReplyLines.{IsValidOutput}
-use Rattle.conf_session.specs.Reply.{Reply, reply_in}
-use Rattle.conf_session.specs.declared.session_update.SessionUpdate.{SessionUpdate}
+use Rattle.conf_session.specs.Commands.{Row, row_of, row_with, reply_by, reply_to}
+use Rattle.conf_session.specs.SessionState.{SessionState}
+use Rattle.dd_file.specs.DirectiveLine.{ArgumentText}
+use Rattle.dd_file.specs.DirectiveText.{DirectiveText}
 
 flat_map-suc : {X : Type 0} (f : X → List ℕ) (xs : List X) (i : ℕ) (x : X) → slice_get xs i ≡ Some x → flat_map f (take (suc i) xs) ≡ flat_map f (take i xs) ++ f x
 flat_map-suc f [] i x e = cc
@@ -28,10 +28,11 @@ members-one_more old now new members i id p at so_far more =
     more ∙ ap (λ t. t ++ member_line (id, p)) so_far ∙ append_assoc old (flat_map member_line (take i members)) (member_line (id, p))
     ∙ ap (λ t. old ++ t) (sym (flat_map-prefix member_line members i (id, p) at))
 
--- what is found can stand, where it can for the reply
-pub reply-valid_output : {E : Type 0} (r : Result SessionUpdate E) (changer next : ChangerState) (text : List ℕ) {a b : Reply} → a ≡ b → IsValidOutput b.actual → IfOk r (λ update. reply_in changer next text update ≡ a) → OnOk r (IsValidOutput text)
-reply-valid_output (Ok update) changer next text e holds h = let P : Reply → Type 0 = λ x. IsValidOutput x.actual in subst P (sym (h ∙ e)) holds
-reply-valid_output (Err fault) changer next text e holds h = tt
+-- the reply of the row of a directive's command is the reply to the directive
+pub reply-of_row : (session : SessionState) (directive : DirectiveText) (row : Row) (name input : List ℕ) (arguments : List ArgumentText) → name ≡ directive.command → row.command ≡ (row_of name).command → row.input ≡ (row_of name).input →
+    row.parameters ≡ (row_of name).parameters → input ≡ directive.input → arguments ≡ directive.arguments → reply_by row session input arguments ≡ reply_to session directive
+reply-of_row session directive row name input arguments named command kind parameters read given =
+    (λ i. reply_by (row_with (command i) (kind i) (parameters i)) session (read i) (given i)) ∙ ap (λ n. reply_by (row_of n) session directive.input directive.arguments) named
 
 -- a configuration, a newline and the members after a text
 pub tracker-appended : {E : Type 0} (r : Result (Unit {0}) E) (old one two new : List ℕ) (tracker : TrackerState) (config : Configuration) → config ≡ tracker.config →

@@ -7,6 +7,5 @@ mod RepliesInLines
 mod InputLines
 mod SameAnswer
 mod Kept
-mod IndexRows
 mod QuorumValues
 mod ReadValues

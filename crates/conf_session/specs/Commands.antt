@@ -41,22 +41,27 @@ pub record Row : Type 0 where
 
 -- a row with these parts
 abbrev pub row_with : Command → InputKind → Option (List Parameter) → Row
-row_with command input parameters = record { command = command; input = input; parameters = parameters }
+row_with command input parameters =
+    record { command = command; input = input; parameters = parameters }
 
 -- the table of commands: the row of a name
 abbrev pub row_of : List ℕ → Row
 row_of name =
     if bytes_eq name (codes "simple") then row_with Simple Changes None
-    else (if bytes_eq name (codes "enter-joint") then row_with EnterJoint Changes (Some (AutoLeave ∷ []))
+    else (if bytes_eq name (codes "enter-joint")
+    then row_with EnterJoint Changes (Some (AutoLeave ∷ []))
     else (if bytes_eq name (codes "leave-joint") then row_with LeaveJoint NoChange None
-    else (if bytes_eq name (codes "conf-change") then row_with ConfChange Changes (Some (TransitionAsked ∷ []))
+    else (if bytes_eq name (codes "conf-change")
+    then row_with ConfChange Changes (Some (TransitionAsked ∷ []))
     else (if bytes_eq name (codes "conf-state") then row_with ConfState Nothing (Some [])
     else (if bytes_eq name (codes "restore") then row_with Restore ConfStateLine (Some [])
     else (if bytes_eq name (codes "undo") then row_with Undo Nothing (Some (Steps ∷ []))
     else (if bytes_eq name (codes "ack") then row_with Ack Nothing (Some (Id ∷ Index ∷ []))
     else (if bytes_eq name (codes "commit-index") then row_with CommitIndex Nothing (Some [])
-    else (if bytes_eq name (codes "committed") then row_with Committed Nothing (Some (Incoming ∷ Outgoing ∷ Indexes ∷ []))
-    else (if bytes_eq name (codes "vote") then row_with Vote Nothing (Some (Incoming ∷ Outgoing ∷ Votes ∷ []))
+    else (if bytes_eq name (codes "committed")
+    then row_with Committed Nothing (Some (Incoming ∷ Outgoing ∷ Indexes ∷ []))
+    else (if bytes_eq name (codes "vote")
+    then row_with Vote Nothing (Some (Incoming ∷ Outgoing ∷ Votes ∷ []))
     else row_with Unknown Changes None))))))))))
 
 -- the reply to a change: the configuration after it, or why it is refused
@@ -71,7 +76,8 @@ reply_to_step changer step = step_reply (changer_after changer step)
 -- the reply to `restore`: the restored configuration, or that the saved lists describe none
 abbrev pub restore_reply : ChangerState → Option Configuration → Reply
 restore_reply changer None = replied_line (codes "not a configuration")
-restore_reply changer (Some c) = restored_with (begun_with changer.tracker.floor changer.last_index c)
+restore_reply changer (Some c) =
+    restored_with (begun_with changer.tracker.floor changer.last_index c)
 
 -- the reply to `undo` with this plan, or with the reason why there is none
 abbrev pub undo_reply : SessionState → ℕ → Result (List Step) UndoFault → Reply
@@ -99,14 +105,18 @@ committed_by tracker = joint_committed_index (voters_of tracker.config) (matches
 -- the reply of a command to its input and the values of its arguments
 abbrev pub reply_of : Command → SessionState → Input → Values → Reply
 reply_of Simple session input values = reply_to_step session.changer (SimpleStep input.changes)
-reply_of EnterJoint session input values = reply_to_step session.changer (EnterStep values.auto_leave input.changes)
+reply_of EnterJoint session input values =
+    reply_to_step session.changer (EnterStep values.auto_leave input.changes)
 reply_of LeaveJoint session input values = reply_to_step session.changer LeaveStep
-reply_of ConfChange session input values = reply_to_step session.changer (step_for values.transition input.changes)
-reply_of ConfState session input values = replied_line (conf_state_text (lists_of session.changer.tracker.config))
+reply_of ConfChange session input values =
+    reply_to_step session.changer (step_for values.transition input.changes)
+reply_of ConfState session input values =
+    replied_line (conf_state_text (lists_of session.changer.tracker.config))
 reply_of Restore session input values = restore_reply session.changer (restored input.saved)
 reply_of Undo session input values = undo_last session values.steps
 reply_of Ack session input values = reply_to_ack session.changer values.id values.index
-reply_of CommitIndex session input values = replied_line (index_text (committed_by session.changer.tracker))
+reply_of CommitIndex session input values =
+    replied_line (index_text (committed_by session.changer.tracker))
 reply_of Committed session input values = replied_line (committed_reply values)
 reply_of Vote session input values = replied_line (vote_reply values)
 reply_of Unknown session input values = replied_line (codes "unknown command")
@@ -119,11 +129,13 @@ if_read reply (Err actual) = replied actual
 -- the reply of a row: the input is read first, then the arguments, and then the command is run
 abbrev pub reply_by : Row → SessionState → List ℕ → List ArgumentText → Reply
 reply_by row session text arguments =
-    if_read (λ input. if_read (λ values. reply_of row.command session input values) (read_arguments row.parameters arguments)) (read_input row.input text)
+    if_read (λ input. if_read (λ values. reply_of row.command session input values)
+    (read_arguments row.parameters arguments)) (read_input row.input text)
 
 -- the reply to a directive
 abbrev pub reply_to : SessionState → DirectiveText → Reply
-reply_to session directive = reply_by (row_of directive.command) session directive.input directive.arguments
+reply_to session directive =
+    reply_by (row_of directive.command) session directive.input directive.arguments
 
 -- the output, and the session afterwards
 pub record Answer : Type 0 where
@@ -132,7 +144,8 @@ pub record Answer : Type 0 where
 
 -- the answer that a reply gives: its output, and the session after its update
 abbrev pub answered : SessionState → Reply → Answer
-answered session reply = record { actual = reply.actual; session = after_directive session reply.update }
+answered session reply =
+    record { actual = reply.actual; session = after_directive session reply.update }
 
 -- The answer to a directive. A refused one changes only the last index.
 abbrev pub answer : SessionState → DirectiveText → Answer
@@ -141,4 +154,5 @@ answer session directive = answered session (reply_to session directive)
 -- the session after the answers to some directives in turn
 abbrev pub after_answers : SessionState → List DirectiveText → SessionState
 after_answers session [] = session
-after_answers session (directive ∷ directives) = after_answers (answer session directive).session directives
+after_answers session (directive ∷ directives) =
+    after_answers (answer session directive).session directives

@@ -16,7 +16,13 @@ pub record Input : Type 0 where
 
 -- no saved configuration
 abbrev pub nothing_saved : ConfStateLists
-nothing_saved = record { voters = []; voters_outgoing = []; learners = []; learners_next = []; auto_leave = false }
+nothing_saved = record {
+  voters = [];
+  voters_outgoing = [];
+  learners = [];
+  learners_next = [];
+  auto_leave = false;
+}
 
 -- an input of changes
 abbrev pub of_changes : List Change → Input

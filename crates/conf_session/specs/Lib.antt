@@ -1,12 +1,10 @@
 pub mod ReplyTexts
-pub mod History
 pub mod SessionState
 pub mod Parameter
 pub mod Arguments
 pub mod Values
 pub mod Reading
 pub mod Input
-pub mod IdIndex
 pub mod Quorum
 pub mod Reply
 pub mod Undo

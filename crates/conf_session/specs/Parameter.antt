@@ -34,7 +34,8 @@ has_only value (first ∷ second ∷ values) = false
 
 -- the flag that the only value denotes
 abbrev pub flag_in : List (List ℕ) → Option Bool
-flag_in values = if has_only (codes "true") values then Some true else (if has_only (codes "false") values then Some false else None)
+flag_in values = if has_only (codes "true") values then Some true
+    else (if has_only (codes "false") values then Some false else None)
 
 -- the transition that the only value denotes
 abbrev pub transition_in : List (List ℕ) → Option HowApplied
@@ -64,13 +65,15 @@ is_unknown value = bytes_eq value (codes "_")
 
 -- the acknowledged index that a value denotes, at least 1, or None inside if it is unknown
 abbrev pub index_in : List ℕ → Option (Option ℕ)
-index_in value = if is_unknown value then Some None else option_map (λ index. Some index) (id_in value)
+index_in value =
+    if is_unknown value then Some None else option_map (λ index. Some index) (id_in value)
 
 -- the vote that a value denotes, or None inside if it is unknown
 abbrev pub vote_in : List ℕ → Option (Option Bool)
 vote_in value =
     if bytes_eq value (codes "y") then Some (Some true)
-    else (if bytes_eq value (codes "n") then Some (Some false) else (if is_unknown value then Some None else None))
+    else (if bytes_eq value (codes "n") then Some (Some false)
+    else (if is_unknown value then Some None else None))
 
 -- each value is valid
 abbrev pub all_read : {V : Type 0} → (List ℕ → Option V) → List (List ℕ) → Bool

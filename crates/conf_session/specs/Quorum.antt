@@ -1,5 +1,5 @@
 -- The quorum that the arguments of a command name, and the values of its ids.
-use Rattle.std.specs.Prelude.{ℕ, Bool, not, ◌==◌, List, [], ◌∷◌, ◌++◌, length, filter, Option, Some, None, codes, decimal, nat_eq, if◌then◌else◌}
+use Rattle.std.specs.Prelude.{ℕ, Bool, not, ◌==◌, List, [], ◌∷◌, ◌++◌, length, filter, map, Option, Some, None, unwrap_or, codes, decimal, nat_eq, if◌then◌else◌}
 use Rattle.std.specs.Ordering.{nat_cmp}
 use Rattle.std.specs.FinMap as finite
 use Rattle.quorum_sets.specs.Ids.{ascending, union, ids_of}
@@ -14,7 +14,8 @@ use Rattle.conf_session.specs.declared.values_by_id.ValuesById.{ValuesById}
 
 -- the incoming and the outgoing voters that the arguments name
 abbrev pub voters_named : Values → Voters
-voters_named values = record { incoming = ids_of values.incoming; outgoing = ids_of values.outgoing }
+voters_named values =
+    record { incoming = ids_of values.incoming; outgoing = ids_of values.outgoing }
 
 -- each id once, in the order of first occurrence
 abbrev pub each_once : List ℕ → List ℕ
@@ -26,7 +27,8 @@ abbrev pub ids_named : Values → List ℕ
 ids_named values = each_once (values.incoming ++ values.outgoing)
 
 -- the map with the value of one more id, or without the id if its value is unknown
-abbrev pub with_value : {V : Type 0} → finite.FinMap nat_cmp V → ℕ → Option V → finite.FinMap nat_cmp V
+abbrev pub with_value : {V : Type 0} → finite.FinMap nat_cmp V → ℕ → Option V
+    → finite.FinMap nat_cmp V
 with_value map id None = finite.remove map id
 with_value map id (Some value) = finite.insert map id value
 
@@ -36,9 +38,13 @@ values_by_id [] values = finite.empty
 values_by_id (id ∷ ids) [] = finite.empty
 values_by_id (id ∷ ids) (value ∷ values) = with_value (values_by_id ids values) id value
 
+-- the values of a list of which each id has one
+abbrev pub known : {V : Type 0} → List (Option (Option V)) → List (Option V)
+known values = map (λ value. unwrap_or value None) values
+
 -- the map that the code's lists denote
 abbrev pub map_of : {V : Type 0} → ValuesById V → finite.FinMap nat_cmp V
-map_of by_id = values_by_id by_id.ids by_id.values.now
+map_of by_id = values_by_id by_id.ids.items (known by_id.values.items)
 
 -- there are as many values as ids
 abbrev pub is_one_each : {V : Type 0} → List ℕ → List (Option V) → Bool
@@ -51,7 +57,8 @@ index_text index = if nat_eq index greatest_index then 226 ∷ 136 ∷ 158 ∷ [
 -- the chart of all ids of a pair of sets, and the index that it commits
 abbrev pub committed_text : Voters → Acks → List ℕ
 committed_text voters acks =
-    chart_text (ascending (union voters.incoming voters.outgoing)) acks ++ index_text (joint_committed_index voters acks)
+    chart_text (ascending (union voters.incoming voters.outgoing)) acks
+    ++ index_text (joint_committed_index voters acks)
 
 -- the result of a vote
 abbrev pub vote_text : VoteResult → List ℕ
@@ -71,9 +78,12 @@ with_one_each ids values text = if is_one_each ids values then text else wrong_n
 -- `committed`: the chart and the committed index of the named quorum
 abbrev pub committed_reply : Values → List ℕ
 committed_reply values =
-    with_one_each (ids_named values) values.indexes (committed_text (voters_named values) (values_by_id (ids_named values) values.indexes))
+    with_one_each (ids_named values) values.indexes
+    (committed_text (voters_named values) (values_by_id (ids_named values) values.indexes))
 
 -- `vote`: the result of the vote of the named quorum
 abbrev pub vote_reply : Values → List ℕ
 vote_reply values =
-    with_one_each (ids_named values) values.votes (vote_text (joint_vote_result (voters_named values) (values_by_id (ids_named values) values.votes)))
+    with_one_each (ids_named values) values.votes
+    (vote_text (joint_vote_result (voters_named values)
+    (values_by_id (ids_named values) values.votes)))

@@ -17,19 +17,23 @@ pub record Reply : Type 0 where
 
 -- the changer after an acknowledgement; unchanged if it is refused
 abbrev pub after_acknowledgement : ChangerState → ℕ → ℕ → ChangerState
-after_acknowledgement changer id index = unwrap_or (option_map (changer_with_progress changer id) (result_ok (ack_answer changer.tracker id index))) changer
+after_acknowledgement changer id index = unwrap_or
+    (option_map (changer_with_progress changer id)
+    (result_ok (ack_answer changer.tracker id index))) changer
 
 -- how an update changes a session that has this changer, where `next` is the next one
 abbrev pub session_change : ChangerState → ChangerState → SessionUpdate → SessionChange
 session_change changer next update.Nothing = Nothing
-session_change changer next (update.Acknowledged id index) = Acknowledged (after_acknowledgement changer id index)
+session_change changer next (update.Acknowledged id index) =
+    Acknowledged (after_acknowledgement changer id index)
 session_change changer next update.Stepped = Stepped next
 session_change changer next update.Restored = Restored next
 session_change changer next (update.Undone count) = Undone next count
 
 -- the reply that an output and an update denote
 abbrev pub reply_in : ChangerState → ChangerState → List ℕ → SessionUpdate → Reply
-reply_in changer next actual update = record { actual = actual; update = session_change changer next update }
+reply_in changer next actual update =
+    record { actual = actual; update = session_change changer next update }
 
 -- an output after which the session is unchanged
 abbrev pub replied : List ℕ → Reply
@@ -49,4 +53,5 @@ restored_with after = record { actual = tracker_text after.tracker; update = Res
 
 -- an acknowledged index, with the progress of its member
 abbrev pub acknowledged_by : ChangerState → ℕ → Progress → Reply
-acknowledged_by after id p = record { actual = line (progress_text id p); update = Acknowledged after }
+acknowledged_by after id p =
+    record { actual = line (progress_text id p); update = Acknowledged after }

@@ -15,15 +15,20 @@ pub record SessionState : Type 0 where
   pub history : ℕ
   pub kept : List Configuration
 
+-- the session with these parts
+abbrev pub session_with : ChangerState → ℕ → List Configuration → SessionState
+session_with changer history kept = record { changer = changer; history = history; kept = kept }
+
 -- a session as its three parts, the form in which the model of a type is stored
 abbrev pub session_code : Coded SessionState
 session_code =
-    code_by (ChangerState × (ℕ × List Configuration)) (coded× changer_code (coded× coded_ℕ (coded_list configuration_code)))
-    (λ s. (s.changer, (s.history, s.kept))) (λ p. record { changer = p.0; history = p.1.0; kept = p.1.1 }) (λ _. refl)
+    code_by (ChangerState × (ℕ × List Configuration))
+    (coded× changer_code (coded× coded_ℕ (coded_list configuration_code)))
+    (λ s. (s.changer, (s.history, s.kept))) (λ p. session_with p.0 p.1.0 p.1.1) (λ _. refl)
 
 -- the session before its first directive: an empty configuration, last index 0, and nothing kept
 abbrev pub new_session : ℕ → Floor → SessionState
-new_session history floor = record { changer = new_changer floor 0; history = history; kept = [] }
+new_session history floor = session_with (new_changer floor 0) history []
 
 -- the current configuration
 abbrev pub current : SessionState → Configuration
@@ -64,7 +69,11 @@ index_after index = min (index + 1) (2 ^ 64 - 1)
 abbrev pub after_directive : SessionState → SessionChange → SessionState
 after_directive session update =
     let left = changer_afterwards session update in
-    record { changer = with_last_index left (index_after left.last_index); history = session.history; kept = kept_afterwards session update }
+    record {
+      changer = with_last_index left (index_after left.last_index);
+      history = session.history;
+      kept = kept_afterwards session update;
+    }
 
 -- ---- what holds of every session
 -- one accepted step leads from the one configuration to the other

@@ -15,7 +15,8 @@ use Rattle.conf_session.specs.declared.undo_fault.UndoFault.TheVariants.{NotKept
 -- the plan to an earlier configuration, if it is kept
 abbrev pub plan_back : SessionState → Option Configuration → Result (List Step) UndoFault
 plan_back session None = Err (NotKept (length session.kept))
-plan_back session (Some older) = if has_voter older then Ok (planned (current session) older) else Err NoVoterTarget
+plan_back session (Some older) =
+    if has_voter older then Ok (planned (current session) older) else Err NoVoterTarget
 
 -- the plan that undoes the last `count` changes, one at least: to the configuration before them
 abbrev pub undo_plan_of : SessionState → ℕ → Result (List Step) UndoFault
@@ -23,7 +24,8 @@ undo_plan_of session count = plan_back session (slice_get session.kept (count - 
 
 -- the message of an error; `undo_plan_of` never gives `NoMemory`, which is an error of the code alone
 abbrev pub undo_fault_text : UndoFault → List ℕ
-undo_fault_text (NotKept kept) = codes "no plan: " ++ decimal kept ++ codes " earlier configurations are kept"
+undo_fault_text (NotKept kept) =
+    codes "no plan: " ++ decimal kept ++ codes " earlier configurations are kept"
 undo_fault_text NoVoterTarget = codes "no plan: the earlier configuration has no voter"
 undo_fault_text NoMemory = codes "out of memory"
 
@@ -34,7 +36,8 @@ undone_changer session steps = unwrap_or (after_steps session.changer steps) ses
 -- the reply to `undo` with the changer after it: the text of the plan and of that changer; the configurations before
 -- the undone changes are no longer kept
 abbrev pub undone_by : ChangerState → ℕ → List Step → Reply
-undone_by after count steps = record { actual = plan_text steps ++ tracker_text after.tracker; update = Undone after count }
+undone_by after count steps =
+    record { actual = plan_text steps ++ tracker_text after.tracker; update = Undone after count }
 
 -- the reply to `undo` whose plan has these steps
 abbrev pub undone : SessionState → ℕ → List Step → Reply

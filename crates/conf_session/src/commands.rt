@@ -2,9 +2,8 @@
 //! directive's input is read first, then its arguments, and then the command is run. So errors of input and arguments
 //! are reported in one place, and a command gets valid values. A command does not change the session: the update is
 //! part of its reply.
-ghost use Rattle.std.specs.Prelude.{◌≡◌, ◌≤◌, [], option_map, IfOk, OnOk};
+ghost use Rattle.std.specs.Prelude.{◌≡◌, ◌≤◌, [], option_map, IfOk};
 ghost use Rattle.conf_session.specs.Reply.{reply_in};
-ghost use Rattle.conf_session.specs.ReplyLines.{IsValidOutput};
 ghost use Rattle.conf_session.specs.Commands as spec;
 
 mod ack;
@@ -15,7 +14,6 @@ mod undo;
 
 use crate::buffers::Buffers;
 use crate::input::{Input, InputKind};
-use crate::laws::actual_output_is_valid;
 use crate::parameter::Parameter;
 use crate::reply_texts::{append_conf_state, append_line};
 use crate::session_ids::SessionIds;
@@ -23,7 +21,7 @@ use crate::session_update::SessionUpdate;
 use crate::state::State;
 use crate::values::Values;
 use conf_change::{Changer, StepKind, taken};
-use dd_file::item::{Argument, Directive};
+use dd_file::item::Argument;
 use quorum_sets::NoMemory;
 
 /// The command of a directive. `Simple`, `EnterJoint` and `LeaveJoint` are the changes of etcd's package `confchange`.
@@ -52,10 +50,10 @@ pub(crate) enum Command {
     Unknown,
 }
 
-// A command, the kind of its input, and its parameters, in the order in which missing arguments are reported. They are
-// `None` if the arguments are ignored.
+/// A command, the kind of its input, and its parameters, in the order in which missing arguments are reported. They are
+/// `None` if the arguments are ignored.
 #[derive(Drop)]
-struct Row {
+pub(crate) struct Row {
     command: Command,
     input: InputKind,
     parameters: Option<&'static [Parameter]>,
@@ -77,11 +75,12 @@ impl Row {
     }
 }
 
-// The table of commands: the row of a name.
-fn row_of(name: &[u8]) -> Row
+/// The table of commands: the row of a name.
+pub(crate) fn row_of(name: &[u8]) -> Row
     ensures command { result.command ≡ (spec.row_of name.now).command }
     ensures input { result.input ≡ (spec.row_of name.now).input }
-    ensures parameters { option_map (λ p. p.now) result.parameters ≡ (spec.row_of name.now).parameters }
+    ensures parameters { option_map (λ p. p.now) result.parameters
+        ≡ (spec.row_of name.now).parameters }
 {
     if name == b"simple".as_slice() {
         Row::new(Command::Simple, InputKind::Changes, None)
@@ -130,33 +129,9 @@ fn row_of(name: &[u8]) -> Row
     }
 }
 
-/// Runs a directive, and prints its output. If its update replaces the changer, the new one is `next` in the buffers
-/// afterwards.
-pub(crate) fn run_directive(
-    text: &mut Vec<u8>,
-    session: &State,
-    buffers: &mut Buffers,
-    directive: &Directive,
-) -> Result<SessionUpdate, NoMemory>
-    requires { text.old.items ≡ [] }
-    ensures reply { IfOk result (λ update. reply_in session.now.changer buffers.new.next text.new.items update
-        ≡ spec.reply_to session.now directive.now) }
-    ensures valid_output { OnOk result (IsValidOutput text.new.items) }
-{
-    actual_output_is_valid();
-    let row = row_of(directive.command());
-    run_row(
-        text,
-        session,
-        buffers,
-        &row,
-        directive.input(),
-        directive.arguments(),
-    )
-}
-
-// Reads the input and the arguments that the row names, and runs its command, or reports the first error.
-fn run_row(
+/// Reads the input and the arguments that the row names, and runs its command, or reports the first error. If the update
+/// replaces the changer, the new one is `next` in the buffers afterwards.
+pub(crate) fn run(
     text: &mut Vec<u8>,
     session: &State,
     buffers: &mut Buffers,
@@ -165,15 +140,17 @@ fn run_row(
     arguments: &[Argument],
 ) -> Result<SessionUpdate, NoMemory>
     requires { text.old.items ≡ [] }
-    ensures { IfOk result (λ update. reply_in session.now.changer buffers.new.next text.new.items update
-        ≡ spec.reply_by (spec.row_with row.now.command row.now.input (option_map (λ p. p.now) row.now.parameters)) session.now input.now arguments.now) }
+    ensures { IfOk result (λ update.
+        reply_in session.now.changer buffers.new.next text.new.items update
+        ≡ spec.reply_by
+        (spec.row_with row.now.command row.now.input (option_map
+        (λ p. p.now) row.now.parameters))
+        session.now input.now arguments.now) }
 {
-    if !buffers.input.read(text, row.input, input)? {
-        return Ok(SessionUpdate::Nothing);
-    }
-    if !buffers
-        .values
-        .read_arguments(text, row.parameters, arguments)?
+    if !buffers.input.read(text, row.input, input)?
+        || !buffers
+            .values
+            .read_arguments(text, row.parameters, arguments)?
     {
         return Ok(SessionUpdate::Nothing);
     }
@@ -212,7 +189,7 @@ fn run_command(
             let kind = taken(values.transition, changes);
             return step::run(text, changer, next, kind, changes);
         }
-        Command::ConfState => append_conf_state(text, session.current())?,
+        Command::ConfState => append_conf_state(text, changer.tracker().config())?,
         Command::Restore => return restore::run(text, changer, next, &input.saved),
         Command::Undo => return undo::run(text, session, next, values.steps as usize),
         Command::Ack => return ack::run(text, changer, values.id, values.index),

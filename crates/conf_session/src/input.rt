@@ -1,6 +1,6 @@
 //! The input of a directive: the lines between the directive line and the separator. It is read before the arguments,
 //! so a command that takes no input reports an input before a bad argument.
-ghost use Rattle.std.specs.Prelude.{◌≡◌, [], IfOk, OnOk};
+ghost use Rattle.std.specs.Prelude.{◌≡◌, [], IfOk, OnOk, if◌then◌else◌};
 ghost use Rattle.conf_session.specs.Input as spec;
 ghost use Rattle.conf_session.specs.Reading.{IsRead};
 
@@ -58,16 +58,22 @@ impl Input {
         text: &[u8],
     ) -> Result<bool, NoMemory>
         requires { reply.old.items ≡ [] }
-        ensures { IfOk result (λ valid. IsRead (spec.read_input kind text.now) valid self.new reply.new.items) }
+        ensures { IfOk result (λ valid.
+            IsRead (spec.read_input kind text.now) valid self.new reply.new.items) }
     {
         let alloc = *self.changes.allocator();
         self.changes.clear();
         self.saved = empty_conf_state(alloc);
         match kind {
             InputKind::Changes => read_change_list(reply, &mut self.changes, text),
-            InputKind::NoChange => read_no_change(reply, &mut self.changes, text),
+            InputKind::NoChange => {
+                Ok(
+                    read_change_list(reply, &mut self.changes, text)?
+                        && is_none(reply, self.changes.is_empty())?,
+                )
+            }
             InputKind::ConfStateLine => read_saved(reply, &mut self.saved, text),
-            InputKind::Nothing => read_nothing(reply, text),
+            InputKind::Nothing => is_none(reply, text.is_empty()),
         }
     }
 }
@@ -92,7 +98,8 @@ fn read_change_list(
     text: &[u8],
 ) -> Result<bool, NoMemory>
     requires { reply.old.items ≡ [] }
-    ensures { IfOk result (λ valid. IsRead (spec.read_input InputKind.Changes text.now) valid (spec.of_changes changes.new.items) reply.new.items) }
+    ensures { IfOk result (λ valid. IsRead (spec.read_input InputKind.Changes text.now) valid
+        (spec.of_changes changes.new.items) reply.new.items) }
 {
     match read_changes_into(changes, text) {
         Ok(()) => Ok(true),
@@ -104,27 +111,11 @@ fn read_change_list(
     }
 }
 
-// Reads a list of changes that must be empty.
-fn read_no_change(
-    reply: &mut Vec<u8>,
-    changes: &mut Vec<Change>,
-    text: &[u8],
-) -> Result<bool, NoMemory>
-    requires { reply.old.items ≡ [] }
-    ensures { IfOk result (λ valid. IsRead (spec.read_input InputKind.NoChange text.now) valid (spec.of_changes changes.new.items) reply.new.items) }
-{
-    let valid = read_change_list(reply, changes, text)?;
-    if valid && !changes.is_empty() {
-        append_no_input(reply)?;
-        return Ok(false);
-    }
-    Ok(valid)
-}
-
 // Reads a ConfState line. `restore` checks whether it describes a configuration.
 fn read_saved(reply: &mut Vec<u8>, saved: &mut ConfState, text: &[u8]) -> Result<bool, NoMemory>
     requires { reply.old.items ≡ [] }
-    ensures { IfOk result (λ valid. IsRead (spec.read_input InputKind.ConfStateLine text.now) valid (record { changes = []; saved = saved.new }) reply.new.items) }
+    ensures { IfOk result (λ valid. IsRead (spec.read_input InputKind.ConfStateLine text.now) valid
+        (record { changes = []; saved = saved.new }) reply.new.items) }
 {
     match read_conf_state(*reply.allocator(), text) {
         Ok(read) => {
@@ -139,23 +130,14 @@ fn read_saved(reply: &mut Vec<u8>, saved: &mut ConfState, text: &[u8]) -> Result
     }
 }
 
-// Accepts only an empty input.
-fn read_nothing(reply: &mut Vec<u8>, text: &[u8]) -> Result<bool, NoMemory>
+// Whether there is no input, for a command that takes none. Appends the error if there is one.
+fn is_none(reply: &mut Vec<u8>, is_empty: bool) -> Result<bool, NoMemory>
     requires { reply.old.items ≡ [] }
-    ensures { IfOk result (λ valid. IsRead (spec.read_input InputKind.Nothing text.now) valid (spec.of_changes []) reply.new.items) }
+    ensures valid { IfOk result (λ valid. valid ≡ is_empty) }
+    ensures reply { OnOk result (reply.new.items ≡ (if is_empty then [] else spec.no_input_line)) }
 {
-    if text.is_empty() {
-        Ok(true)
-    } else {
-        append_no_input(reply)?;
-        Ok(false)
+    if !is_empty {
+        append_line(reply, b"this command takes no input", b"")?;
     }
-}
-
-// Appends the error of a command that takes no input but has one.
-fn append_no_input(reply: &mut Vec<u8>) -> Result<(), NoMemory>
-    requires { reply.old.items ≡ [] }
-    ensures { OnOk result (reply.new.items ≡ spec.no_input_line) }
-{
-    append_line(reply, b"this command takes no input", b"")
+    Ok(is_empty)
 }

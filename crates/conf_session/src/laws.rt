@@ -20,7 +20,8 @@ use conf_plan::laws::{one_changer_after_steps, undo_of_run};
 /// The reply to a directive is a valid output: whole lines, one at least, none of which is blank, is four dashes or
 /// ends in a carriage return.
 pub fn actual_output_is_valid()
-    ensures { (session : SessionState) (directive : DirectiveText) → has_keys directive.arguments ≡ true
+    ensures { (session : SessionState) (directive : DirectiveText)
+        → has_keys directive.arguments ≡ true
         → IsValidOutput (answer session directive).actual }
 {
     one_list_per_text();
@@ -29,7 +30,8 @@ pub fn actual_output_is_valid()
 /// The kept configurations of a session are those before its last accepted changes: `count` accepted steps lead from
 /// the one at index `count - 1` to the current one, which has a voter.
 pub fn kept_lead_to_now()
-    ensures { (session : SessionState) (count : ℕ) (older : Configuration) → IsSession session → 1 ≤ count
+    ensures { (session : SessionState) (count : ℕ) (older : Configuration)
+        → IsSession session → 1 ≤ count
         → slice_get session.kept (count - 1) ≡ Some older → IsEarlier session count older }
 {
     trackers_stay_sound();
@@ -62,7 +64,8 @@ pub fn answers_keep_session()
 
 /// The plan that undoes the last changes of a session leads back to the configuration before them.
 pub fn undo_plan_leads_back()
-    ensures { (session : SessionState) (count : ℕ) (steps : List Step) → IsSession session → 1 ≤ count
+    ensures { (session : SessionState) (count : ℕ) (steps : List Step)
+        → IsSession session → 1 ≤ count
         → undo_plan_of session count ≡ Ok steps → LeadsBack session count steps }
 {
     kept_lead_to_now();
@@ -72,7 +75,8 @@ pub fn undo_plan_leads_back()
 /// Whatever changes were accepted, the plan that undoes the last ones restores the voters, learners, next learners and
 /// the flag as they were before them, if there was a voter then.
 pub fn undo_brings_back()
-    ensures { (session : SessionState) (count : ℕ) (older : Configuration) → IsSession session → 1 ≤ count
+    ensures { (session : SessionState) (count : ℕ) (older : Configuration)
+        → IsSession session → 1 ≤ count
         → slice_get session.kept (count - 1) ≡ Some older → has_voter older ≡ true
         → (undone_changer session (planned (current session) older)).tracker.config ≡ older }
 {

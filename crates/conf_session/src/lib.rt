@@ -29,12 +29,9 @@
 mod arguments;
 mod buffers;
 mod commands;
-mod history;
-mod id_index;
 mod input;
 pub mod laws;
 mod parameter;
-mod quorum;
 mod reply_texts;
 pub mod session;
 pub mod session_ids;

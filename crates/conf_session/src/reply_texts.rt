@@ -3,23 +3,20 @@
 //! command takes no input` and the errors of tokens (but for `bad number`) come from etcd's tests; the other errors are
 //! own.
 ghost use Rattle.std.specs.Prelude.{◌≡◌, ◌≢◌, ◌++◌, OnOk, IsSomeAnd};
-ghost use Rattle.quorum_sets.specs.Voters.{pair};
 ghost use Rattle.conf_change.specs.ChangeList.{bad_token};
 ghost use Rattle.conf_change.specs.ConfState.{lists_of};
 ghost use Rattle.conf_change.specs.Text.{refused_text, progress_text, bad_token_text};
 ghost use Rattle.conf_change.specs.ConfStateLine.{conf_state_text};
-ghost use Rattle.conf_session.specs.Quorum.{map_of, index_text, committed_text, vote_text};
-ghost use Rattle.quorum_sets.specs.Votes.{joint_vote_result};
+ghost use Rattle.conf_session.specs.Quorum.{index_text};
 ghost use Rattle.conf_session.specs.ReplyTexts.{line, member_lines, tracker_text};
 
 use crate::session_ids::SessionIds;
-use crate::values_by_id::ValuesById;
 use ascii_text::append::append_number;
 use conf_change::{
     Config, Progress, Refused, TokenFault, Tracker, conf_state, write_conf_state, write_config,
     write_progress, write_refused, write_token_fault,
 };
-use quorum_sets::{NoMemory, VoteResult, joint_chart, joint_committed, joint_vote};
+use quorum_sets::NoMemory;
 
 // Ends a line.
 fn end_line(text: &mut Vec<u8>) -> Result<(), NoMemory>
@@ -61,7 +58,8 @@ pub(crate) fn append_conf_state(
     text: &mut Vec<u8>,
     config: &Config<SessionIds>,
 ) -> Result<(), NoMemory>
-    ensures { OnOk result (text.new.items ≡ text.old.items ++ line (conf_state_text (lists_of config.now))) }
+    ensures { OnOk result (text.new.items ≡ text.old.items
+        ++ line (conf_state_text (lists_of config.now))) }
 {
     let state = conf_state(*text.allocator(), config)?;
     write_conf_state(text, &state)?;
@@ -79,47 +77,6 @@ pub(crate) fn append_index(text: &mut Vec<u8>, index: u64) -> Result<(), NoMemor
         append_number(text, index)?;
     }
     end_line(text)
-}
-
-/// Appends the chart of the ids of both sets, a line for each, and then the index that they commit.
-pub(crate) fn append_committed(
-    text: &mut Vec<u8>,
-    incoming: &SessionIds,
-    outgoing: &SessionIds,
-    acks: &ValuesById<u64>,
-) -> Result<(), NoMemory>
-    ensures { OnOk result (text.new.items
-        ≡ text.old.items ++ line (committed_text (pair incoming.now outgoing.now) (map_of acks.now))) }
-{
-    joint_chart(text, incoming, outgoing, acks)?;
-    append_index(
-        text,
-        joint_committed(*text.allocator(), incoming, outgoing, acks)?,
-    )
-}
-
-/// Appends the result of the vote of both sets.
-pub(crate) fn append_vote(
-    text: &mut Vec<u8>,
-    incoming: &SessionIds,
-    outgoing: &SessionIds,
-    votes: &ValuesById<bool>,
-) -> Result<(), NoMemory>
-    ensures { OnOk result (text.new.items
-        ≡ text.old.items ++ line (vote_text (joint_vote_result (pair incoming.now outgoing.now) (map_of votes.now)))) }
-{
-    append_line(text, b"", vote_name(joint_vote(incoming, outgoing, votes)))
-}
-
-// The name of a result in etcd's package `quorum`.
-fn vote_name(vote: VoteResult) -> &'static [u8]
-    ensures { result.now ≡ vote_text vote }
-{
-    match vote {
-        VoteResult::VotePending => b"VotePending",
-        VoteResult::VoteLost => b"VoteLost",
-        VoteResult::VoteWon => b"VoteWon",
-    }
 }
 
 /// Appends a configuration, then a line for each member with its progress: what an accepted change prints.

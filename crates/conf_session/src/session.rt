@@ -13,8 +13,8 @@ ghost use Rattle.conf_session.specs.ReplyLines.{IsValidOutput};
 ghost use Rattle.conf_session.specs.declared.undo_fault.UndoFault.{UndoFault as WhyNot};
 
 use crate::buffers::Buffers;
-use crate::commands::run_directive;
-use crate::laws::{answer_keeps_session, undo_plan_leads_back};
+use crate::commands::{row_of, run};
+use crate::laws::{actual_output_is_valid, answer_keeps_session, undo_plan_leads_back};
 use crate::session_ids::SessionIds;
 use crate::state::State;
 use crate::undo_fault::UndoFault;
@@ -26,7 +26,7 @@ use std::alloc::Global;
 use std::marker::Model;
 
 // How many bytes an output usually has at most.
-const USUAL_OUTPUT: usize = 256;
+const USUAL_OUTPUT: usize = 512;
 
 /// A configuration with the progress of its members, on which directives act, and the configurations from before its
 /// last accepted changes. A session runs one script, as etcd's tests make one `Changer` for each script file.
@@ -74,6 +74,7 @@ impl Session {
         ensures sound { IsSound self.now.changer.tracker }
         ensures session { IsSession self.now }
     {
+        self.state.is_session();
         self.state.changer()
     }
 
@@ -82,7 +83,8 @@ impl Session {
         ensures kept { result ≡ length self.now.kept }
         ensures few { result ≤ self.now.history }
     {
-        self.state.kept()
+        self.state.is_session();
+        self.state.kept.len()
     }
 
     /// The configuration before an accepted change. The one before the last change is at index 0.
@@ -104,7 +106,8 @@ impl Session {
         ensures refused { (fault : WhyNot) → fault ≢ UndoFault.NoMemory
             → ((result ≡ Err fault) ↔ (undo_plan_of self.now count ≡ Err fault)) }
         ensures back { IfOk result (LeadsBack self.now count) }
-        ensures best { IfOk result (λ plan. (older : Configuration) → slice_get self.now.kept (count - 1) ≡ Some older
+        ensures best { IfOk result (λ plan. (older : Configuration)
+            → slice_get self.now.kept (count - 1) ≡ Some older
             → IsBest (current self.now) plan older) }
     {
         self.state.is_session();
@@ -115,15 +118,27 @@ impl Session {
     /// Runs a directive and returns its output, which a script expects below the separator. The last index rises by one
     /// after each directive, refused ones too, as in etcd's tests; that it rises after a question too is own.
     pub fn step(&mut self, directive: &Directive) -> Result<Vec<u8>, NoMemory>
-        ensures actual { IfOk result (λ actual. actual.items ≡ (answer self.old directive.now).actual) }
+        ensures actual { IfOk result (λ actual. actual.items
+            ≡ (answer self.old directive.now).actual) }
         ensures valid_output { IfOk result (λ actual. IsValidOutput actual.items) }
         ensures session { OnOk result (self.new ≡ (answer self.old directive.now).session) }
         ensures unchanged { OnErr result (self.new ≡ self.old) }
     {
         self.state.is_session();
         answer_keeps_session();
+        actual_output_is_valid();
         let mut actual = Vec::with_capacity(self.alloc, USUAL_OUTPUT)?;
-        let update = run_directive(&mut actual, &self.state, &mut self.buffers, directive)?;
+        let row = row_of(directive.command());
+        let input = directive.input();
+        let arguments = directive.arguments();
+        let update = run(
+            &mut actual,
+            &self.state,
+            &mut self.buffers,
+            &row,
+            input,
+            arguments,
+        )?;
         self.state.apply(update, &mut self.buffers.next);
         Ok(actual)
     }

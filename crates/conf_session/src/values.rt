@@ -89,7 +89,9 @@ impl Values {
         arguments: &[Argument],
     ) -> Result<bool, NoMemory>
         requires { reply.old.items ≡ [] }
-        ensures { IfOk result (λ valid. IsRead (spec.read_arguments (option_map (λ p. p.now) parameters.entry) arguments.now) valid self.new reply.new.items) }
+        ensures { IfOk result (λ valid. IsRead
+            (spec.read_arguments (option_map (λ p. p.now) parameters.entry) arguments.now)
+            valid self.new reply.new.items) }
     {
         self.clear();
         let Some(parameters) = parameters else {
@@ -129,7 +131,8 @@ impl Values {
         arguments: &'a [Argument],
     ) -> Result<Option<&'a [u8]>, NoMemory>
         requires { self.old ≡ spec.values_in [] }
-        ensures bad { IfOk result (λ bad. option_map (λ key. key.now) bad ≡ bad_argument parameters.now arguments.now) }
+        ensures bad { IfOk result (λ bad. option_map (λ key. key.now) bad
+            ≡ bad_argument parameters.now arguments.now) }
         ensures values { IfOk result (λ bad. bad ≡ None → self.new ≡ spec.values_in arguments.now) }
     {
         for (index, argument) in arguments.iter().enumerate() {

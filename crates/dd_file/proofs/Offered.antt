@@ -5,6 +5,6 @@ pub use Rattle.dd_file.proofs.Rewriting.KnownBytes.{append-part, appends-append,
 pub use Rattle.dd_file.proofs.Rewriting.PartByPart.{begun-more, breaks-first, breaks-second, continues-append}
 pub use Rattle.dd_file.proofs.TextLines.CutAgain.{IsOutputOf, full_lines-output, has_blank_line-lines, text_of-end}
 pub use Rattle.dd_file.proofs.TextLines.EqualButReturns.{lines-ends}
-pub use Rattle.dd_file.proofs.TextLines.LastNewlines.{double_end-after, double_end-pushed, ends_with-append}
-pub use Rattle.dd_file.proofs.ScriptGrammar.CallAfterCall.{agrees-in_turn, consumes-append, script_from-followed}
+pub use Rattle.dd_file.proofs.TextLines.LastNewlines.{double_end-after, double_end-pushed, ends_with-append, rest-more}
+pub use Rattle.dd_file.proofs.ScriptGrammar.CallAfterCall.{AgreesInTurn, agrees-in_turn, consumes-append, script_from-followed}
 pub use Rattle.dd_file.proofs.ScriptGrammar.GivenItems.{all-filter}

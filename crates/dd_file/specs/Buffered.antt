@@ -1,21 +1,13 @@
 -- Lines and items that are buffered, and so can be returned without a read.
-use Rattle.std.specs.Prelude.{◌≡◌, ◌≤◌, ◌<◌, ◌+◌, ◌-◌, ◌==◌, ◌++◌, ℕ, Bool, true, false, List, [], ◌∷◌, length, take, drop, map, filter, Option, Some, None, Result, ⊤}
+use Rattle.std.specs.Prelude.{◌≡◌, ◌≤◌, ◌<◌, ◌+◌, ◌-◌, ◌==◌, ◌++◌, ℕ, Bool, true, false, List, [], ◌∷◌, length, take, drop, map, filter, Option, None, ⊤}
 use Rattle.std.specs.List.{list_any}
 use Rattle.std.specs.Io.KnownBytes.{Consumes, IsAtEnd}
 use Rattle.ascii_text.specs.Lines.{first_len, full_lines, line_of, ends_in_newline}
-use Rattle.dd_file.specs.Position.{Position, longest_input, longest_lookahead}
-use Rattle.dd_file.specs.Script.{FirstItem, Ended, first_of}
-use Rattle.dd_file.specs.Grammar.{Next}
+use Rattle.dd_file.specs.Position.{longest_input, longest_lookahead}
+use Rattle.dd_file.specs.Script.{FirstItem, Ended}
 use Rattle.dd_file.specs.ReaderState.{ReaderState}
-use Rattle.dd_file.specs.Answer.{ReadsOn}
 use Rattle.dd_file.specs.declared.fault.FileFault.{FileFault}
 use Rattle.dd_file.specs.declared.fault.FileFault.TheVariants.{Read, NoMemory, Syntax, InputTooLong}
-
--- no error was returned, the end was not reached, and the buffered bytes do not exceed the limit
-pub record CanReadBuffered (state : ReaderState) : Type 0 where
-  pub faultless : state.fault ≡ None
-  pub unended : state.is_ended ≡ false
-  pub limit : state.position.bytes + length state.buffered ≤ longest_input
 
 -- the state after these lines and bytes of the buffer were returned
 abbrev pub passed : ReaderState → ℕ → ℕ → ReaderState
@@ -38,29 +30,22 @@ is_whole_text (b ∷ c ∷ bytes) = is_whole_text (c ∷ bytes)
 abbrev pub whole_lines : List ℕ → List (List ℕ)
 whole_lines bytes = map line_of (filter ends_in_newline (full_lines bytes))
 
--- a line is buffered if a newline is
-abbrev pub is_line_buffered : Position → List ℕ → Bool
-is_line_buffered position buffered = list_any ends_in_newline (full_lines buffered)
-
 -- whether no further line could change the first item
 abbrev pub is_ended : {A : Type 0} → FirstItem A → Bool
 is_ended (Ended result left) = true
 is_ended first = false
 
 -- whether what comes next is buffered: the buffered lines that end in a newline are enough to end it
-abbrev pub is_first_buffered : {A : Type 0} → (List (List ℕ) → FirstItem A) → Position → List ℕ → Bool
-is_first_buffered first position buffered = is_ended (first (whole_lines buffered))
+abbrev pub is_first_buffered : {A : Type 0} → (List (List ℕ) → FirstItem A) → List ℕ → Bool
+is_first_buffered first buffered = is_ended (first (whole_lines buffered))
 
--- whether an item or its error is buffered
-abbrev pub is_item_buffered : Position → List ℕ → Bool
-is_item_buffered = is_first_buffered first_of
-
--- A call that reads nothing: if the next item or line is buffered, it returns that; otherwise it returns `None`, and
--- nothing changes.
-abbrev pub BufferedReadsOn : {R A : Type 0} → (R → Option (List ℕ)) → (R → Bool) → (Position → List ℕ → Next A) → (Position → FileFault → Type 0) → (Position → List ℕ → Bool) →
-    ReaderState → ReaderState → R → Option (Result (Option A) FileFault) → Type 0
-BufferedReadsOn remaining has_failed next IsFault is_buffered old new reader None = (new ≡ old) × (CanReadBuffered old → is_buffered old.position old.buffered ≡ false)
-BufferedReadsOn remaining has_failed next IsFault is_buffered old new reader (Some answer) = ReadsOn remaining has_failed next IsFault old new reader reader answer
+-- What comes next is buffered: no error was returned, the end was not reached, and the buffered bytes are within the limit
+-- and enough.
+pub record IsFirstBuffered {A : Type 0} (first : List (List ℕ) → FirstItem A) (state : ReaderState) : Type 0 where
+  pub faultless : state.fault ≡ None
+  pub unended : state.is_ended ≡ false
+  pub limit : state.position.bytes + length state.buffered ≤ longest_input
+  pub enough : is_first_buffered first state.buffered ≡ true
 
 -- The bytes of one read were appended to the buffered ones. There were some, or the input has ended.
 pub record FilledBy (old new : List ℕ) (before after : Option (List ℕ)) (some : Bool) : Type 0 where

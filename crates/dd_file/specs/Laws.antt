@@ -1,28 +1,18 @@
--- Laws of scripts: what comes next in them, rewriting them, and joining them. The contracts of the module `laws` cite
--- these statements.
-use Rattle.std.specs.Prelude.{◌≡◌, ℕ, ◌+◌, ◌≤◌, Bool, true, false, not, ◌==◌, nat_lt, List, [], ◌∷◌, ◌++◌, length, map, flat_map, Option, Some, option_map, None, Result, Ok, Err, ⊤, if◌then◌else◌}
+-- Laws of scripts that are rewritten or joined. The contracts of the module `laws` cite these statements.
+use Rattle.std.specs.Prelude.{◌≡◌, ℕ, ◌+◌, ◌≤◌, Bool, true, false, not, ◌==◌, nat_lt, List, [], ◌∷◌, ◌++◌, length, map, flat_map, Some, option_map, None, Ok, ⊤, if◌then◌else◌}
 use Rattle.std.specs.List.{list_all, list_any}
 use Rattle.ascii_text.specs.Lines.{newline, lines_of}
 use Rattle.ascii_text.specs.WhiteSpace.{is_blank, trimmed, without_trailing_space}
 use Rattle.dd_file.specs.DirectiveText.{DirectiveText}
 use Rattle.dd_file.specs.DirectiveLine.{CommandText, command_of, has_keys}
-use Rattle.dd_file.specs.Script.{FirstItem, Ended, result_of, lines_left, first_of, at_line, directive, is_comment, is_continued, is_separator}
-use Rattle.dd_file.specs.Position.{Position, longest_input}
-use Rattle.dd_file.specs.Grammar.{followed, next_item, next_line, items_from, lines_from, script_of}
-use Rattle.dd_file.specs.Rewritten.{Entry, entry, entry_text, rewritten_text, is_output, is_directive, raw_lines_of}
+use Rattle.dd_file.specs.Script.{result_of, lines_left, first_of, at_line, directive, is_comment, is_continued, is_separator}
+use Rattle.dd_file.specs.Position.{longest_input}
+use Rattle.dd_file.specs.Grammar.{script_of}
+use Rattle.dd_file.specs.Rewritten.{Entry, entry, rewritten_text, is_output, is_directive, raw_lines_of}
 use Rattle.dd_file.specs.declared.item.Item.{Item}
 use Rattle.dd_file.specs.declared.item.Item.TheVariants.{Comment, Blank, Directive}
 use Rattle.dd_file.specs.declared.fault.FileFault.{FileFault}
 use Rattle.dd_file.specs.declared.fault.FileFault.TheVariants.{Syntax, InputTooLong}
-use Rattle.dd_file.specs.declared.fault.SyntaxFault.{SyntaxFault}
-
--- the items from a position on are none at the end, the next item and those after it, or an error
-abbrev pub ItemsByNext : Type 0
-ItemsByNext = (position : Position) (bytes : List ℕ) → items_from position bytes ≡ followed items_from (next_item longest_input position bytes)
-
--- the lines from a position on are none at the end, the next line and those after it, or an error
-abbrev pub LinesByNext : Type 0
-LinesByNext = (position : Position) (bytes : List ℕ) → lines_from position bytes ≡ followed lines_from (next_line longest_input position bytes)
 
 -- bytes without a newline
 abbrev pub is_line : List ℕ → Bool
@@ -48,14 +38,6 @@ abbrev pub IsSameItem : ℕ → List ℕ → Item → Item → Type 0
 IsSameItem n output (Comment lines) again = (others : List (List ℕ)) × (again ≡ Comment others) × SameButEnds others lines
 IsSameItem n output (Blank lines) again = (others : List (List ℕ)) × (again ≡ Blank others) × SameButEnds others lines
 IsSameItem n output (Directive directive) again = (other : DirectiveText) × (again ≡ Directive other) × IsSameDirective n output directive other
-
--- An item of a script that is written with an actual output is read back as that item, whatever lines follow, and those
--- lines are left.
-abbrev pub WrittenItem : Type 0
-WrittenItem =
-    (n m : ℕ) (lines more : List (List ℕ)) (item : Item) (output : List ℕ) →
-    list_all is_line lines ≡ true → is_output output ≡ true → result_of (first_of lines) ≡ Some (Ok item) →
-    (again : Item) × (first_of (lines_of (entry_text (at_line n item) output) ++ more) ≡ Ended (Ok again) more) × IsSameItem m output (at_line n item) (at_line m again)
 
 -- The entries are read back item by item, each with its actual output as the expected one. A blank of one empty line at
 -- the end may be missing.
@@ -129,21 +111,6 @@ pub data IsComplete : List (List ℕ) → Type 0 where
   Done : IsComplete []
   More : (lines : List (List ℕ)) (item : Item) → result_of (first_of lines) ≡ Some (Ok item) → has_separator item (length (lines_left (first_of lines))) (length lines) ≡ true →
       IsComplete (lines_left (first_of lines)) → IsComplete lines
-
--- Complete by a first item and the lines that are left: there is no error, a directive has its separator, and the lines
--- after the item are complete.
-abbrev pub IsCompleteWith : List (List ℕ) → List (List ℕ) → Option (Result Item SyntaxFault) → Type 0
-IsCompleteWith lines left None = ⊤
-IsCompleteWith lines left (Some (Ok item)) = (has_separator item (length left) (length lines) ≡ true) × IsComplete left
-IsCompleteWith lines left (Some (Err fault)) = ⊥
-
--- complete by the first item of the lines, if there is one
-abbrev pub IsCompleteBy : List (List ℕ) → FirstItem Item → Type 0
-IsCompleteBy lines first = IsCompleteWith lines (lines_left first) (result_of first)
-
--- lines are complete exactly when they are complete by their first item
-abbrev pub CompleteByFirst : Type 0
-CompleteByFirst = (lines : List (List ℕ)) → (IsComplete lines → IsCompleteBy lines (first_of lines)) × (IsCompleteBy lines (first_of lines) → IsComplete lines)
 
 -- a directive as it is with this many lines before it
 abbrev pub moved : ℕ → DirectiveText → DirectiveText

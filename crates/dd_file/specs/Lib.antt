@@ -16,6 +16,5 @@ pub mod Device
 pub mod Laws
 pub mod Wrapped
 pub mod Gathered
-pub mod InTurn
 pub mod LineEnds
 pub mod ArgumentValues

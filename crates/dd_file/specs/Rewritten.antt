@@ -78,3 +78,13 @@ rewritten_text entries = without_double_end (flat_map (λ entry. entry_text entr
 -- how many newlines a text ends in: 0, 1, or 2 for two or more
 abbrev pub newlines_at_end : List ℕ → ℕ
 newlines_at_end text = if ends_with nat_eq text (newline ++ newline) then 2 else (if ends_with nat_eq text newline then 1 else 0)
+
+-- the newline that is pending after a text that ends in this many: it is written once more text follows
+abbrev pub pending_newline : ℕ → List ℕ
+pending_newline newlines = if newlines == 0 then [] else newline
+
+-- What is left to write of a script whose text so far ends in this many newlines, the last of which is pending: at the
+-- end that newline, if it is the only one.
+abbrev pub rest_of_script : ℕ → List ℕ → List ℕ
+rest_of_script newlines [] = if newlines == 1 then newline else []
+rest_of_script newlines (byte ∷ rest) = without_double_end (pending_newline newlines ++ byte ∷ rest)

@@ -49,12 +49,15 @@ impl<W: Sink> Blocks<W> {
 
     /// Writes the block to the writer and empties it. The writer itself may still buffer the bytes.
     fn flush_block(&mut self) -> Result<(), DeviceFault>
-        ensures bytes { Keeps (⟦<Blocks<W> as Sink>⟧.contents self.old) (⟦<Blocks<W> as Sink>⟧.contents self.new) }
+        ensures bytes { Keeps (⟦<Blocks<W> as Sink>⟧.contents self.old)
+            (⟦<Blocks<W> as Sink>⟧.contents self.new) }
         ensures ok { OnOk result (NothingBuffered self.new) }
-        ensures part { AppendsPart (W.contents (buffered_writer self.old)) (W.contents (buffered_writer self.new))
+        ensures part { AppendsPart (W.contents (buffered_writer self.old))
+            (W.contents (buffered_writer self.new))
             (buffered_output self.old) }
         ensures room { OnOk result (vec_len self.new.block ≡ 0) }
-        ensures again { W.has_failed (buffered_writer self.old) ≡ true → IsErr result × (self.new ≡ self.old) }
+        ensures again { W.has_failed (buffered_writer self.old) ≡ true → IsErr result
+            × (self.new ≡ self.old) }
         ensures failed { W.has_failed (buffered_writer self.new)
             ≡ (W.has_failed (buffered_writer self.old) || is_err result) }
     {
@@ -97,13 +100,16 @@ impl<W: Sink> Blocks<W> {
 
     /// Writes the buffered bytes to the writer. It fails if the writer fails, or has failed before.
     pub fn flush(&mut self) -> Result<(), WriteFault>
-        ensures bytes { Keeps (⟦<Blocks<W> as Sink>⟧.contents self.old) (⟦<Blocks<W> as Sink>⟧.contents self.new) }
+        ensures bytes { Keeps (⟦<Blocks<W> as Sink>⟧.contents self.old)
+            (⟦<Blocks<W> as Sink>⟧.contents self.new) }
         ensures ok { OnOk result (NothingBuffered self.new) }
         // The writer got a prefix of the bytes that were buffered.
-        ensures part { AppendsPart (W.contents (buffered_writer self.old)) (W.contents (buffered_writer self.new))
+        ensures part { AppendsPart (W.contents (buffered_writer self.old))
+            (W.contents (buffered_writer self.new))
             (buffered_output self.old) }
         // An error is permanent, and the writer is not called again.
-        ensures again { W.has_failed (buffered_writer self.old) ≡ true → IsErr result × (self.new ≡ self.old) }
+        ensures again { W.has_failed (buffered_writer self.old) ≡ true → IsErr result
+            × (self.new ≡ self.old) }
         // The writer has failed exactly when it had failed before, or an error is returned.
         ensures failed { W.has_failed (buffered_writer self.new)
             ≡ (W.has_failed (buffered_writer self.old) || is_err result) }
@@ -117,7 +123,8 @@ impl<W: Sink> Blocks<W> {
     /// The writer. Bytes that are still buffered are lost: call `flush` first.
     pub fn into_inner(self) -> W
         ensures writer { result ≡ buffered_writer self }
-        ensures part { Appends (W.contents result) (⟦<Blocks<W> as Sink>⟧.contents self) (buffered_output self) }
+        ensures part { Appends (W.contents result) (⟦<Blocks<W> as Sink>⟧.contents self)
+            (buffered_output self) }
     {
         let Blocks {
             writer,

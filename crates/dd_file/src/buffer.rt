@@ -20,7 +20,6 @@ const LOOKAHEAD: usize = 4096;
 /// The bytes that were read from a source and not yet returned. They grow while an item is read.
 #[derive(Drop)]
 pub(crate) struct Buffer {
-    alloc: Global,
     bytes: Vec<u8>,
     start: usize,
     /// What one read returns.
@@ -42,7 +41,6 @@ impl Buffer {
         ensures { IfOk result (λ buffer. buffer ≡ []) }
     {
         Ok(Buffer {
-            alloc,
             bytes: Vec::new(alloc),
             start: 0,
             block: vec![in alloc; 0; LOOKAHEAD]?,
@@ -66,12 +64,15 @@ impl Buffer {
     /// Reads once, and appends the bytes to the buffered ones. Returns whether there were any; if not, the input has
     /// ended.
     pub(crate) fn fill<R: Source>(&mut self, reader: &mut R) -> Result<bool, FileFault>
-        ensures filled { IfOk result (FilledBy self.old self.new (R.remaining reader.old) (R.remaining reader.new)) }
+        ensures filled { IfOk result (FilledBy self.old self.new (R.remaining reader.old)
+            (R.remaining reader.new)) }
         ensures interrupted { IfErr result IsInterruption }
-        ensures lost { OnErr result (LosesPrefix (R.remaining reader.old) (R.remaining reader.new)) }
-        ensures failed { R.has_failed reader.new ≡ (R.has_failed reader.old || is_read_fault result) }
+        ensures lost { OnErr result (LosesPrefix (R.remaining reader.old)
+            (R.remaining reader.new)) }
+        ensures failed { R.has_failed reader.new
+            ≡ (R.has_failed reader.old || is_read_fault result) }
     {
-        self.drop_returned().map_err(|_| FileFault::NoMemory)?;
+        self.drop_returned();
         let count = reader
             .read(self.block.as_mut_slice())
             .map_err(|_| FileFault::Read)?;
@@ -82,15 +83,15 @@ impl Buffer {
         Ok(count > 0)
     }
 
-    /// Frees the memory of the bytes that were returned.
-    fn drop_returned(&mut self) -> Result<(), AllocError>
+    /// Drops the bytes that were returned, and moves what is buffered to the front.
+    fn drop_returned(&mut self)
         ensures { self.new ≡ self.old }
     {
         if self.start > 0 {
-            let buffered = self.bytes.as_slice().split_at(self.start).1;
-            self.bytes = Vec::from_slice(self.alloc, buffered)?;
+            let count = self.bytes.len() - self.start;
+            self.bytes.as_mut_slice().copy_within(self.start.., 0);
+            self.bytes.truncate(count);
             self.start = 0;
         }
-        Ok(())
     }
 }

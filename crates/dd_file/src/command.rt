@@ -49,7 +49,8 @@ impl Command {
 
 /// Parses a text as arguments. `None` if one of its tokens is not an argument, so that a mistake is never skipped.
 fn parse_arguments(alloc: Global, text: &[u8]) -> Result<Option<Vec<Argument>>, AllocError>
-    ensures { IfOk result (λ read. option_map (λ arguments. arguments.items) read ≡ arguments_of text.now) }
+    ensures { IfOk result (λ read. option_map (λ arguments. arguments.items) read
+        ≡ arguments_of text.now) }
 {
     let mut arguments = Vec::new(alloc);
     let mut rest = text;

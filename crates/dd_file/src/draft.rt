@@ -1,33 +1,54 @@
-//! An item or a line of an input while its lines are read.
+//! A part of an input, an item or a line, while its lines are read.
 ghost use Rattle.std.specs.Prelude.{◌≡◌, ℕ, List, false, IfOk, OnOk};
 ghost use Rattle.dd_file.specs.Position.{Position};
 ghost use Rattle.dd_file.specs.Script.{FirstItem};
-ghost use Rattle.dd_file.specs.Draft.{BegunItem, Adds, item_result};
+ghost use Rattle.dd_file.specs.Draft.{BegunItem, IsNew, Adds, item_result};
 ghost use Rattle.dd_file.specs.declared.fault.FileFault.{FileFault as ReadFault};
 
 use crate::fault::FileFault;
-use std::alloc::AllocError;
+use std::alloc::{AllocError, Global};
 
-/// An item while its lines are read, one at a time and without a look at the next one. In an input that is read line by
-/// line, each line is an item.
-pub(crate) trait Draft<P> {
-    /// The first item of some lines.
-    ghost first_item: { List (List ℕ) → FirstItem P };
+/// A part of an input while its lines are read, one at a time and without a look at the next one. In an input that is
+/// read line by line, each line is a part.
+pub trait Draft {
+    /// What it is once its lines are read.
+    type Part: Drop;
 
-    /// An item that begins at the line with this number.
-    ghost numbered: { ℕ → P → P };
+    /// What a part that is no longer used leaves to a later one.
+    type Buffers: Drop;
+
+    /// The first part of some lines.
+    ghost first_item: { List (List ℕ) → FirstItem Self.Part };
+
+    /// A part that begins at the line with this number.
+    ghost numbered: { ℕ → Self.Part → Self.Part };
 
     /// The errors that reading from a position on may return.
     ghost IsFault: { Position → ReadFault → Type 0 };
 
-    /// The item, given any lines that follow.
-    ghost begun: { Self → BegunItem P };
+    /// The part, given any lines that follow.
+    ghost begun: { Self → BegunItem Self.Part };
 
     /// Whether the draft can have a next line.
     ghost Fits: { Self → Type 0 };
 
-    /// Adds the next line, and returns whether the item ends with it. If memory runs out, the draft is no longer
-    /// usable.
+    /// Whether there is nothing in the buffers.
+    ghost AreEmpty: { Self.Buffers → Type 0 };
+
+    /// Buffers without memory.
+    fn no_buffers(alloc: Global) -> Self::Buffers
+        ensures { AreEmpty result };
+
+    /// The buffers of a part, emptied.
+    fn buffers_of(alloc: Global, part: Self::Part) -> Self::Buffers
+        ensures { AreEmpty result };
+
+    /// A draft without lines, in empty buffers.
+    fn new(alloc: Global, buffers: Self::Buffers) -> Self
+        requires { AreEmpty buffers }
+        ensures { IsNew first_item numbered IsFault begun Fits result };
+
+    /// Adds the next line, and returns whether the part ends with it. If memory runs out, the draft is no longer usable.
     fn add(&mut self, line: &[u8]) -> Result<bool, AllocError>
         requires fits { Fits self.old }
         requires open_end { (begun self.old).is_done ≡ false }
@@ -35,8 +56,8 @@ pub(crate) trait Draft<P> {
         ensures added { OnOk result (Adds (begun self.old) line.now (begun self.new)) }
         ensures done { IfOk result (λ done. done ≡ (begun self.new).is_done) };
 
-    /// The item of the lines so far, if no further line comes; `None` if there are no lines. Its first and its last line
+    /// The part of the lines so far, if no further line comes; `None` if there are no lines. Its first and its last line
     /// have these numbers.
-    fn finish(self, first: usize, last: usize) -> Result<Option<P>, FileFault>
+    fn finish(self, first: usize, last: usize) -> Result<Option<Self::Part>, FileFault>
         ensures { result ≡ item_result numbered first last (begun self).result };
 }

@@ -1,7 +1,7 @@
 //! An input while it is read: its buffered bytes, and the position of the first of them.
 ghost use Rattle.std.specs.Prelude.{◌≡◌, ◌≤◌, ◌<◌, ◌+◌, ◌-◌, ◌||◌, None, Some, [], true, false, IfOk, IfErr, OnErr, length};
 ghost use Rattle.dd_file.specs.Position.{longest_input};
-ghost use Rattle.dd_file.specs.Buffered.{CanReadBuffered, FilledBy, IsInterruption, ended, passed, within_limit};
+ghost use Rattle.dd_file.specs.Buffered.{FilledBy, IsInterruption, ended, passed, within_limit};
 ghost use Rattle.dd_file.specs.ReaderState.{fresh};
 ghost use Rattle.dd_file.specs.Answer.{is_read_fault};
 ghost use Rattle.dd_file.specs.Device.{LosesPrefix};
@@ -68,15 +68,6 @@ impl Input {
         self.fault = fault;
     }
 
-    /// Whether buffered lines may be returned: no error was returned, the end was not reached, and the buffered bytes
-    /// are within the limit.
-    pub(crate) fn can_read_buffered(&self) -> bool
-        ensures ready { result ≡ true → CanReadBuffered self.now }
-        ensures not_ready { CanReadBuffered self.now → result ≡ true }
-    {
-        self.fault.is_none() && !self.is_ended && !self.is_beyond_limit()
-    }
-
     /// The bytes that were read and not yet returned, within the limit.
     pub(crate) fn within_limit(&self) -> &[u8]
         ensures { result.now ≡ within_limit self.now }
@@ -88,8 +79,10 @@ impl Input {
 
     /// Whether the buffered bytes exceed the limit.
     pub(crate) fn is_beyond_limit(&self) -> bool
-        ensures beyond { result ≡ true → longest_input < self.now.position.bytes + length self.now.buffered }
-        ensures within { result ≡ false → self.now.position.bytes + length self.now.buffered ≤ longest_input }
+        ensures beyond { result ≡ true → longest_input < self.now.position.bytes + length
+            self.now.buffered }
+        ensures within { result ≡ false → self.now.position.bytes + length self.now.buffered ≤
+            longest_input }
     {
         self.buffer.buffered().len() > LONGEST_INPUT - self.bytes
     }
@@ -99,11 +92,14 @@ impl Input {
     pub(crate) fn fill<R: Source>(&mut self, reader: &mut R) -> Result<bool, FileFault>
         requires unended { self.old.is_ended ≡ false }
         ensures same { self.new ≡ record self.old { buffered = self.new.buffered } }
-        ensures filled { IfOk result (FilledBy self.old.buffered self.new.buffered (R.remaining reader.old)
+        ensures filled { IfOk result (FilledBy self.old.buffered self.new.buffered
+            (R.remaining reader.old)
             (R.remaining reader.new)) }
         ensures interrupted { IfErr result IsInterruption }
-        ensures lost { OnErr result (LosesPrefix (R.remaining reader.old) (R.remaining reader.new)) }
-        ensures failed { R.has_failed reader.new ≡ (R.has_failed reader.old || is_read_fault result) }
+        ensures lost { OnErr result (LosesPrefix (R.remaining reader.old)
+            (R.remaining reader.new)) }
+        ensures failed { R.has_failed reader.new
+            ≡ (R.has_failed reader.old || is_read_fault result) }
     {
         self.buffer.fill(reader)
     }

@@ -35,7 +35,8 @@ impl Model for Argument {
 
     ghost Value = { ArgumentText };
 
-    ghost view = { λ a. with_key (take a.key_len a.text.items) (values_left a.kind (drop a.key_len a.text.items)) };
+    ghost view = { λ a. with_key (take a.key_len a.text.items)
+        (values_left a.kind (drop a.key_len a.text.items)) };
 
     ghost invariant = { λ a. a.key_len ≤ length a.text.items };
 }
@@ -116,7 +117,8 @@ impl Model for Directive {
       raw_lines = a.raw_lines;
     } };
 
-    ghost invariant = { λ a. (has_keys a.arguments.items ≡ true) × (a.directive_line_count ≤ length a.raw_lines) };
+    ghost invariant = { λ a. (has_keys a.arguments.items ≡ true)
+        × (a.directive_line_count ≤ length a.raw_lines) };
 }
 
 impl Directive {
@@ -224,7 +226,8 @@ impl Item {
         input: &[Vec<u8>],
     ) -> Result<Option<Item>, AllocError>
         ensures { IfOk result (λ item. item ≡
-            option_map (λ command. directive 1 command (line.items ∷ []) (map (λ line. line.items) input.now) [])
+            option_map (λ command. directive 1 command (line.items ∷ [])
+            (map (λ line. line.items) input.now) [])
             (command_of line.items)) }
     {
         let Some(command) = parse_command(alloc, line.as_slice())? else {

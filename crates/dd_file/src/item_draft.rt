@@ -5,7 +5,7 @@
 //! stored, such as a separator. It reports when the item is complete. Lines that come after that belong to the next
 //! item.
 ghost use Rattle.std.specs.Prelude.{◌≡◌, [], ◌∷◌, ◌++◌, false, IfOk, OnOk};
-ghost use Rattle.dd_file.specs.ItemDraft.{blank_draft, no_parts, FitsIn, AddsIn, draft_after_directive_lines, is_done};
+ghost use Rattle.dd_file.specs.ItemDraft.{FitsIn, AddsIn, draft_after_directive_lines, is_done};
 
 use crate::command::{Command, parse_command};
 use crate::draft::Draft;
@@ -81,14 +81,20 @@ impl DraftParts {
 
     /// Stores a line as input.
     fn keep_input(&mut self, line: &[u8]) -> Result<(), AllocError>
-        ensures { OnOk result (self.new ≡ record self.old { input = self.old.input ++ line.now ∷ [] }) }
+        ensures { OnOk result (self.new ≡ record self.old {
+          input = self.old.input ++ line.now
+              ∷ [];
+        }) }
     {
         self.raw_lines.push(line)
     }
 
     /// Stores a line as expected output.
     fn keep_output(&mut self, line: &[u8]) -> Result<(), AllocError>
-        ensures { OnOk result (self.new ≡ record self.old { expected = self.old.expected ++ line.now ∷ [] }) }
+        ensures { OnOk result (self.new ≡ record self.old {
+          expected = self.old.expected ++ line.now
+              ∷ [];
+        }) }
     {
         self.expected.push(line)
     }
@@ -113,7 +119,8 @@ impl DraftParts {
     /// together.
     fn add_directive_line(&mut self, line: &[u8]) -> Result<DraftState, AllocError>
         requires fits { FitsIn DraftState.DirectiveLines self.old }
-        ensures { IfOk result (λ next. AddsIn DraftState.DirectiveLines self.old next self.new line.now) }
+        ensures { IfOk result (λ next. AddsIn DraftState.DirectiveLines self.old next self.new
+            line.now) }
     {
         self.keep_directive_line(line)?;
         if is_continued(line) {
@@ -158,7 +165,8 @@ impl DraftParts {
     /// The first line after the separator: dashes make it a double separator, and any other line a single one.
     fn add_output(&mut self, line: &[u8]) -> Result<DraftState, AllocError>
         requires fits { FitsIn DraftState.Separator self.old }
-        ensures { IfOk result (λ next. AddsIn DraftState.Separator self.old next self.new line.now) }
+        ensures { IfOk result (λ next. AddsIn DraftState.Separator self.old next self.new
+            line.now) }
     {
         if is_dashes(line) {
             return Ok(DraftState::Double);
@@ -219,7 +227,7 @@ impl DraftParts {
 
 /// An item of a script while its lines are read.
 #[derive(Drop)]
-pub(crate) struct ItemDraft {
+pub struct ItemDraft {
     parts: DraftParts,
     state: DraftState,
 }
@@ -232,28 +240,12 @@ impl Model for ItemDraft {
     ghost view = { λ a. record { parts = a.parts; state = a.state } };
 }
 
-impl ItemDraft {
-    /// An item without lines.
-    pub(crate) fn new(alloc: Global, raw_lines: RawLines, expected: RawLines) -> ItemDraft
-        requires raw_lines { raw_lines ≡ [] }
-        requires expected { expected ≡ [] }
-        ensures { result ≡ blank_draft }
-    {
-        let parts = DraftParts {
-            alloc,
-            raw_lines,
-            directive_line_count: 0,
-            command: Command::none(alloc),
-            expected,
-        };
-        ItemDraft {
-            parts,
-            state: DraftState::Begin,
-        }
-    }
-}
+impl Draft for ItemDraft {
+    type Part = Item;
 
-impl Draft<Item> for ItemDraft {
+    /// Those of the raw lines and of the expected output.
+    type Buffers = (RawLines, RawLines);
+
     ghost use Rattle.dd_file.specs.Script.{first_of, at_line};
     ghost use Rattle.dd_file.specs.Answer.{IsItemFault};
     ghost use Rattle.dd_file.specs.ItemDraft.{FitsIn, begun_item};
@@ -267,6 +259,35 @@ impl Draft<Item> for ItemDraft {
     ghost begun = { begun_item };
 
     ghost Fits = { λ draft. FitsIn draft.state draft.parts };
+
+    ghost AreEmpty = { λ buffers. (buffers.0 ≡ []) × (buffers.1 ≡ []) };
+
+    fn no_buffers(alloc: Global) -> (RawLines, RawLines) {
+        (RawLines::new(alloc), RawLines::new(alloc))
+    }
+
+    #[inline(always)]
+    fn buffers_of(alloc: Global, item: Item) -> (RawLines, RawLines) {
+        let (mut raw_lines, mut expected) = item.into_buffers(alloc);
+        raw_lines.clear();
+        expected.clear();
+        (raw_lines, expected)
+    }
+
+    fn new(alloc: Global, buffers: (RawLines, RawLines)) -> ItemDraft {
+        let (raw_lines, expected) = buffers;
+        let parts = DraftParts {
+            alloc,
+            raw_lines,
+            directive_line_count: 0,
+            command: Command::none(alloc),
+            expected,
+        };
+        ItemDraft {
+            parts,
+            state: DraftState::Begin,
+        }
+    }
 
     fn add(&mut self, line: &[u8]) -> Result<bool, AllocError> {
         self.state = self.parts.next_state(self.state, line)?;

@@ -1,15 +1,16 @@
 //! A line of an input (own).
-ghost use Rattle.std.specs.Prelude.{◌≡◌, None};
+ghost use Rattle.std.specs.Prelude.{◌≡◌};
 
 use crate::draft::Draft;
 use crate::fault::FileFault;
+use smallvec::SmallVec;
 use std::alloc::{AllocError, Global};
 use std::marker::Model;
 
 /// A line without its newline. It need not be UTF-8.
 #[derive(Drop)]
 pub struct Line {
-    bytes: Vec<u8>,
+    bytes: SmallVec<u8, 32>,
 }
 
 impl Model for Line {
@@ -31,7 +32,7 @@ impl Line {
 
 /// A line while it is read: an item of one line, which is complete once it is there.
 #[derive(Drop)]
-pub(crate) struct LineDraft {
+pub struct LineDraft {
     alloc: Global,
     line: Option<Line>,
 }
@@ -44,15 +45,11 @@ impl Model for LineDraft {
     ghost view = { λ a. a.line };
 }
 
-impl LineDraft {
-    pub(crate) fn new(alloc: Global) -> LineDraft
-        ensures { result ≡ None }
-    {
-        LineDraft { alloc, line: None }
-    }
-}
+impl Draft for LineDraft {
+    type Part = Line;
 
-impl Draft<Line> for LineDraft {
+    type Buffers = ();
+
     ghost use Rattle.std.specs.Prelude.{⊤};
     ghost use Rattle.dd_file.specs.Script.{first_line_of};
     ghost use Rattle.dd_file.specs.Answer.{IsLineFault};
@@ -68,8 +65,24 @@ impl Draft<Line> for LineDraft {
 
     ghost Fits = { λ draft. ⊤ };
 
+    ghost AreEmpty = { λ buffers. ⊤ };
+
+    fn no_buffers(alloc: Global) {
+        let _ = alloc;
+    }
+
+    fn buffers_of(alloc: Global, line: Line) {
+        let _ = alloc;
+        drop(line);
+    }
+
+    fn new(alloc: Global, buffers: ()) -> LineDraft {
+        let _ = buffers;
+        LineDraft { alloc, line: None }
+    }
+
     fn add(&mut self, line: &[u8]) -> Result<bool, AllocError> {
-        let bytes = Vec::from_slice(self.alloc, line)?;
+        let bytes = SmallVec::from_slice(self.alloc, line)?;
         self.line = Some(Line { bytes });
         Ok(true)
     }

@@ -8,7 +8,7 @@ ghost use Rattle.dd_file.specs.Script.{is_comment, is_continued, is_separator, i
 use ascii_text::white_space::trimmed;
 
 /// Whether the line is a comment between directives: its first byte after white space is `#`.
-pub(crate) fn is_comment(line: &[u8]) -> bool
+pub fn is_comment(line: &[u8]) -> bool
     ensures { result ≡ is_comment line.now }
 {
     trimmed(line).starts_with(b"#")

@@ -131,7 +131,8 @@ impl RawLines {
     /// The position of the newline of the line at an index.
     fn end(&self, i: usize) -> usize
         requires { i < length self.now }
-        ensures position { result ≡ length (text_of (take i self.now)) + length (slice_index_or self.now i []) }
+        ensures position { result ≡ length (text_of (take i self.now)) + length
+            (slice_index_or self.now i []) }
         ensures within { result < length (text_of self.now) }
         ensures small { result < 2 ^ 63 }
     {

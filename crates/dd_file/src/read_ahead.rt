@@ -1,86 +1,207 @@
-//! Reading the next item or line from the bytes that are read ahead.
-ghost use Rattle.std.specs.Prelude.{◌≡◌, ◌≤◌, None, true, false, IfSome, length};
+//! Reading the parts of an input, items or lines, from the bytes that are read ahead.
+ghost use Rattle.std.specs.Prelude.{◌≡◌, ◌≤◌, ◌+◌, ◌||◌, None, true, false, is_err, IfOk, OnErr, IsOkUnless, length};
+ghost use Rattle.std.specs.Io.KnownBytes.{Keeps};
 ghost use Rattle.dd_file.specs.Position.{longest_input};
 ghost use Rattle.dd_file.specs.Grammar.{next_of};
-ghost use Rattle.dd_file.specs.ReaderState.{IsBounded};
-ghost use Rattle.dd_file.specs.Buffered.{CanReadBuffered, BufferedReadsOn, is_first_buffered};
+ghost use Rattle.dd_file.specs.ReaderState.{IsBounded, fresh};
+ghost use Rattle.dd_file.specs.Buffered.{IsFirstBuffered, within_limit};
 ghost use Rattle.dd_file.specs.Answer.{ReadsOn, fault_of};
-ghost use Rattle.dd_file.specs.Draft.{IsNew};
+ghost use Rattle.dd_file.specs.Draft.{DraftOf, IsBegun, IsGrammar, IsNew};
 
-use crate::device::Source;
+use crate::device::{Nowhere, Sink, Source};
 use crate::draft::Draft;
-use crate::fault::{FileFault, fault_in};
+use crate::fault::{FileFault, WriteFault, fault_in};
 use crate::input::Input;
 use crate::scan::{Scan, add_last_line, add_lines};
+use std::alloc::Global;
+use std::marker::Model;
+use std::mem::replace;
 
-/// The next item, which is read into a draft that has no line yet; `None` at the end and from then on. An error is
-/// permanent: later calls return it again, and read nothing.
-pub(crate) fn next<P, D: Draft<P> + Drop, R: Source>(
+/// Reads the parts of an input from a [`Source`]: the items of a script, or lines.
+#[derive(Drop)]
+pub struct Parts<D: Draft> {
+    alloc: Global,
+    input: Input,
+    /// The empty buffers of a part that is no longer used.
+    buffers: D::Buffers,
+}
+
+impl<D: Draft> Model for Parts<D> {
+    ghost use Rattle.dd_file.specs.ReaderState.{ReaderState, IsBounded};
+
+    ghost Value = { ReaderState };
+
+    ghost view = { λ a. a.input };
+
+    ghost invariant = { λ a. IsBounded a.input × D.AreEmpty a.buffers };
+}
+
+impl<D: Draft + Drop> Parts<D> {
+    /// A reader at the beginning of its input. It fails only if memory runs out.
+    pub fn new(alloc: Global) -> Result<Parts<D>, FileFault>
+        ensures fresh { IfOk result (λ parts. parts ≡ fresh) }
+        ensures memory { IsOkUnless result FileFault.NoMemory }
+    {
+        let input = Input::new(alloc).map_err(|_| FileFault::NoMemory)?;
+        Ok(Parts {
+            alloc,
+            input,
+            buffers: D::no_buffers(alloc),
+        })
+    }
+
+    /// The next part; `None` at the end and from then on. The errors are those of a script's syntax, `InputTooLong` for an
+    /// input of 2^30 bytes or more, `Read` if a read failed, and `NoMemory`. An error is permanent: later calls return it
+    /// again, and read nothing.
+    pub fn next<R: Source>(&mut self, reader: &mut R) -> Result<Option<D::Part>, FileFault>
+        ensures { ReadsOn R.remaining R.has_failed (next_of D.first_item D.numbered longest_input)
+            D.IsFault
+            self.old self.new reader.old reader.new result }
+    {
+        match self.next_after_flush(reader, &mut Nowhere) {
+            Ok(answer) => answer,
+            Err(_) => unreachable!(),
+        }
+    }
+
+    /// Does what `next` does for a program that replies to each part. If the part is not buffered, the writer is flushed
+    /// before more is read, since the other side may wait for the replies. If that fails, nothing is read.
+    #[inline(always)]
+    pub fn next_after_flush<R: Source, W: Sink>(
+        &mut self,
+        reader: &mut R,
+        writer: &mut W,
+    ) -> Result<Result<Option<D::Part>, FileFault>, WriteFault>
+        ensures reads { IfOk result
+            (ReadsOn R.remaining R.has_failed (next_of D.first_item D.numbered longest_input)
+            D.IsFault self.old self.new reader.old reader.new) }
+        ensures buffered { IsFirstBuffered D.first_item self.old
+            → (reader.new ≡ reader.old) × (writer.new ≡ writer.old) }
+        ensures unread { OnErr result ((self.new ≡ self.old) × (reader.new ≡ reader.old)) }
+        ensures kept { Keeps (W.contents writer.old) (W.contents writer.new) }
+        ensures write { W.has_failed writer.new ≡ (W.has_failed writer.old || is_err result) }
+    {
+        next(self.draft(), &mut self.input, reader, writer)
+    }
+
+    /// A part without lines, in the buffers that are reused.
+    #[inline(always)]
+    fn draft(&mut self) -> D
+        ensures draft { IsNew D.first_item D.numbered D.IsFault D.begun D.Fits result }
+        ensures same { self.new ≡ self.old }
+    {
+        let empty = D::no_buffers(self.alloc);
+        D::new(self.alloc, replace(&mut self.buffers, empty))
+    }
+
+    /// Takes back a part that is no longer used, so that a later one can reuse its buffers.
+    #[inline(always)]
+    pub fn reuse(&mut self, part: D::Part)
+        ensures { self.new ≡ self.old }
+    {
+        self.buffers = D::buffers_of(self.alloc, part);
+    }
+}
+
+/// The next part, which is read into a draft that has no line yet; `None` at the end and from then on. An error is
+/// permanent: later calls return it again, and read nothing. If the part is not buffered, the writer is flushed before
+/// more is read.
+fn next<D: Draft + Drop, R: Source, W: Sink>(
     draft: D,
     input: &mut Input,
     reader: &mut R,
-) -> Result<Option<P>, FileFault>
+    writer: &mut W,
+) -> Result<Result<Option<D::Part>, FileFault>, WriteFault>
     requires none { IsNew D.first_item D.numbered D.IsFault D.begun D.Fits draft }
     requires bounded { IsBounded input.old }
-    ensures { ReadsOn R.remaining R.has_failed (next_of D.first_item D.numbered longest_input) D.IsFault input.old input.new reader.old reader.new result }
+    ensures reads { IfOk result
+        (ReadsOn R.remaining R.has_failed (next_of D.first_item D.numbered longest_input)
+        D.IsFault input.old input.new reader.old reader.new) }
+    ensures buffered { IsFirstBuffered D.first_item input.old → (reader.new ≡ reader.old)
+        × (writer.new ≡ writer.old) }
+    ensures unread { OnErr result ((input.new ≡ input.old) × (reader.new ≡ reader.old)) }
+    ensures kept { Keeps (W.contents writer.old) (W.contents writer.new) }
+    ensures write { W.has_failed writer.new ≡ (W.has_failed writer.old || is_err result) }
 {
-    // The early returns leave the reader as it is, which is known only of what the body reads.
+    // The early returns leave both as they are, which is known only of what the body reads.
     let _ = &*reader;
+    let _ = &*writer;
     if let Some(fault) = input.fault() {
-        return Err(fault);
+        return Ok(Err(fault));
     }
     if input.is_over() {
-        return Ok(None);
+        return Ok(Ok(None));
     }
-    let answer = read(draft, input, reader);
+    let answer = read(draft, input, reader, writer)?;
     input.set_fault(fault_in(&answer));
-    answer
+    Ok(answer)
 }
 
-/// The next item if all its lines are buffered, without a read. `None`, and nothing changes, if no item ends in the
-/// buffered bytes, the end was reached, an error was returned, or the buffered bytes exceed the limit.
+/// The next part. If it is not buffered, the writer is flushed, and then the rest of the part is read.
 #[inline(always)]
-pub(crate) fn next_buffered<P, D: Draft<P> + Drop, R: Source>(
-    draft: D,
-    input: &mut Input,
-    reader: &R,
-) -> Option<Result<Option<P>, FileFault>>
-    requires none { IsNew D.first_item D.numbered D.IsFault D.begun D.Fits draft }
-    requires bounded { IsBounded input.old }
-    ensures { BufferedReadsOn R.remaining R.has_failed (next_of D.first_item D.numbered longest_input) D.IsFault (is_first_buffered D.first_item) input.old input.new reader.now result }
-{
-    if !input.can_read_buffered() {
-        return None;
-    }
-    let answer = read_buffered(draft, input, reader)?;
-    input.set_fault(fault_in(&answer));
-    Some(answer)
-}
-
-/// Reads until all lines of the next item are buffered or the input has ended, and returns the item.
-fn read<P, D: Draft<P> + Drop, R: Source>(
+fn read<D: Draft + Drop, R: Source, W: Sink>(
     mut draft: D,
     input: &mut Input,
     reader: &mut R,
-) -> Result<Option<P>, FileFault>
+    writer: &mut W,
+) -> Result<Result<Option<D::Part>, FileFault>, WriteFault>
     requires none { IsNew D.first_item D.numbered D.IsFault D.begun D.Fits draft }
     requires faultless { input.old.fault ≡ None }
     requires unended { input.old.is_ended ≡ false }
     requires bounded { IsBounded input.old }
-    ensures { ReadsOn R.remaining R.has_failed (next_of D.first_item D.numbered longest_input) D.IsFault input.old
+    ensures reads { IfOk result (λ answer. ReadsOn R.remaining R.has_failed
+        (next_of D.first_item D.numbered longest_input) D.IsFault input.old
+        (record input.new { fault = fault_of answer })
+        reader.old reader.new answer) }
+    ensures buffered { IsFirstBuffered D.first_item input.old → (reader.new ≡ reader.old)
+        × (writer.new ≡ writer.old) }
+    ensures unread { OnErr result ((input.new ≡ input.old) × (reader.new ≡ reader.old)) }
+    ensures kept { Keeps (W.contents writer.old) (W.contents writer.new) }
+    ensures write { W.has_failed writer.new ≡ (W.has_failed writer.old || is_err result) }
+{
+    let _ = &*reader;
+    let _ = &*writer;
+    let mut scan = Scan::new();
+    match add_lines(&mut draft, &mut scan, input.within_limit()) {
+        Ok(true) => {
+            let first = input.count() + 1;
+            input.pass(scan.lines, scan.bytes);
+            Ok(draft.finish(first, input.count()))
+        }
+        Ok(false) => {
+            if writer.flush_all().is_err() {
+                return Err(WriteFault);
+            }
+            Ok(read_rest(draft, scan, input, reader, writer))
+        }
+        Err(_) => Ok(Err(FileFault::NoMemory)),
+    }
+}
+
+/// Reads until all lines of the next part are buffered or the input has ended, and returns the part. The draft has the
+/// lines that are buffered. This call may wait for input, so the output is to be flushed before it.
+fn read_rest<D: Draft + Drop, R: Source, W: Sink>(
+    mut draft: D,
+    mut scan: Scan,
+    input: &mut Input,
+    reader: &mut R,
+    writer: &W,
+) -> Result<Option<D::Part>, FileFault>
+    requires grammar { IsGrammar (next_of D.first_item D.numbered longest_input) D.IsFault }
+    requires known { (other : D) → D.Fits other → IsBegun (D.begun other) }
+    requires so_far { DraftOf D.first_item D.begun D.Fits draft scan (within_limit input.old) }
+    requires open_end { (D.begun draft).is_done ≡ false }
+    requires searched { scan.bytes + scan.searched ≡ length (within_limit input.old) }
+    requires faultless { input.old.fault ≡ None }
+    requires unended { input.old.is_ended ≡ false }
+    requires flushed { W.reached writer.now ≡ W.contents writer.now }
+    ensures { ReadsOn R.remaining R.has_failed (next_of D.first_item D.numbered longest_input)
+        D.IsFault input.old
         (record input.new { fault = fault_of result }) reader.old reader.new result }
 {
+    let _ = writer;
     let first = input.count() + 1;
-    let mut scan = Scan::new();
     'read: loop {
-        match add_lines(&mut draft, &mut scan, input.within_limit()) {
-            Ok(true) => {
-                input.pass(scan.lines, scan.bytes);
-                return draft.finish(first, input.count());
-            }
-            Ok(false) => {}
-            Err(_) => return Err(FileFault::NoMemory),
-        }
         if input.is_beyond_limit() {
             return Err(FileFault::InputTooLong(first));
         }
@@ -89,6 +210,14 @@ fn read<P, D: Draft<P> + Drop, R: Source>(
             Ok(false) => break,
             Err(fault) => return Err(fault),
         }
+        match add_lines(&mut draft, &mut scan, input.within_limit()) {
+            Ok(true) => {
+                input.pass(scan.lines, scan.bytes);
+                return draft.finish(first, input.count());
+            }
+            Ok(false) => {}
+            Err(_) => return Err(FileFault::NoMemory),
+        }
     }
     match add_last_line(&mut draft, scan, input.within_limit()) {
         Ok(count) => {
@@ -96,33 +225,5 @@ fn read<P, D: Draft<P> + Drop, R: Source>(
             draft.finish(first, input.count())
         }
         Err(_) => Err(FileFault::NoMemory),
-    }
-}
-
-/// The next item if all its lines are buffered.
-#[inline(always)]
-fn read_buffered<P, D: Draft<P> + Drop, R: Source>(
-    mut draft: D,
-    input: &mut Input,
-    reader: &R,
-) -> Option<Result<Option<P>, FileFault>>
-    requires none { IsNew D.first_item D.numbered D.IsFault D.begun D.Fits draft }
-    requires can_read { CanReadBuffered input.old }
-    requires bounded { IsBounded input.old }
-    ensures read { IfSome result (λ answer. ReadsOn R.remaining R.has_failed (next_of D.first_item D.numbered longest_input) D.IsFault input.old
-        (record input.new { fault = fault_of answer }) reader.now reader.now answer) }
-    ensures unread { result ≡ None → (input.new ≡ input.old)
-        × (is_first_buffered D.first_item input.old.position input.old.buffered ≡ false) }
-{
-    let _ = reader;
-    let first = input.count() + 1;
-    let mut scan = Scan::new();
-    match add_lines(&mut draft, &mut scan, input.within_limit()) {
-        Ok(true) => {
-            input.pass(scan.lines, scan.bytes);
-            Some(draft.finish(first, input.count()))
-        }
-        Ok(false) => None,
-        Err(_) => Some(Err(FileFault::NoMemory)),
     }
 }

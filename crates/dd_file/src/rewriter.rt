@@ -13,23 +13,26 @@
 //! the text so far ends in.
 ghost use Rattle.std.specs.Prelude.{◌≡◌, ℕ, List, [], ◌∷◌, ◌++◌, ◌==◌, Option, IsOk, IsErr, OnOk, OnErr, IfOk, true, false, if◌then◌else◌};
 ghost use Rattle.std.specs.Io.KnownBytes.{Appends};
-ghost use Rattle.ascii_text.specs.Lines.{newline};
+ghost use Rattle.ascii_text.specs.Lines.{newline, without_last};
 ghost use Rattle.dd_file.specs.Device.{AppendsPart};
 ghost use Rattle.dd_file.specs.RewriterState.{CanKeep, IsOutputNext, HasWritten, Continues, BreaksOff, WritesMore, WritesEnd};
-ghost use Rattle.dd_file.specs.Rewritten.{kept_text, output_text, opening, closing, has_blank_line, is_output, is_directive, newlines_at_end};
+ghost use Rattle.dd_file.specs.Rewritten.{kept_text, output_text, opening, closing, entry_text, has_blank_line, is_output, is_directive, newlines_at_end, pending_newline, without_double_end};
 
 use crate::device::Sink;
 use crate::expecting::Expecting;
 use crate::fault::WriteFault;
 use crate::item::Item;
 use crate::writing::write_all;
+use ascii_text::NoMemory;
+use ascii_text::append::append;
 use ascii_text::lines::{next_full_line, strip_last};
 use ascii_text::white_space::is_blank;
 use std::marker::Model;
 
 /// How many newlines a text ends in once a byte is added: 0, 1, or 2 for two or more.
 fn count_newline(newlines: u8, byte: u8) -> u8
-    ensures { (text : List ℕ) → newlines ≡ newlines_at_end text → result ≡ newlines_at_end (text ++ byte ∷ []) }
+    ensures { (text : List ℕ) → newlines ≡ newlines_at_end text → result
+        ≡ newlines_at_end (text ++ byte ∷ []) }
 {
     if byte != b'\n' {
         return 0;
@@ -38,8 +41,9 @@ fn count_newline(newlines: u8, byte: u8) -> u8
 }
 
 /// How many newlines a text ends in once bytes are added. If these are two or more, the last two decide.
-fn count_newlines(newlines: u8, bytes: &[u8]) -> u8
-    ensures { (text : List ℕ) → newlines ≡ newlines_at_end text → result ≡ newlines_at_end (text ++ bytes.now) }
+pub fn count_newlines(newlines: u8, bytes: &[u8]) -> u8
+    ensures { (text : List ℕ) → newlines ≡ newlines_at_end text → result
+        ≡ newlines_at_end (text ++ bytes.now) }
 {
     let Some((last, prefix)) = bytes.split_last() else {
         return newlines;
@@ -51,7 +55,7 @@ fn count_newlines(newlines: u8, bytes: &[u8]) -> u8
 }
 
 /// What is left to write at the end of the script: the pending newline, unless the text ends in two.
-fn last_newline(newlines: u8) -> &'static [u8]
+pub fn last_newline(newlines: u8) -> &'static [u8]
     ensures { result.now ≡ (if newlines == 1 then newline else []) }
 {
     if newlines == 1 { b"\n" } else { b"" }
@@ -77,7 +81,8 @@ fn write_pending_newline<W: Sink>(writer: &mut W, newlines: u8) -> Result<(), Wr
 fn write_text<W: Sink>(writer: &mut W, newlines: u8, text: &[u8]) -> Result<u8, WriteFault>
     ensures ok { IfOk result (λ count. Continues newlines count (W.contents writer.old)
         (W.contents writer.new) text.now) }
-    ensures err { OnErr result (BreaksOff newlines (W.contents writer.old) (W.contents writer.new) text.now) }
+    ensures err { OnErr result (BreaksOff newlines (W.contents writer.old) (W.contents writer.new)
+        text.now) }
     ensures failed { OnErr result (W.has_failed writer.new ≡ true) }
     ensures sound { OnOk result (W.has_failed writer.new ≡ W.has_failed writer.old) }
 {
@@ -126,26 +131,60 @@ fn after_output(double: bool) -> &'static [u8]
 
 /// Writes an output with its separators; the newline at its end stays pending. Returns how many newlines the whole text
 /// ends in.
-fn write_output<W: Sink>(
-    writer: &mut W,
-    newlines: u8,
-    text: &[u8],
-    double: bool,
-) -> Result<u8, WriteFault>
-    requires { double ≡ has_blank_line text.now }
-    ensures ok { IfOk result (λ count. Continues newlines count (W.contents writer.old) (W.contents writer.new)
+fn write_output<W: Sink>(writer: &mut W, newlines: u8, text: &[u8]) -> Result<u8, WriteFault>
+    ensures ok { IfOk result (λ count. Continues newlines count (W.contents writer.old)
+        (W.contents writer.new)
         (output_text text.now)) }
     ensures err { OnErr result (BreaksOff newlines (W.contents writer.old) (W.contents writer.new)
         (output_text text.now)) }
     ensures failed { OnErr result (W.has_failed writer.new ≡ true) }
     ensures sound { OnOk result (W.has_failed writer.new ≡ W.has_failed writer.old) }
 {
+    let double = needs_double(text);
     let suffix = after_output(double);
     write_all(writer, before_output(newlines, double))?;
     write_all(writer, text)?;
     write_all(writer, strip_last(suffix, b'\n'))?;
     // The separator before the output ends in one newline.
     Ok(count_newlines(count_newlines(1, text), suffix))
+}
+
+/// The newline that is pending after a text that ends in this many: it is appended once more text follows.
+pub fn pending_newline(newlines: u8) -> &'static [u8]
+    ensures { result.now ≡ pending_newline newlines }
+{
+    if newlines == 0 { b"" } else { b"\n" }
+}
+
+/// Takes back a newline at the end of a text, which is pending from then on.
+pub fn hold_newline(text: &mut Vec<u8>)
+    ensures { text.new.items ≡ without_last 10 text.old.items }
+{
+    let end = strip_last(text.as_slice(), b'\n').len();
+    text.truncate(end);
+}
+
+/// Ends a script that is one text: drops the last newline if it ends in two.
+pub fn end_script(text: &mut Vec<u8>)
+    ensures { text.new.items ≡ without_double_end text.old.items }
+{
+    if text.as_slice().ends_with(b"\n\n") {
+        hold_newline(text);
+    }
+}
+
+/// Appends an item with its actual output, which has no blank line.
+pub fn append_entry(text: &mut Vec<u8>, item: &Item, actual: &[u8]) -> Result<(), NoMemory>
+    requires { has_blank_line actual.now ≡ false }
+    ensures { OnOk result (text.new.items ≡ text.old.items ++ entry_text item.now actual.now) }
+{
+    append(text, item.raw_text())?;
+    if item.is_directive() {
+        append(text, b"----\n")?;
+        append(text, actual)?;
+        append(text, b"\n")?;
+    }
+    Ok(())
 }
 
 /// Writes the items of a script with their actual outputs to a [`Sink`]. After an error nothing more is written, and
@@ -185,7 +224,8 @@ impl Rewriter {
     ) -> Result<(), WriteFault>
         ensures ok { IfOk written (λ count. IsOk result
             × (self.new ≡ record { expecting = expecting; newlines = count })) }
-        ensures err { OnErr written (IsErr result × (self.new ≡ record self.old { expecting = Expecting.Failed })) }
+        ensures err { OnErr written (IsErr result
+            × (self.new ≡ record self.old { expecting = Expecting.Failed })) }
     {
         match written {
             Ok(newlines) => {
@@ -201,10 +241,12 @@ impl Rewriter {
     }
 
     /// Writes the raw lines of an item, as they are. After a directive, the next call has to write its actual output,
-    /// by `found` or `found_without_blanks`. It fails if a write fails, or has failed before (datadriven).
+    /// by `found`. It fails if a write fails, or has failed before (datadriven).
     pub fn keep<W: Sink>(&mut self, writer: &mut W, item: &Item) -> Result<(), WriteFault>
         requires { CanKeep self.old }
-        ensures { WritesMore W.contents W.has_failed self.old self.new writer.old writer.new (if is_directive item.now then Expecting.NeedsOutput else Expecting.Ready) (kept_text item.now) result }
+        ensures { WritesMore W.contents W.has_failed self.old self.new writer.old writer.new
+            (if is_directive item.now then Expecting.NeedsOutput else Expecting.Ready)
+            (kept_text item.now) result }
     {
         if self.expecting == Expecting::Failed {
             return Err(WriteFault);
@@ -223,32 +265,13 @@ impl Rewriter {
     pub fn found<W: Sink>(&mut self, writer: &mut W, text: &[u8]) -> Result<(), WriteFault>
         requires output_next { IsOutputNext self.old }
         requires output { self.old.expecting ≡ Expecting.NeedsOutput → is_output text.now ≡ true }
-        ensures { WritesMore W.contents W.has_failed self.old self.new writer.old writer.new Expecting.Ready (output_text text.now) result }
+        ensures { WritesMore W.contents W.has_failed self.old self.new writer.old writer.new
+            Expecting.Ready (output_text text.now) result }
     {
         if self.expecting == Expecting::Failed {
             return Err(WriteFault);
         }
-        let double = needs_double(text);
-        let written = write_output(writer, self.newlines, text, double);
-        self.finish_call(written, Expecting::Ready)
-    }
-
-    /// Does what `found` does for an output that has no blank line, without searching it for one. It fails if a write
-    /// fails, or has failed before (own).
-    pub fn found_without_blanks<W: Sink>(
-        &mut self,
-        writer: &mut W,
-        text: &[u8],
-    ) -> Result<(), WriteFault>
-        requires output_next { IsOutputNext self.old }
-        requires output { self.old.expecting ≡ Expecting.NeedsOutput → is_output text.now ≡ true }
-        requires full { has_blank_line text.now ≡ false }
-        ensures { WritesMore W.contents W.has_failed self.old self.new writer.old writer.new Expecting.Ready (output_text text.now) result }
-    {
-        if self.expecting == Expecting::Failed {
-            return Err(WriteFault);
-        }
-        let written = write_output(writer, self.newlines, text, false);
+        let written = write_output(writer, self.newlines, text);
         self.finish_call(written, Expecting::Ready)
     }
 

@@ -49,7 +49,7 @@ pub(crate) fn whole_line_from(bytes: &[u8], searched: usize) -> Option<&[u8]>
 
 /// Adds the lines that end in the bytes to the draft, up to the last line of the item. Returns whether the item is
 /// complete. If memory runs out, the draft is no longer usable.
-pub(crate) fn add_lines<P, D: Draft<P>>(
+pub(crate) fn add_lines<D: Draft>(
     draft: &mut D,
     scan: &mut Scan,
     bytes: &[u8],
@@ -58,8 +58,10 @@ pub(crate) fn add_lines<P, D: Draft<P>>(
     requires open_end { (D.begun draft.old).is_done ≡ false }
     ensures lines { OnOk result (DraftOf D.first_item D.begun D.Fits draft.new scan.new bytes.now) }
     ensures done { IfOk result (λ done. done ≡ (D.begun draft.new).is_done) }
-    ensures some { IfOk result (λ done. done ≡ true → scan.old.bytes + scan.old.searched ≤ scan.new.bytes) }
-    ensures none { IfOk result (λ done. done ≡ false → scan.new.bytes + scan.new.searched ≡ length bytes.now) }
+    ensures some { IfOk result (λ done. done ≡ true
+        → scan.old.bytes + scan.old.searched ≤ scan.new.bytes) }
+    ensures none { IfOk result (λ done. done ≡ false → scan.new.bytes + scan.new.searched
+        ≡ length bytes.now) }
 {
     'lines: loop {
         let rest = bytes.split_at(scan.bytes).1;
@@ -80,7 +82,7 @@ pub(crate) fn add_lines<P, D: Draft<P>>(
 }
 
 /// Adds the last line of the input to the draft, if it has no newline, and returns how many lines the item has.
-pub(crate) fn add_last_line<P, D: Draft<P>>(
+pub(crate) fn add_last_line<D: Draft>(
     draft: &mut D,
     scan: Scan,
     bytes: &[u8],
@@ -88,7 +90,8 @@ pub(crate) fn add_last_line<P, D: Draft<P>>(
     requires so_far { DraftOf D.first_item D.begun D.Fits draft.old scan bytes.now }
     requires open_end { (D.begun draft.old).is_done ≡ false }
     requires searched { scan.bytes + scan.searched ≡ length bytes.now }
-    ensures all { IfOk result (λ count. DraftOfAll D.first_item D.begun D.Fits draft.new count bytes.now) }
+    ensures all { IfOk result (λ count. DraftOfAll D.first_item D.begun D.Fits draft.new count
+        bytes.now) }
     ensures few { IfOk result (λ count. count ≤ length bytes.now) }
 {
     if scan.bytes == bytes.len() {

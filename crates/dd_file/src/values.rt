@@ -75,7 +75,8 @@ impl<'a> Values<'a> {
 
     /// The next value, without the white space around it; `None` at the end and from then on (own).
     pub fn next(&mut self) -> Option<&'a [u8]>
-        ensures { MatchOption result ((self.old ≡ []) × (self.new ≡ [])) (λ value. self.old ≡ value.now ∷ self.new) }
+        ensures { MatchOption result ((self.old ≡ []) × (self.new ≡ [])) (λ value. self.old
+            ≡ value.now ∷ self.new) }
     {
         match self.kind {
             ValuesKind::Nothing => None,

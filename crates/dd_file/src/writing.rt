@@ -13,7 +13,8 @@ use crate::fault::WriteFault;
 fn write_once<W: Sink>(writer: &mut W, bytes: &[u8]) -> usize
     requires { 0 < length bytes.now }
     ensures bound { result ≤ length bytes.now }
-    ensures bytes { Appends (W.contents writer.old) (W.contents writer.new) (take result bytes.now) }
+    ensures bytes { Appends (W.contents writer.old) (W.contents writer.new)
+        (take result bytes.now) }
     ensures failed { W.has_failed writer.new ≡ (W.has_failed writer.old || (result == 0)) }
 {
     match writer.write(bytes) {
@@ -28,9 +29,11 @@ fn write_once<W: Sink>(writer: &mut W, bytes: &[u8]) -> usize
 fn write_rest<W: Sink>(writer: &mut W, bytes: &[u8], first_count: usize) -> usize
     requires { first_count ≤ length bytes.now }
     ensures bound { result ≤ length bytes.now }
-    ensures bytes { (start : Option (List ℕ)) → Appends start (W.contents writer.old) (take first_count bytes.now)
+    ensures bytes { (start : Option (List ℕ))
+        → Appends start (W.contents writer.old) (take first_count bytes.now)
         → Appends start (W.contents writer.new) (take result bytes.now) }
-    ensures failed { W.has_failed writer.new ≡ (W.has_failed writer.old || nat_lt result (length bytes.now)) }
+    ensures failed { W.has_failed writer.new
+        ≡ (W.has_failed writer.old || nat_lt result (length bytes.now)) }
 {
     let mut written = first_count;
     while written < bytes.len() {
@@ -47,8 +50,10 @@ fn write_rest<W: Sink>(writer: &mut W, bytes: &[u8], first_count: usize) -> usiz
 #[inline(always)]
 pub(crate) fn write_prefix<W: Sink>(writer: &mut W, bytes: &[u8]) -> usize
     ensures bound { result ≤ length bytes.now }
-    ensures bytes { Appends (W.contents writer.old) (W.contents writer.new) (take result bytes.now) }
-    ensures failed { W.has_failed writer.new ≡ (W.has_failed writer.old || nat_lt result (length bytes.now)) }
+    ensures bytes { Appends (W.contents writer.old) (W.contents writer.new)
+        (take result bytes.now) }
+    ensures failed { W.has_failed writer.new
+        ≡ (W.has_failed writer.old || nat_lt result (length bytes.now)) }
     ensures nothing { bytes.now ≡ [] → writer.new ≡ writer.old }
 {
     if bytes.is_empty() {
@@ -66,7 +71,8 @@ pub(crate) fn write_prefix<W: Sink>(writer: &mut W, bytes: &[u8]) -> usize
 #[inline(always)]
 pub fn write_all<W: Sink>(writer: &mut W, bytes: &[u8]) -> Result<(), WriteFault>
     ensures ok { OnOk result (Appends (W.contents writer.old) (W.contents writer.new) bytes.now) }
-    ensures err { OnErr result (AppendsPart (W.contents writer.old) (W.contents writer.new) bytes.now) }
+    ensures err { OnErr result (AppendsPart (W.contents writer.old) (W.contents writer.new)
+        bytes.now) }
     // After an error the writer has failed; without one no write failed in this call.
     ensures failed { OnErr result (W.has_failed writer.new ≡ true) }
     ensures sound { OnOk result (W.has_failed writer.new ≡ W.has_failed writer.old) }

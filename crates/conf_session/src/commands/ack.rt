@@ -21,7 +21,8 @@ pub(super) fn run(
 ) -> Result<SessionUpdate, NoMemory>
     requires { text.old.items ≡ [] }
     ensures { IfOk result (λ update. (next : ChangerState)
-        → reply_in changer.now next text.new.items update ≡ spec.reply_to_ack changer.now id index) }
+        → reply_in changer.now next text.new.items update
+        ≡ spec.reply_to_ack changer.now id index) }
 {
     match changer.ack_answer(id, index) {
         Ok(progress) => {

@@ -25,7 +25,8 @@ pub(super) fn run(
 ) -> Result<SessionUpdate, NoMemory>
     requires blank { text.old.items ≡ [] }
     requires some { 1 ≤ count }
-    ensures { IfOk result (λ update. reply_in session.now.changer next.new text.new.items update ≡ undo_last session.now count) }
+    ensures { IfOk result (λ update. reply_in session.now.changer next.new text.new.items update
+        ≡ undo_last session.now count) }
 {
     let alloc = *text.allocator();
     match session.undo_plan(alloc, count) {
@@ -51,7 +52,8 @@ fn take_steps(
 ) -> Result<SessionUpdate, NoMemory>
     requires blank { text.old.items ≡ [] }
     requires plan { undo_plan_of session.now count ≡ Ok plan.now }
-    ensures { IfOk result (λ update. reply_in session.now.changer next.new text.new.items update ≡ undone session.now count plan.now) }
+    ensures { IfOk result (λ update. reply_in session.now.changer next.new text.new.items update
+        ≡ undone session.now count plan.now) }
 {
     one_changer_after_steps();
     *next = session.changer().try_clone()?;

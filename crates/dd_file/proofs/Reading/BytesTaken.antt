@@ -1,15 +1,14 @@
 -- What holds of whatever comes next: items and lines have bytes, and their errors are those of the input.
 use Rattle.std.proofs.Common.{◌≡◌, ℕ, zero, suc, ◌+◌, ◌-◌, ◌<◌, ◌≤◌, Bool, true, false, List, [], ◌∷◌, length, take, drop, map, refl, sym, ◌∙◌, ap, subst, arith, rules}
-use Rattle.std.specs.Prelude.{Option, Some, None, Result, Ok, Err, ⊤, filter}
-use Rattle.std.specs.List.{concat, list_any}
+use Rattle.std.specs.Prelude.{Option, Some, None, Result, Ok, Err, ⊤}
+use Rattle.std.specs.List.{concat}
 use Rattle.std.proofs.lemmas.List.{length-append, length-drop}
-use Rattle.ascii_text.specs.Lines.{first_len, full_lines, line_of, ends_in_newline}
+use Rattle.ascii_text.specs.Lines.{first_len, full_lines, line_of}
 use Rattle.dd_file.specs.Script.{FirstItem, NoItem, Ended, Open, result_of, first_of, first_line_of, at_line}
 use Rattle.dd_file.specs.Position.{Position, longest_input}
 use Rattle.dd_file.specs.Grammar.{next_line, next_item, from_first_item, with_count, at_end, is_too_long, full_lines_within}
 use Rattle.dd_file.specs.InOrder.{TakesBytes}
 use Rattle.dd_file.specs.Answer.{IsLineFault, IsItemFault}
-use Rattle.dd_file.specs.Buffered.{is_ended, is_first_buffered, is_line_buffered}
 use Rattle.dd_file.specs.Draft.{IsBegun, IsSound, IsGrammar, IsNew, begun_line}
 use Rattle.dd_file.specs.ItemDraft.{DraftText, FitsIn, begun_item, blank_draft}
 use Rattle.dd_file.specs.declared.item.Item.{Item}
@@ -108,10 +107,3 @@ line-new draft none = record { fits = tt; none = ap begun_line none; grammar = n
 
 pub item-new : (draft : DraftText) → draft ≡ blank_draft → IsNew first_of at_line IsItemFault begun_item (λ draft. FitsIn draft.state draft.parts) draft
 item-new draft blank = rw blank (record { fits = refl; none = refl; grammar = next_item-grammar; known = begun_item-is })
-
--- a line is buffered where a newline is
-pub line-unbuffered : (position : Position) (bytes : List ℕ) → is_first_buffered first_line_of position bytes ≡ false → is_line_buffered position bytes ≡ false
-line-unbuffered position bytes = at (full_lines bytes) where
-  at : (ps : List (List ℕ)) → is_ended (first_line_of (map line_of (filter ends_in_newline ps))) ≡ false → list_any ends_in_newline ps ≡ false
-  at [] none = refl
-  at (p ∷ ps) none = grind (arith, at ps)

@@ -4,7 +4,7 @@ use Rattle.std.specs.Prelude.{filter, Option, Some, None, Result, Ok, Err}
 use Rattle.std.specs.Io.KnownBytes.{IsAtEnd}
 use Rattle.std.specs.List.{concat}
 use Rattle.std.proofs.lemmas.Bool.Decides.{nat_tests}
-use Rattle.std.proofs.lemmas.List.{append_assoc, append-nil, length-append, drop-append-le, length-map, map-append, take-append-le}
+use Rattle.std.proofs.lemmas.List.{append_assoc, append-nil, length-append, drop-append-le, length-map, map-append, take-append-le, take_all}
 use Rattle.std.proofs.Math.Seq.{take-append_seam}
 use Rattle.ascii_text.specs.Lines.{full_lines, line_of, lines_of, ends_in_newline}
 use Rattle.dd_file.specs.Position.{Position, longest_input, longest_lookahead}
@@ -12,7 +12,7 @@ use Rattle.dd_file.specs.Script.{FirstItem, NoItem, Ended, Open, result_of, line
 use Rattle.dd_file.specs.Grammar.{Next, Parsed, Faulty, next_of, from_first_item, with_count, is_too_long, full_lines_within}
 use Rattle.dd_file.specs.ReaderState.{ReaderState}
 use Rattle.dd_file.specs.Answer.{ReadsOn, next_in_answer, fault_of}
-use Rattle.dd_file.specs.Buffered.{is_first_buffered, whole_lines, is_ended, passed, ended}
+use Rattle.dd_file.specs.Buffered.{IsFirstBuffered, is_first_buffered, within_limit, whole_lines, is_ended, passed, ended}
 use Rattle.dd_file.specs.Draft.{BegunItem, IsBegun, IsGrammar, DraftOf, DraftOfAll, opened, item_result}
 use Rattle.dd_file.specs.declared.scan.Scan.{Scan}
 use Rattle.dd_file.specs.declared.fault.SyntaxFault.{SyntaxFault}
@@ -58,10 +58,13 @@ module _ {A D : Type 0} {first : List (List ℕ) → FirstItem A} {begun : D →
   draft-first scan bytes d open_end = ap first (sym (append-nil (lines_of d.whole))) ∙ sym (d.first_item []) ∙ (known draft d.fits).open_end open_end
 
   -- no item ends in what is buffered
-  pub open-buffered : (scan : Scan) (state : ReaderState) → DraftOf first begun Fits draft scan state.buffered → (begun draft).is_done ≡ false → scan.bytes + scan.searched ≡ length state.buffered → is_first_buffered first state.position state.buffered ≡ false
-  open-buffered scan state d open_end searched =
-      let lines : whole_lines state.buffered ≡ lines_of d.whole = ap whole_lines d.is ∙ ap (map line_of) (whole-lines d.whole d.rest d.ends (none-in d.rest (draft-clear d searched))) in
-      ap (λ ls. is_ended (first ls)) lines ∙ ap is_ended (draft-first scan state.buffered d open_end) ∙ at (begun draft).result where
+  pub open-buffered : (scan : Scan) (state : ReaderState) → DraftOf first begun Fits draft scan (within_limit state) → (begun draft).is_done ≡ false → scan.bytes + scan.searched ≡ length (within_limit state) → IsFirstBuffered first state → ⊥
+  open-buffered scan state d open_end searched buffered =
+      let bytes : within_limit state ≡ state.buffered = take_all (longest_input - state.position.bytes) state.buffered (omega (arith, buffered.limit)) in
+      let lines : whole_lines (within_limit state) ≡ lines_of d.whole = ap whole_lines d.is ∙ ap (map line_of) (whole-lines d.whole d.rest d.ends (none-in d.rest (draft-clear d searched))) in
+      let none : is_first_buffered first (within_limit state) ≡ false = ap (λ ls. is_ended (first ls)) lines ∙ ap is_ended (draft-first scan (within_limit state) d open_end) ∙ at (begun draft).result in
+      let enough : is_first_buffered first (within_limit state) ≡ true = ap (is_first_buffered first) bytes ∙ buffered.enough in
+      let bad = sym none ∙ enough in cc where
         at : (r : Option (Result A SyntaxFault)) → is_ended (opened r) ≡ false
         at r = grind arith
 

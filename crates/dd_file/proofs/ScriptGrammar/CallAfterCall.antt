@@ -9,7 +9,6 @@ use Rattle.dd_file.specs.Grammar.{Next, Over, Parsed, Faulty, Script, followed, 
 use Rattle.dd_file.specs.ReaderState.{ReaderState}
 use Rattle.dd_file.specs.Answer.{AgreesWith, Agrees}
 use Rattle.dd_file.specs.InOrder.{TakesBytes}
-use Rattle.dd_file.specs.InTurn.{AgreesInTurn}
 
 -- the same rest after what comes next
 followed-same : {A : Type 0} (rest other : Position → List ℕ → Script A) (found : Next A) → ((item : A) (suffix : Position) (left : List ℕ) → found ≡ Parsed item suffix left → rest suffix left ≡ other suffix left) →
@@ -45,6 +44,13 @@ consumes-append (Some o) (Some m) (Some n) xs ys a b = a ∙ ap (λ t. xs ++ t) 
 pub no-prefix : (xs ys : List ℕ) → xs ++ ys ≡ [] → (xs ≡ []) × (ys ≡ [])
 no-prefix [] ys none = (refl, none)
 no-prefix (x ∷ xs) ys none = cc
+
+-- An input that agrees with two calls, one after the other: it agrees with what the first one read; and what is
+-- buffered after that, followed by the rest of the input, agrees with what the second one read.
+pub record AgreesInTurn (old mid : ReaderState) (before between after : Option (List ℕ)) (input more : List ℕ) : Type 0 where
+  pub suffix : List ℕ
+  pub first : Agrees old before between input suffix
+  pub second : Agrees mid between after (mid.buffered ++ suffix) more
 
 in-turn : (old mid : ReaderState) (before between after input more one two : List ℕ) → before ≡ one ++ between → between ≡ two ++ after →
     (mid.is_ended ≡ true → (old.is_ended ≡ true) ⊎ (between ≡ [])) → AgreesWith old before after input more → AgreesInTurn old mid (Some before) (Some between) (Some after) input more

@@ -3,11 +3,11 @@ use Rattle.std.proofs.Common.{◌≡◌, ℕ, suc, ◌-◌, ◌≤◌, Bool, tru
 use Rattle.std.specs.Prelude.{◌==◌, nat_eq, if◌then◌else◌}
 use Rattle.std.specs.List.{ends_with}
 use Rattle.std.proofs.Math.Seq.{drop-append_seam}
-use Rattle.std.proofs.lemmas.List.{append_assoc, append-nil}
+use Rattle.std.proofs.lemmas.List.{append_assoc, append-nil, append_cancel_left}
 use Rattle.std.proofs.lemmas.Bool.Decides.{nat_tests}
 use lib.Pointwise.{pointwise}
 use Rattle.ascii_text.specs.Lines.{newline, without_last}
-use Rattle.dd_file.specs.Rewritten.{newlines_at_end, without_double_end}
+use Rattle.dd_file.specs.Rewritten.{newlines_at_end, pending_newline, rest_of_script, without_double_end}
 use Rattle.ascii_text.proofs.Offered.{without_last-append}
 
 -- what a text ends in is decided by its last bytes
@@ -82,3 +82,52 @@ double_end-pushed xs a = ap without_double_end (append_assoc xs (a ∷ []) newli
   at : (c : Bool) → xs ++ (if c && true then a ∷ [] else a ∷ newline) ≡ cond c (xs ++ a ∷ []) ((xs ++ a ∷ []) ++ newline)
   at true = refl
   at false = sym (append_assoc xs (a ∷ []) newline)
+
+-- ---- a script that is written part by part
+-- a text that does not end in a newline, and more
+after-byte : (text : List ℕ) (byte : ℕ) → newlines_at_end text ≡ 0 → without_double_end (text ++ byte ∷ []) ≡ text ++ byte ∷ []
+after-byte [] byte none = grind (arith, nat_tests)
+after-byte (x ∷ []) byte none = grind (arith, nat_tests)
+after-byte (x ∷ y ∷ []) byte none = double_end-longer x (y ∷ byte ∷ []) (omega arith) ∙ ap (λ t. x ∷ t) (after-byte (y ∷ []) byte (grind (arith, nat_tests)))
+after-byte (x ∷ y ∷ z ∷ text) byte none =
+    double_end-longer x (y ∷ z ∷ text ++ byte ∷ []) (omega arith) ∙ ap (λ t. x ∷ t) (after-byte (y ∷ z ∷ text) byte (sym (newlines_at_end-longer x (y ∷ z ∷ text) (omega arith)) ∙ none))
+
+after-bytes : (text : List ℕ) (byte : ℕ) (rest : List ℕ) → newlines_at_end text ≡ 0 → without_double_end (text ++ byte ∷ rest) ≡ text ++ without_double_end (byte ∷ rest)
+after-bytes text byte [] none = after-byte text byte none ∙ ap (λ t. text ++ t) (sym (after-byte [] byte refl))
+after-bytes text byte (next ∷ rest) none = double_end-after text (byte ∷ next ∷ rest) (omega arith)
+
+-- a script is its first part but for the pending newline, and what is left after it
+script-parted : (text rest : List ℕ) → without_double_end (text ++ rest) ≡ without_last 10 text ++ rest_of_script (newlines_at_end text) rest
+script-parted text [] = ap without_double_end (append-nil text) ∙ sym (text-ended text)
+script-parted text (byte ∷ rest) = at (newlines_at_end text == 0) (none (newlines_at_end text)) (without_last 10 text) (text-buffered text) where
+  none : (n : ℕ) → (n == 0) ≡ true → n ≡ 0
+  none n is = grind (arith, nat_tests)
+
+  at : (c : Bool) → (c ≡ true → newlines_at_end text ≡ 0) → (prefix : List ℕ) → prefix ++ (if c then [] else newline) ≡ text →
+      without_double_end (text ++ byte ∷ rest) ≡ prefix ++ without_double_end ((if c then [] else newline) ++ byte ∷ rest)
+  at true none prefix is = after-bytes text byte rest (none refl) ∙ ap (λ t. t ++ without_double_end (byte ∷ rest)) (sym is ∙ append-nil prefix)
+  at false some prefix is =
+      ap (λ t. without_double_end (t ++ byte ∷ rest)) (sym is) ∙ ap without_double_end (append_assoc prefix newline (byte ∷ rest)) ∙ double_end-after prefix (newline ++ byte ∷ rest) (omega arith)
+
+nothing-pending : (c : Bool) → without_last 10 ((if c then [] else newline) ++ []) ≡ []
+nothing-pending true = refl
+nothing-pending false = refl
+
+pending-more : (text more : List ℕ) → without_last 10 (text ++ more) ≡ without_last 10 text ++ without_last 10 (pending_newline (newlines_at_end text) ++ more)
+pending-more text [] = ap (without_last 10) (append-nil text) ∙ sym (append-nil (without_last 10 text)) ∙ ap (λ t. without_last 10 text ++ t) (sym (nothing-pending (newlines_at_end text == 0)))
+pending-more text (byte ∷ more) =
+    let pending = pending_newline (newlines_at_end text) in
+    without_last-append 10 text byte more ∙ ap (λ t. t ++ without_last 10 (byte ∷ more)) (sym (text-buffered text))
+    ∙ append_assoc (without_last 10 text) pending (without_last 10 (byte ∷ more)) ∙ ap (λ t. without_last 10 text ++ t) (sym (without_last-append 10 pending byte more))
+
+-- what is written of more text is what was left, but for what is left after it
+pub rest-more : (newlines after : ℕ) (text more rest : List ℕ) → newlines ≡ newlines_at_end text → after ≡ newlines_at_end (text ++ more) →
+    rest_of_script newlines (more ++ rest) ≡ without_last 10 (pending_newline newlines ++ more) ++ rest_of_script after rest
+rest-more newlines after text more rest is counts =
+    append_cancel_left (without_last 10 text) _ _ (
+    ap (λ n. without_last 10 text ++ rest_of_script n (more ++ rest)) is ∙ sym (script-parted text (more ++ rest))
+    ∙ ap without_double_end (sym (append_assoc text more rest)) ∙ script-parted (text ++ more) rest
+    ∙ ap (λ n. without_last 10 (text ++ more) ++ rest_of_script n rest) (sym counts) ∙ ap (λ t. t ++ rest_of_script after rest) (pending-more text more)
+    ∙ ap (λ n. (without_last 10 text ++ without_last 10 (pending_newline n ++ more)) ++ rest_of_script after rest) (sym is)
+    ∙ append_assoc (without_last 10 text) (without_last 10 (pending_newline newlines ++ more)) (rest_of_script after rest)
+    )

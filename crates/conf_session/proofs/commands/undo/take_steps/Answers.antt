@@ -14,7 +14,7 @@ returns-in_ok-append_tracker-in-Ok c =
     let steps = c.args.plan.now in
     let changer = c.args.session.now.changer in
     let after = c.apply_plan.new.changer in
-    let copied : c.in_ok-next.field-0 ≡ changer = c.in_ok-next.ensures.same ∙ c.changer.ensures.changer in
+    let copied : c.in_ok-next.field-0 ≡ changer = c.in_ok-next.ensures.same ∙ c.changer.ensures in
     let there : after_steps changer steps ≡ Some after =
     ap (λ (before : ChangerState). after_steps before steps) (sym copied) ∙ (c.one_changer_after_steps.ensures.taken c.in_ok-next.field-0 after steps).0 c.in-Ok.ensures.taken in
     let reply : List ℕ → Reply = λ actual. record { actual = actual; update = Undone after c.args.count } in

@@ -1,20 +1,22 @@
 use Rattle.std.proofs.Common.{◌≡◌, sym, ap, ◌∙◌}
 use Rattle.std.specs.Prelude.{Some, None, option_copied, slice_get}
 use Rattle.conf_change.proofs.Offered.{item-copied}
-use Rattle.conf_session.proofs.QuorumValues.{value_at, value-absent, value-first}
+use Rattle.conf_session.specs.Quorum.{known}
+use Rattle.conf_session.proofs.QuorumValues.{value-here, value-nowhere}
 use Rattle.conf_session.proofs.values_by_id.ValuesById.value_of.Goals as goal
 
-pub returns-in-Some-get : goal.returns-in-Some-get
-returns-in-Some-get g c =
-    let values = c.args.self.now.values.now in
-    let there : slice_get values c.in-Some.index ≡ Some c.in-Some-get.value.now = sym (item-copied values c.in-Some.index c.get.result c.get.ensures.lookup) ∙ ap option_copied c.in-Some-get.is in
-    ap value_at (sym there) ∙ value-first c.args.id c.in-Some.index c.args.self.now.ids values c.in-Some.ensures
-
-pub returns-in-None-get : goal.returns-in-None-get
-returns-in-None-get g c =
-    let values = c.args.self.now.values.now in
-    let none : slice_get values c.in-Some.index ≡ None = sym (item-copied values c.in-Some.index c.get.result c.get.ensures.lookup) ∙ ap option_copied c.in-None-get.is in
-    ap value_at (sym none) ∙ value-first c.args.id c.in-Some.index c.args.self.now.ids values c.in-Some.ensures
+pub returns-in-Some : goal.returns-in-Some
+returns-in-Some g c =
+    let s = c.args.self.now in
+    let there : slice_get c.deref.result.now c.in-Ok.position ≡ Some c.in-Some.value.now = sym (item-copied c.deref.result.now c.in-Ok.position c.get.result c.get.ensures.lookup) ∙ ap option_copied c.in-Some.is in
+    c.unwrap_or.ensures ∙ sym (value-here s.ids.items c.as_slice.result.now s.values.items c.deref.result.now c.args.id c.in-Ok.position _ s.ascends c.as_slice.ensures.value c.deref.ensures.value c.in-Ok.ensures there)
 
 pub returns-in-None : goal.returns-in-None
-returns-in-None g c = value-absent c.args.id c.args.self.now.ids c.args.self.now.values.now c.in-None.ensures
+returns-in-None g c =
+    let s = c.args.self.now in
+    let none : slice_get c.deref.result.now c.in-Ok.position ≡ None = sym (item-copied c.deref.result.now c.in-Ok.position c.get.result c.get.ensures.lookup) ∙ ap option_copied c.in-None.is in
+    sym (value-here s.ids.items c.as_slice.result.now s.values.items c.deref.result.now c.args.id c.in-Ok.position _ s.ascends c.as_slice.ensures.value c.deref.ensures.value c.in-Ok.ensures none)
+
+pub returns-in-Err : goal.returns-in-Err
+returns-in-Err g c =
+    let s = c.args.self.now in sym (value-nowhere s.ids.items c.as_slice.result.now (known s.values.items) c.args.id c.in-Err.field-0 c.as_slice.ensures.value c.in-Err.ensures)
