@@ -2,3 +2,4 @@
 
 pub mod FirstParts
 pub mod MarkedLines
+pub mod AppendedItems

@@ -2,7 +2,5 @@
 
 pub mod Check
 pub mod Rewrite
-pub mod Undo
 pub mod Next
 pub mod Plan
-pub mod PlanScript

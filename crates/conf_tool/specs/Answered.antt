@@ -1,17 +1,16 @@
--- What has been written of the output after some parts of the input, and what is left of it. Each mode has a function
--- that gives what is left, from the mode's state; a run is proved with it, part by part.
+-- What is left of the output of a mode after some parts of its input, by the mode's state. A run is proved with it, part
+-- by part: what was written, and then what is left, is the output.
 use Rattle.std.specs.Prelude.{◌≡◌, ◌≤◌, ℕ, ◌+◌, ◌||◌, true, List, [], ◌∷◌, ◌++◌, flat_map, count_by, nat_lt, length, Option, Some, None, Result, Ok, Err, IfSome}
 use Rattle.std.specs.List.{list_any}
-use Rattle.std.specs.Io.KnownBytes.{Appends, Keeps}
-use Rattle.dd_file.specs.Grammar.{Script}
-use Rattle.dd_file.specs.Rewritten.{Entry, is_directive, without_double_end}
-use Rattle.dd_file.specs.RewriterState.{RewriterState, HasWritten}
+use Rattle.std.specs.Io.KnownBytes.{Appends}
+use Rattle.dd_file.specs.Position.{Position}
+use Rattle.dd_file.specs.Grammar.{Next, Script, script_from, followed}
+use Rattle.dd_file.specs.Rewritten.{Entry, is_directive, rest_of_script}
 use Rattle.dd_file.specs.declared.item.Item.{Item}
 use Rattle.dd_file.specs.declared.fault.FileFault.{FileFault}
-use Rattle.dd_file.specs.declared.expecting.Expecting.TheVariants.{Ready}
 use Rattle.conf_session.specs.SessionState.{SessionState}
 use Rattle.conf_tool.specs.Reports.{session_after_all, answered_entries, answered_text, differs, report, counts_line}
-use Rattle.conf_tool.specs.Outputs.{Output, clean_unless, check_status, undone_unless, worse_of, pair_then, session_after_pair, ends_within, planned_pairs}
+use Rattle.conf_tool.specs.Outputs.{Output, output, clean_unless, check_status, undone_unless, worse_of, pair_then, session_after_pair, ends_within, planned_pairs}
 use Rattle.conf_change.specs.Configuration.{is_valid}
 use Rattle.conf_tool.specs.Pairs.{NumberedLine, numbered, configuration_lines, pair_to, with_target}
 use Rattle.conf_tool.specs.declared.pair.Current.{Current}
@@ -32,6 +31,10 @@ prepended parts rest = script (parts ++ rest.items) rest.fault
 abbrev pub with_prefix : List ℕ → Output → Output
 with_prefix text output = record { text = text ++ output.text; outcome = output.outcome }
 
+-- an input is its next part, and then the rest
+abbrev pub InTurn : {A : Type 0} → (Position → List ℕ → Next A) → Type 0
+InTurn next = (position : Position) (bytes : List ℕ) → script_from next position bytes ≡ followed (script_from next) (next position bytes)
+
 -- the replies to these parts were written, and what is left of the output comes after them
 pub record WrotePrefix {A : Type 0} (total left : Script A → Output) (parts : List A) (before after : Option (List ℕ)) : Type 0 where
   pub text : List ℕ
@@ -50,36 +53,13 @@ rest_checked directives mismatches entries (Some fault) = record { text = flat_m
 abbrev pub check_left : SessionState → ℕ → ℕ → Script Item → Output
 check_left session directives mismatches rest = rest_checked directives mismatches (answered_entries session rest.items) rest.fault
 
--- `check` has written its replies to these parts, and has counted no more directives than parts
-pub record HasChecked (session : SessionState) (directives mismatches : ℕ) (total : Script Item → Output) (parts : List Item) (before after : Option (List ℕ)) : Type 0 where
-  pub prefix : WrotePrefix total (check_left session directives mismatches) parts before after
-  pub few : directives ≤ length parts
+-- what is left of the output of `rewrite`, by the session and the newlines at the end of the text so far
+abbrev pub rewrite_left : SessionState → ℕ → Script Item → Output
+rewrite_left session newlines rest = output (rest_of_script newlines (answered_text session rest.items)) (clean_unless rest.fault)
 
--- what is left of the output of `rewrite`, by the session; a newline at the end of the whole may be dropped
-abbrev pub rewrite_left : SessionState → Script Item → Output
-rewrite_left session rest = record { text = answered_text session rest.items; outcome = clean_unless rest.fault }
-
--- an output without a second newline at its end, as a rewritten script is written
-abbrev pub ended : Output → Output
-ended output = record { text = without_double_end output.text; outcome = output.outcome }
-
--- `rewrite` has written these parts, but for a newline at their end, which is kept back until it is known what follows
-pub record HasRewritten (session : SessionState) (rewriter : RewriterState) (total : Script Item → Output) (parts : List Item) (before after : Option (List ℕ)) : Type 0 where
-  pub text : List ℕ
-  pub wrote : HasWritten rewriter.newlines before after text
-  pub ready : rewriter.expecting ≡ Ready
-  pub is : (rest : Script Item) → total (prepended parts rest) ≡ ended (with_prefix text (rewrite_left session rest))
-
--- what is left of the output of `undo`, by the session: all of it, since `undo` writes at the end
+-- what is left of the output of `undo`, by the session: all of it, since its reply is to the end
 abbrev pub undo_left : SessionState → ℕ → Script Item → Output
 undo_left session count rest = undone_unless (session_after_all session rest.items) count rest.fault
-
--- `undo` has run these parts, and has written nothing
-pub record HasRun (session : SessionState) (rewriter : RewriterState) (count : ℕ) (total : Script Item → Output) (parts : List Item) (before after : Option (List ℕ)) : Type 0 where
-  pub unwritten : Keeps before after
-  pub ready : rewriter.expecting ≡ Ready
-  pub nothing : (buffered : Option (List ℕ)) → HasWritten rewriter.newlines buffered buffered []
-  pub is : (rest : Script Item) → total (prepended parts rest) ≡ undo_left session count rest
 
 -- what is left of the output of `plan` after the first line of a pair, by what was read there
 abbrev pub pairs_within : PlanOptions → SessionState → ℕ → Result Current PlanInputFault → List NumberedLine → Option FileFault → Output
@@ -103,9 +83,8 @@ abbrev pub plan_left : PlanOptions → SessionState → ℕ → ℕ → Option C
 plan_left options session count number now status rest =
     with_status status (pairs_left options session number now (configuration_lines (numbered (count + 1) rest.items)) rest.fault)
 
--- `plan` has written its replies to these lines, which have no more pairs than lines
-pub record HasPlanned (options : PlanOptions) (session : SessionState) (count number : ℕ) (now : Option Current) (status : Status) (total : Script (List ℕ) → Output) (parts : List (List ℕ)) (before after : Option (List ℕ)) : Type 0 where
-  pub prefix : WrotePrefix total (plan_left options session count number now status) parts before after
-  pub counted : count ≡ length parts
-  pub few : number ≤ length parts + 1
+-- `plan` has read this many lines, in which there are no more pairs
+pub record HasPlanned (lines number : ℕ) (now : Option Current) (count : ℕ) : Type 0 where
+  pub counted : lines ≡ count
+  pub few : number ≤ count + 1
   pub valid : IfSome now (λ current. is_valid current.config ≡ true)

@@ -22,6 +22,7 @@ use Rattle.conf_session.specs.Undo.{undo_plan_of}
 use Rattle.plan_output.specs.CarriedOut.{LinesLead}
 use Rattle.plan_output.specs.Json.{path_json}
 use Rattle.plan_output.specs.Stages.{AreOnTheWay, stages}
+use Rattle.plan_input.specs.MemberList.{is_member_list}
 use Rattle.conf_tool.specs.Pairs.{NumberedLine, numbered, configuration_lines, strategy_from, pair_at, pair_of_texts}
 use Rattle.conf_tool.specs.declared.pair.Pair.{Pair}
 use Rattle.conf_tool.specs.declared.plan_input_fault.PlanInputFault.{PlanInputFault}
@@ -90,7 +91,7 @@ pairs_in_texts options from to = pair_before (pair_of_texts options from to) []
 -- What a pair that is read is: its strategy is the one for the text of its current configuration, and each id that is
 -- down is a member of one of its configurations.
 pub record IsAsked (options : PlanOptions) (from : List ℕ) (pair : Pair) : Type 0 where
-  pub strategy : pair.strategy ≡ strategy_from options.strategy from
+  pub strategy : pair.strategy ≡ strategy_from options.strategy (is_member_list from)
   pub members : (id : ℕ) → has (ids_down options.down) id ≡ true →
       (is_member pair.current id || is_member pair.target id) ≡ true
 

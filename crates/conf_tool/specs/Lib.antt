@@ -11,7 +11,6 @@ pub mod PlanAnswer
 pub mod NextReply
 pub mod Outputs
 pub mod Answered
-pub mod AnsweredLaws
 pub mod Run
 pub mod ExitStatus
 pub mod Laws

@@ -40,6 +40,10 @@ pub record Output : Type 0 where
   pub text : List ℕ
   pub outcome : Result Status ToolFault
 
+-- an output by its parts
+abbrev pub output : List ℕ → Result Status ToolFault → Output
+output text outcome = record { text = text; outcome = outcome }
+
 -- a run ends clean unless its input has an error
 abbrev pub clean_unless : Option FileFault → Result Status ToolFault
 clean_unless None = Ok Clean
@@ -111,7 +115,7 @@ undone_output input history floor count = undone_script history floor count (scr
 
 -- the output of a run that ends with this outcome and writes nothing more
 abbrev pub ends : Result Status ToolFault → Output
-ends outcome = record { text = []; outcome = outcome }
+ends outcome = output [] outcome
 
 -- the text between the replies to two pairs, by the form of the output
 abbrev pub separator : PlanOutput → List ℕ

@@ -8,7 +8,7 @@ use Rattle.conf_plan.specs.declared.strategy.Strategy.{Strategy}
 use Rattle.conf_plan.specs.declared.strategy.Strategy.TheVariants.{Shortest, OneAtATime}
 use Rattle.plan_input.specs.Input.{current_in, target_in}
 use Rattle.plan_input.specs.MemberList.{is_member_list}
-use Rattle.plan_input.specs.Stranger.{stranger_of}
+use Rattle.plan_input.specs.Nonmember.{first_nonmember}
 use Rattle.plan_input.specs.declared.text_fault.TextFault.{TextFault}
 use Rattle.conf_tool.specs.declared.origin.Origin.{Origin}
 use Rattle.conf_tool.specs.declared.origin.Origin.TheVariants.{Line, From, To}
@@ -45,11 +45,11 @@ written_at origin (Ok c) = Ok c
 written_at origin (Err fault) = Err (BadText origin fault)
 
 -- ---- the current configuration
--- The strategy of the plan from a configuration that is written so. If none is given, it is one-at-a-time for a list of
--- members as etcdctl prints it, since etcd's server makes one change at a time, and shortest otherwise.
-abbrev pub strategy_from : Option Strategy → List ℕ → Strategy
-strategy_from (Some strategy) text = strategy
-strategy_from None text = if is_member_list text then OneAtATime else Shortest
+-- The strategy of the plan from a configuration. If none is given, it is one-at-a-time for a list of members as etcdctl
+-- prints it, since etcd's server makes one change at a time, and shortest otherwise.
+abbrev pub strategy_from : Option Strategy → Bool → Strategy
+strategy_from (Some strategy) is_member_list = strategy
+strategy_from None is_member_list = if is_member_list then OneAtATime else Shortest
 
 -- a current configuration that was read there, with the strategy of the plan from it
 abbrev pub begun : Origin → Strategy → Result Configuration PlanInputFault → Result Current PlanInputFault
@@ -59,7 +59,7 @@ begun origin strategy (Err fault) = Err fault
 -- the current configuration that is written there, with the strategy of the plan from it
 abbrev pub current_written : PlanOptions → Origin → List ℕ → Result Current PlanInputFault
 current_written options origin text =
-    begun origin (strategy_from options.strategy text) (written_at origin (current_in text))
+    begun origin (strategy_from options.strategy (is_member_list text)) (written_at origin (current_in text))
 
 -- the current configuration that a line denotes
 abbrev pub current_at : PlanOptions → NumberedLine → Result Current PlanInputFault
@@ -81,7 +81,7 @@ of_members origin (Some id) pair = Err (not_member origin id)
 -- ids that are down, of which the least one that is a member of neither configuration is reported.
 abbrev pub paired : PlanOptions → Origin → Current → Result Configuration PlanInputFault → Result Pair PlanInputFault
 paired options origin current (Ok target) =
-    of_members origin (stranger_of options.down current.config target)
+    of_members origin (first_nonmember options.down current.config target)
     (record { current = current.config; target = target; strategy = current.strategy })
 paired options origin current (Err fault) = Err fault
 

@@ -41,14 +41,6 @@ as_tool_fault (InputTooLong line) = Script (InputTooLong line)
 as_tool_fault ReadOfScript = Read
 as_tool_fault NoMemoryForScript = NoMemory
 
--- an error of writing a reply: a failed write, or no memory
-abbrev pub IsAnswerFault : ToolFault → Type 0
-IsAnswerFault (Script fault) = ⊥
-IsAnswerFault (Configurations fault) = ⊥
-IsAnswerFault Read = ⊥
-IsAnswerFault Write = ⊤
-IsAnswerFault NoMemory = ⊤
-
 -- an error in the input of a mode that reads a script
 abbrev pub IsScriptFault : FileFault → Type 0
 IsScriptFault (Syntax line fault) = ⊤
@@ -100,14 +92,14 @@ CanAnswer mode (Err Read) = ⊤
 CanAnswer mode (Err Write) = ⊤
 CanAnswer mode (Err NoMemory) = ⊤
 
--- What stops a run at a part of its input: a failed write or no memory, or an error in the input. After the latter the
--- whole output was written, whatever input follows.
+-- What stops a mode at a part of its input: no memory, or an error in the input, with which the output ends whatever
+-- input follows.
 abbrev pub IsStop : Mode → ToolFault → Type 0 → Type 0
-IsStop mode (Script fault) IsWhole = ⊥
-IsStop mode (Configurations fault) IsWhole = ReadsConfigurations mode × IsWhole
-IsStop mode Read IsWhole = ⊥
-IsStop mode Write IsWhole = ⊤
-IsStop mode NoMemory IsWhole = ⊤
+IsStop mode (Script fault) Ends = ⊥
+IsStop mode (Configurations fault) Ends = ReadsConfigurations mode × Ends
+IsStop mode Read Ends = ⊥
+IsStop mode Write Ends = ⊥
+IsStop mode NoMemory Ends = ⊤
 
 -- whether the result is that a read failed
 abbrev pub is_read_failure : {X : Type 0} → Result X ToolFault → Bool

@@ -30,10 +30,14 @@ pub fn command_line<'a, S: AsStr>(
 ) -> Result<Invocation<'a>, ArgumentFault<'a>>
     // The arguments are refused exactly if `clap` refuses them, if `--down` is not a list of ids, or if `--from` and
     // `--to` are not a pair. The error is what is wrong.
-    ensures refused { OfProgram (λ the_program. MatchResult result (λ _. fault_of the_program (map S.text arguments.entry.now) ≡ []) (IsRefusal the_program (map S.text arguments.entry.now))) }
+    ensures refused { OfProgram (λ the_program. MatchResult result
+        (λ _. fault_of the_program (map S.text arguments.entry.now) ≡ [])
+        (IsRefusal the_program (map S.text arguments.entry.now))) }
 
     // The invocation has what `clap` reads in the arguments.
-    ensures asked { OfProgram (λ the_program. IfOk result (IsInvocation (subcommand_of the_program (map S.text arguments.entry.now)))) }
+    ensures asked { OfProgram
+        (λ the_program. IfOk result
+        (IsInvocation (subcommand_of the_program (map S.text arguments.entry.now)))) }
 {
     let names = OptionNames {
         floors: &["0", "1"],
@@ -49,7 +53,8 @@ fn read_arguments<'a, S: AsStr>(
     arguments: &'a [S],
     names: OptionNames<'a>,
 ) -> Result<Invocation<'a>, ArgumentFault<'a>>
-    ensures refused { MatchResult result (λ _. fault_of (the_program names.entry) (map S.text arguments.entry.now) ≡ [])
+    ensures refused { MatchResult result (λ _. fault_of (the_program names.entry)
+        (map S.text arguments.entry.now) ≡ [])
         (IsRefusal (the_program names.entry) (map S.text arguments.entry.now)) }
     ensures asked { IfOk result (IsInvocation (subcommand_of (the_program names.entry)
         (map S.text arguments.entry.now))) }
@@ -116,11 +121,13 @@ fn options_of<'a>(alloc: Global, matches: &ArgMatches<'a>) -> Result<Options, Ar
         ≡ strategy_named (first_of (codes "strategy") (rows_of (found_of matches.now)))) }
     ensures output { IfOk result (λ options. options.plan.output
         ≡ output_named (first_of (codes "output") (rows_of (found_of matches.now)))) }
-    ensures down { IfOk result (λ options. ids_down (first_of (codes "down") (rows_of (found_of matches.now)))
+    ensures down { IfOk result
+        (λ options. ids_down (first_of (codes "down") (rows_of (found_of matches.now)))
         ≡ Some options.plan.down) }
     ensures range { IfOk result IsInRange }
     ensures fault { IfErr result (λ fault. (file from to : Option Text) →
-        IsValueFaultOf file (first_of (codes "down") (rows_of (found_of matches.now))) from to fault) }
+        IsValueFaultOf file (first_of (codes "down") (rows_of (found_of matches.now))) from to
+        fault) }
 {
     Ok(Options {
         history: asked_number(text_of(matches, "history"), 0, 1000, 100),
@@ -136,7 +143,8 @@ fn options_of<'a>(alloc: Global, matches: &ArgMatches<'a>) -> Result<Options, Ar
 
 // The value of an option or an argument, if it is given.
 fn text_of<'a>(matches: &ArgMatches<'a>, id: &str) -> Option<&'a str>
-    ensures { option_map (λ text. text.now) result ≡ first_of id.now (rows_of (found_of matches.now)) }
+    ensures { option_map (λ text. text.now) result
+        ≡ first_of id.now (rows_of (found_of matches.now)) }
 {
     matches.get_str(id)
 }
@@ -172,7 +180,8 @@ fn pair_of<'a>(
 // The error of FILE beside `--from` and `--to`. If it is an id, it was meant to be one of those that are down.
 fn file_beside_pair<'a>(file: &'a str, down: Option<&'a str>) -> ArgumentFault<'a>
     ensures { (from to : Option Text) → AreGiven from to →
-        IsValueFaultOf (Some file.entry.now) (option_map (λ text. text.now) down.entry) from to result }
+        IsValueFaultOf (Some file.entry.now) (option_map (λ text. text.now) down.entry) from to
+        result }
 {
     match down {
         Some(ids) if read_id(file.as_bytes()).is_some() => ArgumentFault::IdBesidePair(file, ids),
@@ -185,7 +194,8 @@ fn file_beside_pair<'a>(file: &'a str, down: Option<&'a str>) -> ArgumentFault<'
 fn asked_number(value: Option<&str>, least: usize, most: usize, default: usize) -> usize
     requires least { least ≤ default }
     requires most { default ≤ most }
-    ensures asked { IsOptionValue least most default (option_map (λ text. text.now) value.entry) result }
+    ensures asked { IsOptionValue least most default (option_map (λ text. text.now) value.entry)
+        result }
     ensures least { least ≤ result }
     ensures most { result ≤ most }
 {
@@ -236,7 +246,8 @@ fn ids_down<'a>(
     alloc: Global,
     list: Option<&'a str>,
 ) -> Result<Option<SessionIds>, ArgumentFault<'a>>
-    ensures down { IfOk result (λ down. ids_down (option_map (λ text. text.now) list.entry) ≡ Some down) }
+    ensures down { IfOk result (λ down. ids_down (option_map (λ text. text.now) list.entry)
+        ≡ Some down) }
     ensures fault { IfErr result (λ fault. (file from to : Option Text) →
         IsValueFaultOf file (option_map (λ text. text.now) list.entry) from to fault) }
 {

@@ -1,11 +1,11 @@
 //! A list of ids with commas between them, as the value of an option.
 ghost use Rattle.std.specs.Prelude.{◌≡◌, ◌<◌, option_map, IfOk};
-ghost use Rattle.std.specs.Char.{is_ascii_digit, is_ascii_hexdigit};
+ghost use Rattle.std.specs.Char.{is_ascii_hexdigit};
 ghost use Rattle.std.specs.List.{list_all};
 ghost use Rattle.conf_session.specs.Parameter.{id_in};
 ghost use Rattle.conf_tool.specs.IdList.{ids_listed, is_hexadecimal, hexadecimal_in, hexadecimal_listed};
 
-use ascii_text::number::read_number;
+use ascii_text::number::{has_digits_alone, read_number};
 use ascii_text::position::split_at_first;
 use quorum_sets::NoMemory;
 use std::alloc::Global;
@@ -59,7 +59,7 @@ fn hexadecimal_digits(text: &[u8]) -> Option<&[u8]>
             None
         };
     }
-    if is_hexadecimal(text) && !is_decimal(text) {
+    if is_hexadecimal(text) && !has_digits_alone(text) {
         Some(text)
     } else {
         None
@@ -78,13 +78,6 @@ fn has_hexadecimal_digits(text: &[u8]) -> bool
     ensures { result ≡ list_all is_ascii_hexdigit text.now }
 {
     text.iter().all(|byte| byte.is_ascii_hexdigit())
-}
-
-// Whether each byte is a decimal digit.
-fn is_decimal(text: &[u8]) -> bool
-    ensures { result ≡ list_all is_ascii_digit text.now }
-{
-    text.iter().all(|byte| byte.is_ascii_digit())
 }
 
 /// The id that a text denotes.

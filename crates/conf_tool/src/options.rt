@@ -21,8 +21,10 @@ pub struct Options {
 }
 
 impl Default for Options {
-    ghost is_default = { λ options. (options.history ≡ 100) × (options.steps ≡ 1) × (options.floor ≡ One)
-        × (options.plan.strategy ≡ None) × (options.plan.output ≡ Text Steps) × (options.plan.down ≡ None) };
+    ghost is_default = { λ options. (options.history ≡ 100) × (options.steps ≡ 1)
+        × (options.floor ≡ One)
+        × (options.plan.strategy ≡ None) × (options.plan.output ≡ Text Steps)
+        × (options.plan.down ≡ None) };
 
     /// The defaults: 100 configurations are kept, one change is undone, the smallest initial next index is 1, and a
     /// plan is printed as steps, by the strategy that is decided for its pair.

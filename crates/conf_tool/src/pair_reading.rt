@@ -10,19 +10,19 @@ use crate::pair::{Current, Pair};
 use crate::plan_input_fault::PlanInputFault;
 use crate::plan_options::PlanOptions;
 use crate::tool_fault::ToolFault;
-use ascii_text::white_space::{is_blank, trimmed};
+use ascii_text::white_space::is_blank;
 use conf_change::Config;
 use conf_plan::Strategy;
 use conf_session::SessionIds;
-use plan_input::{TextFault, is_member_list, read_current, read_target, stranger_of};
-use quorum_sets::NoMemory;
+use dd_file::line_kinds::is_comment;
+use plan_input::{TextFault, first_nonmember, read_current, read_target};
 use std::alloc::Global;
 
 /// Whether the line is blank or a comment, as in a script.
 pub(crate) fn is_skipped(line: &[u8]) -> bool
     ensures { result ≡ is_skipped line.now }
 {
-    is_blank(line) || trimmed(line).starts_with(b"#")
+    is_blank(line) || is_comment(line)
 }
 
 /// The current configuration in the text that is written there, with the strategy of the plan from it.
@@ -32,36 +32,31 @@ pub(crate) fn current_of(
     origin: Origin,
     text: &[u8],
 ) -> Result<Current, ToolFault>
-    ensures current { IfOk result (λ current. current_written options.now origin text.now ≡ Ok current) }
+    ensures current { IfOk result (λ current. current_written options.now origin text.now
+        ≡ Ok current) }
     ensures valid { IfOk result (λ current. is_valid current.config ≡ true) }
     ensures fault { IfErr result (IsFaultOf (current_written options.now origin text.now)) }
 {
     match read_current(alloc, text) {
-        Ok(config) => {
-            let strategy = strategy_from(alloc, options.strategy, text)?;
-            Ok(Current {
-                origin,
-                config,
-                strategy,
-            })
-        }
+        Ok(read) => Ok(Current {
+            origin,
+            strategy: strategy_from(options.strategy, read.is_member_list),
+            config: read.config,
+        }),
         Err(TextFault::NoMemory) => Err(ToolFault::NoMemory),
         Err(fault) => Err(ToolFault::Configurations(PlanInputFault::BadText(origin, fault))),
     }
 }
 
-// The strategy of the plan from a configuration that is written so: the one that is given, or else one-at-a-time for a
-// list of members as etcdctl prints it, and shortest for any other text.
-fn strategy_from(alloc: Global, given: Option<Strategy>, text: &[u8]) -> Result<Strategy, NoMemory>
-    ensures { IfOk result (λ strategy. strategy ≡ strategy_from given text.now) }
+// The strategy of the plan from a configuration: the one that is given, or else one-at-a-time for a list of members as
+// etcdctl prints it, and shortest for any other text.
+fn strategy_from(given: Option<Strategy>, is_member_list: bool) -> Strategy
+    ensures { result ≡ strategy_from given is_member_list }
 {
-    if let Some(strategy) = given {
-        return Ok(strategy);
-    }
-    if is_member_list(alloc, text)? {
-        Ok(Strategy::OneAtATime)
-    } else {
-        Ok(Strategy::Shortest)
+    match given {
+        Some(strategy) => strategy,
+        None if is_member_list => Strategy::OneAtATime,
+        None => Strategy::Shortest,
     }
 }
 
@@ -80,7 +75,7 @@ pub(crate) fn pair_of(
     ensures fault { IfErr result (IsFaultOf (pair_from options.now origin text.now current)) }
 {
     let target = target_of(alloc, origin, &current.config, text)?;
-    match stranger_of(options.down.as_ref(), &current.config, &target) {
+    match first_nonmember(options.down.as_ref(), &current.config, &target) {
         Some(id) => Err(ToolFault::Configurations(not_member(origin, id))),
         None => Ok(Pair {
             current: current.config,
@@ -98,7 +93,8 @@ fn target_of(
     text: &[u8],
 ) -> Result<Config<SessionIds>, ToolFault>
     requires { is_valid now.now ≡ true }
-    ensures configuration { IfOk result (λ c. written_at origin (target_in now.now text.now) ≡ Ok c) }
+    ensures configuration { IfOk result (λ c. written_at origin (target_in now.now text.now)
+        ≡ Ok c) }
     ensures valid { IfOk result (λ c. is_valid c ≡ true) }
     ensures fault { IfErr result (IsFaultOf (written_at origin (target_in now.now text.now))) }
 {

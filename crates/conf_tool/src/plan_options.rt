@@ -26,7 +26,8 @@ pub struct PlanOptions {
 }
 
 impl Default for PlanOptions {
-    ghost is_default = { λ options. (options.strategy ≡ None) × (options.output ≡ Text Steps) × (options.down ≡ None) };
+    ghost is_default = { λ options. (options.strategy ≡ None) × (options.output ≡ Text Steps)
+        × (options.down ≡ None) };
 
     /// No strategy is given, the plan is printed as steps, and no id is down.
     fn default() -> PlanOptions {

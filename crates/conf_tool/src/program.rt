@@ -65,7 +65,8 @@ fn mode_command<'a>(
     mode: Mode,
     names: OptionNames<'a>,
 ) -> Result<Command<'a>, AllocError>
-    ensures { IfOk result (λ command. app_of command ≡ record { top = mode_command names.entry mode; subs = [] }) }
+    ensures { IfOk result (λ command. app_of command
+        ≡ record { top = mode_command names.entry mode; subs = [] }) }
 {
     match mode {
         Mode::Lines => command_with(alloc, LINES, &[]),

@@ -33,7 +33,8 @@ impl Counts {
     pub(crate) fn add(&mut self, differs: bool)
         requires { self.old.directives < 2 ^ 30 }
         ensures directives { self.new.directives ≡ self.old.directives + 1 }
-        ensures mismatches { self.new.mismatches ≡ self.old.mismatches + (if differs then 1 else 0) }
+        ensures mismatches { self.new.mismatches
+            ≡ self.old.mismatches + (if differs then 1 else 0) }
     {
         self.directives += 1;
         if differs {
@@ -53,7 +54,8 @@ impl Counts {
 
     /// Appends the counts. On `NoMemory` a part of them may be appended.
     pub(crate) fn append_to(&self, text: &mut Vec<u8>) -> Result<(), NoMemory>
-        ensures { OnOk result (text.new.items ≡ text.old.items ++ counts_line self.now.directives self.now.mismatches) }
+        ensures { OnOk result (text.new.items ≡ text.old.items
+            ++ counts_line self.now.directives self.now.mismatches) }
     {
         append_count(text, self.directives)?;
         text.extend_from_slice(b" directives, ")?;
@@ -71,7 +73,8 @@ pub(crate) fn append_difference(
     directive: &Directive,
     actual: &[u8],
 ) -> Result<(), NoMemory>
-    ensures { OnOk result (text.new.items ≡ text.old.items ++ difference_text actual.now directive.now) }
+    ensures { OnOk result (text.new.items ≡ text.old.items
+        ++ difference_text actual.now directive.now) }
 {
     append_count(text, directive.line())?;
     text.extend_from_slice(b": ")?;
@@ -104,7 +107,8 @@ fn append_marked(text: &mut Vec<u8>, sign: u8, bytes: &[u8]) -> Result<(), NoMem
 
 // Appends a line, and a newline if it does not end in one.
 fn append_line(text: &mut Vec<u8>, full_line: &[u8]) -> Result<(), NoMemory>
-    ensures { OnOk result (text.new.items ≡ text.old.items ++ (without_last 10 full_line.now ++ newline)) }
+    ensures { OnOk result (text.new.items ≡ text.old.items
+        ++ (without_last 10 full_line.now ++ newline)) }
 {
     text.extend_from_slice(full_line)?;
     if !ends_in_newline(full_line) {

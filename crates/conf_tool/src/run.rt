@@ -10,7 +10,6 @@ ghost use Rattle.conf_tool.specs.declared.mode.Mode.{Mode as ModeName};
 mod check;
 mod clean_unless;
 mod handler;
-mod input;
 mod lines;
 mod next;
 mod plan;
@@ -34,9 +33,9 @@ use crate::status::Status;
 use crate::tool_fault::ToolFault;
 use dd_file::blocks::Blocks;
 use dd_file::device::{Sink, Source};
+use dd_file::item_draft::ItemDraft;
 use dd_file::laws::nothing_waits;
-use dd_file::lines::Lines;
-use dd_file::reader::Reader;
+use dd_file::line::LineDraft;
 use std::alloc::Global;
 
 /// Reads the input to its end, and writes the mode's output. Nothing is tried again. If a read, a write or an
@@ -51,7 +50,8 @@ pub fn run<R: Source, W: Sink>(
     requires { IsInRange options }
 
     // What is written is the output, or a prefix of it, for each input that agrees with what was read.
-    ensures output { Answers (output_of mode options) (R.remaining reader.old) (R.remaining reader.new)
+    ensures output { Answers (output_of mode options) (R.remaining reader.old)
+        (R.remaining reader.new)
         (W.contents writer.old) (W.contents writer.new) result }
     ensures consumed { LosesPrefix (R.remaining reader.old) (R.remaining reader.new) }
 
@@ -62,32 +62,12 @@ pub fn run<R: Source, W: Sink>(
     ensures kinds { CanAnswer mode result }
 {
     match mode {
-        Mode::Lines => run_by_part(Lines::new(alloc)?, LineByLine::new(alloc), reader, writer),
-        Mode::Check => run_by_part(
-            Reader::new(alloc)?,
-            Checking::new(alloc, options)?,
-            reader,
-            writer,
-        ),
-        Mode::Rewrite => run_by_part(
-            Reader::new(alloc)?,
-            Rewriting::new(alloc, options)?,
-            reader,
-            writer,
-        ),
-        Mode::Undo => run_by_part(
-            Reader::new(alloc)?,
-            Undoing::new(alloc, options)?,
-            reader,
-            writer,
-        ),
-        Mode::Plan => run_by_part(
-            Lines::new(alloc)?,
-            Planning::new(alloc, options.plan)?,
-            reader,
-            writer,
-        ),
-        Mode::Next => run_by_part(Lines::new(alloc)?, Deciding::new(alloc), reader, writer),
+        Mode::Lines => run_by_part::<LineDraft, LineByLine, R, W>(alloc, options, reader, writer),
+        Mode::Check => run_by_part::<ItemDraft, Checking, R, W>(alloc, options, reader, writer),
+        Mode::Rewrite => run_by_part::<ItemDraft, Rewriting, R, W>(alloc, options, reader, writer),
+        Mode::Undo => run_by_part::<ItemDraft, Undoing, R, W>(alloc, options, reader, writer),
+        Mode::Plan => run_by_part::<LineDraft, Planning, R, W>(alloc, options, reader, writer),
+        Mode::Next => run_by_part::<LineDraft, Deciding, R, W>(alloc, options, reader, writer),
     }
 }
 
@@ -105,8 +85,10 @@ pub fn run_and_flush<R: Source, W: Sink>(
 
     // What the blocks have, in their writer and in the buffer, is the output, or a prefix of it, for each input that
     // agrees with what was read, ..
-    ensures output { Answers (output_of mode options) (R.remaining reader.old) (R.remaining reader.new)
-        (⟦<Blocks<W> as Sink>⟧.contents writer.old) (⟦<Blocks<W> as Sink>⟧.contents writer.new) result }
+    ensures output { Answers (output_of mode options) (R.remaining reader.old)
+        (R.remaining reader.new)
+        (⟦<Blocks<W> as Sink>⟧.contents writer.old) (⟦<Blocks<W> as Sink>⟧.contents writer.new)
+        result }
 
     // .. and their writer has all of it, if the result means that the output is whole.
     ensures whole { is_whole_output result ≡ true → NothingBuffered writer.new ×
@@ -114,7 +96,8 @@ pub fn run_and_flush<R: Source, W: Sink>(
         (W.contents (buffered_writer writer.old)) (W.contents (buffered_writer writer.new)) result }
 
     // Nothing is left in the buffer, unless the writer has failed.
-    ensures flushed { W.has_failed (buffered_writer writer.new) ≡ false → NothingBuffered writer.new }
+    ensures flushed { W.has_failed (buffered_writer writer.new) ≡ false
+        → NothingBuffered writer.new }
     ensures consumed { LosesPrefix (R.remaining reader.old) (R.remaining reader.new) }
 
     // A failed read and `NoMemory` take precedence over a failed write.
@@ -137,10 +120,13 @@ pub fn run_pair_and_flush<W: Sink>(
     writer: &mut Blocks<W>,
 ) -> Result<Status, ToolFault>
     requires { NothingBuffered writer.old }
-    ensures output { Means (planned_texts options texts.entry.from.now texts.entry.to.now) result (⟦<Blocks<W> as Sink>⟧.contents writer.old) (⟦<Blocks<W> as Sink>⟧.contents writer.new) }
+    ensures output { Means (planned_texts options texts.entry.from.now texts.entry.to.now) result
+        (⟦<Blocks<W> as Sink>⟧.contents writer.old) (⟦<Blocks<W> as Sink>⟧.contents writer.new) }
     ensures whole { is_whole_output result ≡ true → NothingBuffered writer.new ×
-        Means (planned_texts options texts.entry.from.now texts.entry.to.now) result (W.contents (buffered_writer writer.old)) (W.contents (buffered_writer writer.new)) }
-    ensures flushed { W.has_failed (buffered_writer writer.new) ≡ false → NothingBuffered writer.new }
+        Means (planned_texts options texts.entry.from.now texts.entry.to.now) result
+        (W.contents (buffered_writer writer.old)) (W.contents (buffered_writer writer.new)) }
+    ensures flushed { W.has_failed (buffered_writer writer.new) ≡ false
+        → NothingBuffered writer.new }
     ensures read { is_read_failure result ≡ false }
     ensures write { ReportsWrite (W.has_failed (buffered_writer writer.old))
         (W.has_failed (buffered_writer writer.new)) result }
@@ -159,9 +145,11 @@ fn flush_after<W: Sink>(
         → Means output outcome before (⟦<Blocks<W> as Sink>⟧.contents writer.old)
         → Means output result before (⟦<Blocks<W> as Sink>⟧.contents writer.new) }
     ensures whole { is_whole_output result ≡ true → NothingBuffered writer.new }
-    ensures flushed { W.has_failed (buffered_writer writer.new) ≡ false → NothingBuffered writer.new }
+    ensures flushed { W.has_failed (buffered_writer writer.new) ≡ false
+        → NothingBuffered writer.new }
     ensures read { is_read_failure result ≡ is_read_failure outcome }
-    ensures write { (before : Bool) → W.has_failed (buffered_writer writer.old) ≡ (before || is_write_failure outcome)
+    ensures write { (before : Bool) → W.has_failed (buffered_writer writer.old)
+        ≡ (before || is_write_failure outcome)
         → ReportsWrite before (W.has_failed (buffered_writer writer.new)) result }
     ensures kinds { (mode : ModeName) → CanAnswer mode outcome → CanAnswer mode result }
 {

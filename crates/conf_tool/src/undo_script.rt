@@ -22,7 +22,8 @@ pub(crate) fn step_directive(alloc: Global, step: &Step) -> Result<Item, NoMemor
 
 // Changes as a line of input, if there are any.
 fn change_lines(alloc: Global, changes: &[Change]) -> Result<Vec<Vec<u8>>, NoMemory>
-    ensures { IfOk result (λ lines. map (λ line. line.items) lines.items ≡ spec.change_lines changes.now) }
+    ensures { IfOk result (λ lines. map (λ line. line.items) lines.items
+        ≡ spec.change_lines changes.now) }
 {
     let mut lines = Vec::new(alloc);
     if !changes.is_empty() {

@@ -81,7 +81,8 @@ fn report_arguments(rt: &HostRuntime, error: &io::Error) -> ExitCode
 fn run_on_system(rt: &HostRuntime, arguments: &[String]) -> ExitCode
     // It ends as is stated for files, an input and an output whose bytes are not known.
     ensures { (status_of result ≡ 3) ⊎
-        EndsForArguments (map ⟦<String as AsStr>⟧.text arguments.now) (λ _. None) None None None result }
+        EndsForArguments (map ⟦<String as AsStr>⟧.text arguments.now) (λ _. None) None None None
+        result }
 {
     match Blocks::new(rt.alloc(), ToWrite::new(rt.stdout())) {
         Ok(mut output) => run_arguments(
@@ -106,7 +107,8 @@ fn run_arguments<F: InputFiles, R: Source, W: Sink>(
     requires empty { NothingBuffered output.old }
 
     // The mode that they ask for runs over the input that they name, or they are refused.
-    ensures ends { EndsForArguments (map ⟦<String as AsStr>⟧.text arguments.now) (F.bytes_of files.now)
+    ensures ends { EndsForArguments (map ⟦<String as AsStr>⟧.text arguments.now)
+        (F.bytes_of files.now)
         (R.remaining input.old) (W.contents (buffered_writer output.old))
         (W.contents (buffered_writer output.new)) result }
     ensures read { status_of result ≢ 3 → R.has_failed input.new ≡ R.has_failed input.old }
@@ -159,7 +161,8 @@ fn run_invocation<F: InputFiles, R: Source, W: Sink>(
 ) -> ExitCode
     requires range { IsInRange invocation.options }
     requires empty { NothingBuffered output.old }
-    ensures ends { EndsFor (F.bytes_of files.now) (R.remaining input.old) (W.contents (buffered_writer output.old))
+    ensures ends { EndsFor (F.bytes_of files.now) (R.remaining input.old)
+        (W.contents (buffered_writer output.old))
         (W.contents (buffered_writer output.new)) invocation.entry result }
     ensures read { status_of result ≢ 3 → R.has_failed input.new ≡ R.has_failed input.old }
     ensures written { WritesOut W.has_failed output.old output.new result }
@@ -181,10 +184,12 @@ fn plan_to<W: Sink>(
 
     // The exit status is that of the plan from the one text to the other, ..
     ensures output { PlansWith (planned_texts options texts.entry.from.now texts.entry.to.now)
-        (⟦<Blocks<W> as Sink>⟧.contents writer.old) (⟦<Blocks<W> as Sink>⟧.contents writer.new) result }
+        (⟦<Blocks<W> as Sink>⟧.contents writer.old) (⟦<Blocks<W> as Sink>⟧.contents writer.new)
+        result }
 
     // .. and unless it is 3, the writer below has the whole output.
-    ensures given { status_of result ≢ 3 → PlansWith (planned_texts options texts.entry.from.now texts.entry.to.now)
+    ensures given { status_of result ≢ 3
+        → PlansWith (planned_texts options texts.entry.from.now texts.entry.to.now)
         (W.contents (buffered_writer writer.old)) (W.contents (buffered_writer writer.new)) result }
     ensures written { WritesOut W.has_failed writer.old writer.new result }
 {
@@ -238,8 +243,10 @@ fn run_over<F: InputFiles, R: Source, W: Sink>(
 ) -> ExitCode
     requires range { IsInRange invocation.options }
     requires empty { NothingBuffered output.old }
-    ensures ends { IfSome (output_over (F.bytes_of files.now) (R.remaining input.old) invocation.entry) (λ asked.
-        EndsAs asked (W.contents (buffered_writer output.old)) (W.contents (buffered_writer output.new)) result) }
+    ensures ends { IfSome (output_over (F.bytes_of files.now) (R.remaining input.old)
+        invocation.entry) (λ asked.
+        EndsAs asked (W.contents (buffered_writer output.old))
+        (W.contents (buffered_writer output.new)) result) }
     ensures kinds { CanEnd invocation.entry.mode result }
     ensures read { status_of result ≢ 3 → R.has_failed input.new ≡ R.has_failed input.old }
     ensures written { WritesOut W.has_failed output.old output.new result }
@@ -268,12 +275,15 @@ fn run_to<R: Source, W: Sink>(
     requires empty { NothingBuffered writer.old }
 
     // It is the mode with the options that the arguments ask for, and the exit status is that of its result, ..
-    ensures output { ExitsWith (output_of invocation.entry.mode invocation.entry.options) (R.remaining reader.old)
+    ensures output { ExitsWith (output_of invocation.entry.mode invocation.entry.options)
+        (R.remaining reader.old)
         (R.remaining reader.new)
-        (⟦<Blocks<W> as Sink>⟧.contents writer.old) (⟦<Blocks<W> as Sink>⟧.contents writer.new) result }
+        (⟦<Blocks<W> as Sink>⟧.contents writer.old) (⟦<Blocks<W> as Sink>⟧.contents writer.new)
+        result }
 
     // .. and unless it is 3, the writer below has the whole output.
-    ensures given { status_of result ≢ 3 → ExitsWith (output_of invocation.entry.mode invocation.entry.options)
+    ensures given { status_of result ≢ 3
+        → ExitsWith (output_of invocation.entry.mode invocation.entry.options)
         (R.remaining reader.old) (R.remaining reader.new)
         (W.contents (buffered_writer writer.old)) (W.contents (buffered_writer writer.new)) result }
     ensures consumed { LosesPrefix (R.remaining reader.old) (R.remaining reader.new) }

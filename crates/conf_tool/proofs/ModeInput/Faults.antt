@@ -3,16 +3,14 @@ use Rattle.std.proofs.Common.{◌≡◌, ℕ, Bool, false, ◌||◌, List, sym, 
 use Rattle.std.specs.Prelude.{Option, Err}
 use Rattle.dd_file.specs.Device.{AppendsPart}
 use Rattle.dd_file.specs.Answer.{IsInterrupted}
-use Rattle.dd_file.specs.Grammar.{Script as ScriptOf}
 use Rattle.dd_file.specs.Answer as reader
 use Rattle.dd_file.specs.declared.fault.FileFault.{FileFault}
 use Rattle.dd_file.specs.declared.fault.FileFault.TheVariants.{Read, NoMemory, InputTooLong, Syntax}
 use Rattle.conf_tool.specs.Outputs.{Output}
-use Rattle.conf_tool.specs.Run.{Means, Wrote, IsAnswerFault, IsStop, as_tool_fault, is_read_failure, is_write_failure}
-use Rattle.conf_tool.specs.declared.mode.Mode.{Mode}
+use Rattle.conf_tool.specs.Run.{Means, as_tool_fault, is_read_failure, is_write_failure}
 use Rattle.conf_tool.specs.declared.status.Status.{Status}
 use Rattle.conf_tool.specs.declared.tool_fault.ToolFault.{ToolFault}
-use Rattle.conf_tool.specs.declared.tool_fault.ToolFault.TheVariants.{Script, Configurations, Read as CannotRead, Write as CannotWrite, NoMemory as OutOfMemory}
+use Rattle.conf_tool.specs.declared.tool_fault.ToolFault.TheVariants.{Script, Read as CannotRead, NoMemory as OutOfMemory}
 
 -- a fault of the reader as one of the run: of the input ..
 pub record IsOfInput (fault converted : FileFault) : Type 0 where
@@ -50,23 +48,6 @@ reader-read fault converted x2 = grind arith
 
 pub reader-unwritten : (fault : FileFault) (converted : ToolFault) → IsOfReader fault converted → is_write_failure {X = Status} (Err converted) ≡ false
 reader-unwritten fault converted x2 = grind arith
-
--- a fault of what answers an input
-pub answer-means : (converted : ToolFault) → IsAnswerFault converted → (output : Output) (before after : Option (List ℕ)) → AppendsPart before after output.text → Means output (Err converted) before after
-answer-means (Script f) is output before after part = absurd is
-answer-means (Configurations f) is output before after part = absurd is
-answer-means CannotRead is output before after part = absurd is
-answer-means CannotWrite is output before after part = part
-answer-means OutOfMemory is output before after part = part
-
--- what stops a run at a part
-pub stop-means : {A : Type 0} (mode : Mode) (stop : ToolFault) (total : ScriptOf A → Output) (read found : ScriptOf A) (before after : Option (List ℕ)) (All : Type 0) → read ≡ found →
-    IsStop mode stop All → (All → Wrote (total found) (Err stop) before after) → AppendsPart before after (total found).text → Means (total read) (Err stop) before after
-stop-means mode (Script f) total read found before after All same is all part = absurd is
-stop-means mode (Configurations f) total read found before after All same is all part = subst (λ s. Wrote (total s) (Err (Configurations f)) before after) (sym same) (all is.1)
-stop-means mode CannotRead total read found before after All same is all part = absurd is
-stop-means mode CannotWrite total read found before after All same is all part = subst (λ s. AppendsPart before after (total s).text) (sym same) part
-stop-means mode OutOfMemory total read found before after All same is all part = subst (λ s. AppendsPart before after (total s).text) (sym same) part
 
 -- a call that fails so, after none did
 pub or-fault : (start now later fault converted : Bool) → later ≡ (now || fault) → converted ≡ fault → now ≡ start → later ≡ (start || converted)

@@ -10,7 +10,7 @@ use Rattle.dd_file.specs.ReaderState.{ReaderState, fresh}
 use Rattle.dd_file.specs.Answer.{Agrees, ReadsOn, IsInterrupted, next_in_answer}
 use Rattle.dd_file.specs.declared.fault.FileFault.{FileFault}
 use Rattle.dd_file.proofs.Offered.{consumes-append, agrees-in_turn}
-use Rattle.conf_tool.specs.Answered.{script, prepended}
+use Rattle.conf_tool.specs.Answered.{InTurn, script, prepended}
 
 -- known bytes that lose a part at the beginning
 pub loses-nothing : (now : Option (List ℕ)) → LosesPrefix now now
@@ -24,10 +24,6 @@ loses-more begin now later a b = (a.0 ++ b.0, consumes-append begin now later a.
 begin-input : (begin : Option (List ℕ)) (input more : List ℕ) → Agrees fresh begin begin input more → input ≡ more
 begin-input None input more agrees = absurd agrees
 begin-input (Some bytes) input more agrees = agrees.whole ∙ ap (λ t. ([] ++ t) ++ more) (append_cancel_right agrees.bytes_read [] bytes (sym agrees.consumed))
-
--- what is read is what comes next, and then the rest
-abbrev pub InTurn : {A : Type 0} → (Position → List ℕ → Next A) → Type 0
-InTurn next = (index : Position) (bytes : List ℕ) → script_from next index bytes ≡ followed (script_from next) (next index bytes)
 
 -- Each input that agrees with what was read begins with these parts, before what is read from there on.
 pub record Reached {A : Type 0} (next : Position → List ℕ → Next A) (begin now : Option (List ℕ)) (state : ReaderState) (parts : List A) : Type 0 where

@@ -1,107 +1,141 @@
--- Outputs of which the first parts were answered.
-use Rattle.std.proofs.Common.{◌≡◌, ℕ, List, [], ◌∷◌, ◌++◌, refl, sym, ◌∙◌, ap, subst}
-use Rattle.std.specs.Prelude.{Option, Some, None, Result}
-use Rattle.std.specs.Io.KnownBytes.{Appends}
+-- Outputs of which the first parts were written.
+use Rattle.std.proofs.Common.{◌≡◌, ℕ, true, false, List, [], ◌∷◌, ◌++◌, refl, sym, ◌∙◌, ap, subst, arith}
+use Rattle.std.specs.Prelude.{Option, Some, None, Result, Ok, Err}
+use Rattle.std.specs.Io.KnownBytes.{Appends, Keeps}
 use Rattle.std.proofs.lemmas.List.{append_assoc, append-nil}
-use Rattle.ascii_text.specs.Lines.{newline}
 use Rattle.dd_file.specs.Device.{AppendsPart}
 use Rattle.dd_file.specs.Grammar.{Script}
 use Rattle.dd_file.specs.declared.fault.FileFault.{FileFault}
-use Rattle.dd_file.proofs.Offered.{appends-append, part-part, append-part}
+use Rattle.dd_file.proofs.Offered.{appends-append, part-part, append-part, part-append}
 use Rattle.conf_tool.specs.Answered.{script, prepended, with_prefix, WrotePrefix}
-use Rattle.conf_change.specs.Configuration.{Configuration}
-use Rattle.conf_tool.specs.LineReply.{line_reply}
-use Rattle.conf_tool.specs.Outputs.{Output, ends, clean_unless, lines_output_from}
-use Rattle.conf_tool.specs.Run.{Wrote, Means}
+use Rattle.conf_tool.specs.Outputs.{Output, ends, output}
+use Rattle.conf_tool.specs.Run.{Answers, Wrote, Means, CanAnswer, IsStop, is_read_failure, is_write_failure, is_whole_output}
+use Rattle.conf_tool.specs.declared.mode.Mode.{Mode}
 use Rattle.conf_tool.specs.declared.tool_fault.ToolFault.{ToolFault}
+use Rattle.conf_tool.specs.declared.tool_fault.ToolFault.TheVariants.{Script as ScriptFault, Configurations, Read, Write, NoMemory}
 use Rattle.conf_tool.specs.declared.status.Status.{Status}
 
+-- ---- known bytes
 pub appends-nothing : (before : Option (List ℕ)) → Appends before before []
 appends-nothing None = tt
 appends-nothing (Some bytes) = sym (append-nil bytes)
 
--- one part more before what is left, and nothing left
-pub prepended-part : {A : Type 0} (parts : List A) (part : A) (rest : Script A) → prepended (parts ++ part ∷ []) rest ≡ prepended parts (prepended (part ∷ []) rest)
-prepended-part parts part rest = ap (λ items. script items rest.fault) (append_assoc parts (part ∷ []) rest.items)
+pub part-nothing : (before : Option (List ℕ)) (text : List ℕ) → AppendsPart before before text
+part-nothing None text = tt
+part-nothing (Some bytes) text = ([], text, refl, sym (append-nil bytes))
 
-pub prepended-nothing : {A : Type 0} (parts : List A) (fault : Option FileFault) → script parts fault ≡ prepended parts (script [] fault)
-prepended-nothing parts fault = ap (λ items. script items fault) (sym (append-nil parts))
+-- bytes, or a part of them, are appended, and a flush changes nothing
+kept-appends : (old mid new : Option (List ℕ)) (bytes : List ℕ) → Appends old mid bytes → Keeps mid new → Appends old new bytes
+kept-appends None mid new bytes a k = tt
+kept-appends (Some o) None new bytes a k = absurd a
+kept-appends (Some o) (Some m) None bytes a k = absurd k
+kept-appends (Some o) (Some m) (Some n) bytes a k = k ∙ a
 
-pub with_prefix-append : (xs ys : List ℕ) (output : Output) → with_prefix xs (with_prefix ys output) ≡ with_prefix (xs ++ ys) output
+pub kept-part : (old mid new : Option (List ℕ)) (bytes : List ℕ) → AppendsPart old mid bytes → Keeps mid new → AppendsPart old new bytes
+kept-part None mid new bytes a k = tt
+kept-part (Some o) None new bytes a k = absurd a
+kept-part (Some o) (Some m) None bytes a k = absurd k
+kept-part (Some o) (Some m) (Some n) bytes a k = (a.0, a.1, a.2, k ∙ a.3)
+
+-- ---- what was written, and what is left
+pub wrote-nothing : {A : Type 0} (total left : Script A → Output) (before : Option (List ℕ)) → ((rest : Script A) → left rest ≡ total rest) → WrotePrefix total left [] before before
+wrote-nothing total left before all = record { text = []; wrote = appends-nothing before; is = λ rest. sym (all rest) }
+
+pub wrote-kept : {A : Type 0} (total left : Script A → Output) (parts : List A) (before mid new : Option (List ℕ)) → WrotePrefix total left parts before mid → Keeps mid new → WrotePrefix total left parts before new
+wrote-kept total left parts before mid new prefix k = record { text = prefix.text; wrote = kept-appends before mid new prefix.text prefix.wrote k; is = prefix.is }
+
+-- it is a prefix of the output, whatever input follows
+pub wrote-prefix : {A : Type 0} (total left : Script A → Output) (parts : List A) (before mid : Option (List ℕ)) → WrotePrefix total left parts before mid → (rest : Script A) → AppendsPart before mid (total (prepended parts rest)).text
+wrote-prefix total left parts before mid prefix rest =
+    subst (λ (o : Output). AppendsPart before mid o.text) (sym (prefix.is rest)) (part-append before mid prefix.text (left rest).text prefix.wrote)
+
+with_prefix-append : (xs ys : List ℕ) (output : Output) → with_prefix xs (with_prefix ys output) ≡ with_prefix (xs ++ ys) output
 with_prefix-append xs ys output = ap (λ t. record { text = t; outcome = output.outcome }) (sym (append_assoc xs ys output.text))
 
--- ---- a mode that writes what it answers at once
+-- the reply to a part, by what was left before it and is left after it
+abbrev Replies : {A : Type 0} → (Script A → Output) → (Script A → Output) → A → List ℕ → Type 0
+Replies {A} left next part text = (rest : Script A) → left (prepended (part ∷ []) rest) ≡ with_prefix text (next rest)
 
--- a part was answered
-pub wrote-part : {A : Type 0} (total left next : Script A → Output) (parts : List A) (part : A) (text bytes : List ℕ) (before mid new : Option (List ℕ)) →
-    WrotePrefix total left parts before mid → ((rest : Script A) → left (prepended (part ∷ []) rest) ≡ with_prefix text (next rest)) → bytes ≡ text → Appends mid new bytes →
-    WrotePrefix total next (parts ++ part ∷ []) before new
-wrote-part total left next parts part text bytes before mid new prefix gives same appends = record {
+replied : {A : Type 0} (total left next : Script A → Output) (parts : List A) (part : A) (text : List ℕ) (before mid : Option (List ℕ)) →
+    (prefix : WrotePrefix total left parts before mid) → Replies left next part text → (rest : Script A) → total (prepended parts (prepended (part ∷ []) rest)) ≡ with_prefix (prefix.text ++ text) (next rest)
+replied total left next parts part text before mid prefix gives rest =
+    prefix.is (prepended (part ∷ []) rest) ∙ ap (with_prefix prefix.text) (gives rest) ∙ with_prefix-append prefix.text text (next rest)
+
+pub wrote-part : {A : Type 0} (total left next : Script A → Output) (parts : List A) (part : A) (text : List ℕ) (before mid new : Option (List ℕ)) →
+    WrotePrefix total left parts before mid → Replies left next part text → Appends mid new text → WrotePrefix total next (parts ++ part ∷ []) before new
+wrote-part total left next parts part text before mid new prefix gives appends = record {
   text = prefix.text ++ text;
-  wrote = appends-append before mid new prefix.text text prefix.wrote (subst (λ t. Appends mid new t) same appends);
+  wrote = appends-append before mid new prefix.text text prefix.wrote appends;
   is = λ rest.
-      ap total (prepended-part parts part rest) ∙ prefix.is (prepended (part ∷ []) rest)
-      ∙ ap (with_prefix prefix.text) (gives rest) ∙ with_prefix-append prefix.text text (next rest);
+      ap (λ items. total (script items rest.fault)) (append_assoc parts (part ∷ []) rest.items)
+      ∙ replied total left next parts part text before mid prefix gives rest;
 }
 
--- what was written is a prefix of the output, where the answer to a part was broken off too
-pub wrote-broken : {A : Type 0} (total left next : Script A → Output) (parts : List A) (part : A) (text bytes : List ℕ) (before mid new : Option (List ℕ)) →
-    WrotePrefix total left parts before mid → ((rest : Script A) → left (prepended (part ∷ []) rest) ≡ with_prefix text (next rest)) → bytes ≡ text → AppendsPart mid new bytes →
-    (more : List A) (fault : Option FileFault) → AppendsPart before new (total (script (parts ++ part ∷ more) fault)).text
-wrote-broken total left next parts part text bytes before mid new prefix gives same cut more fault =
-    subst (λ (o : Output). AppendsPart before new o.text)
-    (sym (prefix.is (script (part ∷ more) fault) ∙ ap (with_prefix prefix.text) (gives (script more fault)) ∙ with_prefix-append prefix.text text (next (script more fault))))
-    (part-part before new (prefix.text ++ text) (next (script more fault)).text (append-part before mid new prefix.text text prefix.wrote (subst (λ t. AppendsPart mid new t) same cut)))
+-- .. of which a part was written
+pub wrote-cut : {A : Type 0} (total left next : Script A → Output) (parts : List A) (part : A) (text : List ℕ) (before mid new : Option (List ℕ)) →
+    WrotePrefix total left parts before mid → Replies left next part text → AppendsPart mid new text → (rest : Script A) → AppendsPart before new (total (prepended parts (prepended (part ∷ []) rest))).text
+wrote-cut total left next parts part text before mid new prefix gives cut rest =
+    subst (λ (o : Output). AppendsPart before new o.text) (sym (replied total left next parts part text before mid prefix gives rest))
+    (part-part before new (prefix.text ++ text) (next rest).text (append-part before mid new prefix.text text prefix.wrote cut))
 
--- where a part ends the output, all of it was written
-pub wrote-all : {A : Type 0} (total left : Script A → Output) (parts : List A) (part : A) (outcome : Result Status ToolFault) (before mid : Option (List ℕ)) →
-    WrotePrefix total left parts before mid → ((rest : Script A) → left (prepended (part ∷ []) rest) ≡ ends outcome) →
-    (more : List A) (fault : Option FileFault) → Wrote (total (script (parts ++ part ∷ more) fault)) outcome before mid
-wrote-all total left parts part outcome before mid prefix last more fault =
-    let is = prefix.is (script (part ∷ more) fault) ∙ ap (with_prefix prefix.text) (last (script more fault)) in
-    (ap (λ o. o.outcome) is, subst (λ t. Appends before mid t) (sym (ap (λ o. o.text) is ∙ append-nil prefix.text)) prefix.wrote)
+-- ---- what stops a mode
+pub stop-means : {A : Type 0} (mode : Mode) (stop : ToolFault) (total left : Script A → Output) (parts : List A) (part : A) (before mid : Option (List ℕ)) → WrotePrefix total left parts before mid →
+    IsStop mode stop ((rest : Script A) → left (prepended (part ∷ []) rest) ≡ ends (Err stop)) → (rest : Script A) → Means (total (prepended parts (prepended (part ∷ []) rest))) (Err stop) before mid
+stop-means mode (ScriptFault fault) total left parts part before mid prefix is rest = absurd is
+stop-means mode (Configurations fault) total left parts part before mid prefix is rest =
+    let whole = prefix.is (prepended (part ∷ []) rest) ∙ ap (with_prefix prefix.text) (is.1 rest) in
+    (ap (λ o. o.outcome) whole, subst (λ t. Appends before mid t) (sym (ap (λ o. o.text) whole ∙ append-nil prefix.text)) prefix.wrote)
+stop-means mode Read total left parts part before mid prefix is rest = absurd is
+stop-means mode Write total left parts part before mid prefix is rest = absurd is
+stop-means mode NoMemory total left parts part before mid prefix is rest = wrote-prefix total left parts before mid prefix (prepended (part ∷ []) rest)
 
--- the output of these parts
-whole : {A : Type 0} (total left : Script A → Output) (parts : List A) (fault : Option FileFault) (last : List ℕ) (outcome : Result Status ToolFault) (before mid : Option (List ℕ)) →
-    (prefix : WrotePrefix total left parts before mid) → left (script [] fault) ≡ record { text = last; outcome = outcome } → total (script parts fault) ≡ record { text = prefix.text ++ last; outcome = outcome }
-whole total left parts fault last outcome before mid prefix ends =
-    ap total (prepended-nothing parts fault) ∙ prefix.is (script [] fault) ∙ ap (with_prefix prefix.text) ends
+pub means-of : {A : Type 0} (total : Script A → Output) (read written : Script A) (stop : ToolFault) (before after : Option (List ℕ)) → read ≡ written → Means (total written) (Err stop) before after → Means (total read) (Err stop) before after
+means-of total read written stop before after same means = subst (λ s. Means (total s) (Err stop) before after) (sym same) means
 
--- what is written at the end is the rest of the output
-pub wrote-end : {A : Type 0} (total left : Script A → Output) (parts : List A) (fault : Option FileFault) (last bytes : List ℕ) (outcome : Result Status ToolFault) (before mid new : Option (List ℕ)) →
-    WrotePrefix total left parts before mid → left (script [] fault) ≡ record { text = last; outcome = outcome } → bytes ≡ last → Appends mid new bytes → Wrote (total (script parts fault)) outcome before new
-wrote-end total left parts fault last bytes outcome before mid new prefix ends same appends =
-    let is = whole total left parts fault last outcome before mid prefix ends in
-    (ap (λ o. o.outcome) is, subst (λ t. Appends before new t) (sym (ap (λ o. o.text) is)) (appends-append before mid new prefix.text last prefix.wrote (subst (λ t. Appends mid new t) same appends)))
+-- .. which is an error of that mode, and none of a reader or writer
+pub record IsOfMode (X : Type 0) (mode : Mode) (stop : ToolFault) : Type 0 where
+  pub kind : CanAnswer mode (Err stop)
+  pub unread : is_read_failure {X = X} (Err stop) ≡ false
+  pub unwritten : is_write_failure {X = X} (Err stop) ≡ false
 
--- .. or a part of it
-pub wrote-end_part : {A : Type 0} (total left : Script A → Output) (parts : List A) (fault : Option FileFault) (last bytes : List ℕ) (outcome : Result Status ToolFault) (before mid new : Option (List ℕ)) →
-    WrotePrefix total left parts before mid → left (script [] fault) ≡ record { text = last; outcome = outcome } → bytes ≡ last → AppendsPart mid new bytes →
-    AppendsPart before new (total (script parts fault)).text
-wrote-end_part total left parts fault last bytes outcome before mid new prefix ends same cut =
-    subst (λ (o : Output). AppendsPart before new o.text) (sym (whole total left parts fault last outcome before mid prefix ends))
-    (append-part before mid new prefix.text last prefix.wrote (subst (λ t. AppendsPart mid new t) same cut))
+pub stop-kind : (Ends X : Type 0) (mode : Mode) (stop : ToolFault) → IsStop mode stop Ends → IsOfMode X mode stop
+stop-kind Ends X mode (ScriptFault fault) is = absurd is
+stop-kind Ends X mode (Configurations fault) is = record { kind = is.0; unread = refl; unwritten = refl }
+stop-kind Ends X mode Read is = absurd is
+stop-kind Ends X mode Write is = absurd is
+stop-kind Ends X mode NoMemory is = record { kind = tt; unread = refl; unwritten = refl }
 
--- nothing is written at the end, and only a fault counts
-pub clean-means : (output : Output) (fault : Option FileFault) (before after : Option (List ℕ)) → Wrote output (clean_unless fault) before after → Means output (clean_unless fault) before after
-clean-means output None before after wrote = wrote
-clean-means output (Some fault) before after wrote = wrote
+-- ---- the end
+ended : {A : Type 0} (total left : Script A → Output) (parts : List A) (fault : Option FileFault) (text : List ℕ) (outcome : Result Status ToolFault) (before mid : Option (List ℕ)) →
+    (prefix : WrotePrefix total left parts before mid) → left (script [] fault) ≡ output text outcome → total (script parts fault) ≡ output (prefix.text ++ text) outcome
+ended total left parts fault text outcome before mid prefix is =
+    ap (λ items. total (script items fault)) (sym (append-nil parts)) ∙ prefix.is (script [] fault) ∙ ap (with_prefix prefix.text) is
 
--- ---- the mode `lines`
--- what a line leaves
-lines-part : (c d : Configuration) (line : List ℕ) → d ≡ (line_reply c line).after → (rest : Script (List ℕ)) →
-    lines_output_from c (prepended (line ∷ []) rest) ≡ with_prefix ((line_reply c line).text ++ newline) (lines_output_from d rest)
-lines-part c d line is rest = ap (λ e. with_prefix ((line_reply c line).text ++ newline) (lines_output_from e rest)) (sym is)
+whole-means : (output : Output) (outcome : Result Status ToolFault) (before after : Option (List ℕ)) → is_whole_output outcome ≡ true → Wrote output outcome before after → Means output outcome before after
+whole-means output (Ok status) before after whole wrote = wrote
+whole-means output (Err (ScriptFault fault)) before after whole wrote = wrote
+whole-means output (Err (Configurations fault)) before after whole wrote = wrote
+whole-means output (Err Read) before after whole wrote = cc
+whole-means output (Err Write) before after whole wrote = cc
+whole-means output (Err NoMemory) before after whole wrote = cc
 
-pub lines_output-part : (c d : Configuration) (line : List ℕ) (total : Script (List ℕ) → Output) (parts : List (List ℕ)) (bytes : List ℕ) (before mid new : Option (List ℕ)) →
-    WrotePrefix total (lines_output_from c) parts before mid → d ≡ (line_reply c line).after → bytes ≡ (line_reply c line).text ++ newline → Appends mid new bytes →
-    WrotePrefix total (lines_output_from d) (parts ++ line ∷ []) before new
-lines_output-part c d line total parts bytes before mid new prefix is same appends =
-    wrote-part total (lines_output_from c) (lines_output_from d) parts line ((line_reply c line).text ++ newline) bytes before mid new prefix (lines-part c d line is) same appends
+pub whole-unfailed : (outcome : Result Status ToolFault) → is_whole_output outcome ≡ true → (is_read_failure outcome ≡ false) × (is_write_failure outcome ≡ false)
+whole-unfailed outcome whole = (grind arith, grind arith)
 
-pub lines_output-broken : (c : Configuration) (line : List ℕ) (total : Script (List ℕ) → Output) (parts more : List (List ℕ)) (fault : Option FileFault) (bytes : List ℕ) (before mid new : Option (List ℕ)) →
-    WrotePrefix total (lines_output_from c) parts before mid → bytes ≡ (line_reply c line).text ++ newline → AppendsPart mid new bytes →
-    AppendsPart before new (total (script (parts ++ line ∷ more) fault)).text
-lines_output-broken c line total parts more fault bytes before mid new prefix same cut =
-    wrote-broken total (lines_output_from c) (lines_output_from (line_reply c line).after) parts line ((line_reply c line).text ++ newline) bytes before mid new prefix
-    (lines-part c (line_reply c line).after line refl) same cut more fault
+pub wrote-end : {A : Type 0} (total left : Script A → Output) (parts : List A) (fault : Option FileFault) (text : List ℕ) (outcome : Result Status ToolFault) (before mid new : Option (List ℕ)) →
+    WrotePrefix total left parts before mid → left (script [] fault) ≡ output text outcome → is_whole_output outcome ≡ true → Appends mid new text → Means (total (script parts fault)) outcome before new
+wrote-end total left parts fault text outcome before mid new prefix ends whole appends =
+    let is = ended total left parts fault text outcome before mid prefix ends in
+    whole-means _ outcome before new whole
+    (ap (λ o. o.outcome) is, subst (λ t. Appends before new t) (sym (ap (λ o. o.text) is)) (appends-append before mid new prefix.text text prefix.wrote appends))
+
+-- .. of which a part was written
+pub wrote-end_part : {A : Type 0} (total left : Script A → Output) (parts : List A) (fault : Option FileFault) (text : List ℕ) (outcome : Result Status ToolFault) (before mid new : Option (List ℕ)) →
+    WrotePrefix total left parts before mid → left (script [] fault) ≡ output text outcome → AppendsPart mid new text → AppendsPart before new (total (script parts fault)).text
+wrote-end_part total left parts fault text outcome before mid new prefix ends cut =
+    subst (λ (o : Output). AppendsPart before new o.text) (sym (ended total left parts fault text outcome before mid prefix ends)) (append-part before mid new prefix.text text prefix.wrote cut)
+
+-- .. or nothing
+pub wrote-no_end : {A : Type 0} (total left : Script A → Output) (parts : List A) (fault : Option FileFault) (before mid : Option (List ℕ)) → WrotePrefix total left parts before mid → AppendsPart before mid (total (script parts fault)).text
+wrote-no_end total left parts fault before mid prefix =
+    subst (λ items. AppendsPart before mid (total (script items fault)).text) (append-nil parts) (wrote-prefix total left parts before mid prefix (script [] fault))

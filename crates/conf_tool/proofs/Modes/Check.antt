@@ -1,11 +1,9 @@
 -- The mode `check` between two items.
-use Rattle.std.proofs.Common.{◌≡◌, ℕ, ◌+◌, ◌≤◌, Bool, true, false, cond, ◌||◌, List, [], ◌∷◌, ◌++◌, length, flat_map, refl, sym, ◌∙◌, ap, arith, rules, length-append}
+use Rattle.std.proofs.Common.{◌≡◌, ℕ, ◌+◌, ◌≤◌, Bool, true, false, cond, ◌||◌, List, [], ◌∷◌, ◌++◌, flat_map, refl, sym, ◌∙◌, ap, arith, rules}
 use Rattle.std.specs.Prelude.{count_by, nat_lt, Option, Some, None, Ok}
 use Rattle.std.specs.List.{list_any}
-use Rattle.std.specs.Io.KnownBytes.{Appends}
 use Rattle.std.proofs.lemmas.List.{append_assoc}
 use Rattle.std.proofs.lemmas.List.Sums.{sum_by-cons}
-use Rattle.dd_file.specs.Device.{AppendsPart}
 use Rattle.dd_file.specs.Grammar.{Script}
 use Rattle.dd_file.specs.Rewritten.{Entry, entry, is_directive}
 use Rattle.dd_file.specs.declared.item.Item.{Item}
@@ -14,9 +12,7 @@ use Rattle.conf_change.specs.declared.floor.Floor.{Floor}
 use Rattle.conf_session.specs.SessionState.{SessionState, new_session}
 use Rattle.conf_tool.specs.Reports.{actual_for, session_after, answered_entries, differs, report, counts_line}
 use Rattle.conf_tool.specs.Outputs.{Output, check_status, checked_entries, checked_script}
-use Rattle.conf_tool.specs.Answered.{script, prepended, with_prefix, rest_checked, check_left, HasChecked}
-use Rattle.conf_tool.specs.Run.{Wrote}
-use Rattle.conf_tool.proofs.ModeOutput.FirstParts.{appends-nothing, wrote-part, wrote-broken, wrote-end, wrote-end_part}
+use Rattle.conf_tool.specs.Answered.{script, prepended, with_prefix, rest_checked, check_left}
 use Rattle.std.proofs.Math.Bool.{or-false}
 
 -- one mismatch more
@@ -61,47 +57,24 @@ checked-rest entries None =
     λ i. record { text = flat_map report entries ++ counts_line (n_same i) (m_same i); outcome = Ok (check_status (list_any differs entries)) }
 checked-rest entries (Some fault) = refl
 
-pub checked-nothing : (history : ℕ) (floor : Floor) (session : SessionState) (directives mismatches : ℕ) (buffered : Option (List ℕ)) → session ≡ new_session history floor → directives ≡ 0 → mismatches ≡ 0 →
-    HasChecked session directives mismatches (checked_script history floor) [] buffered buffered
-checked-nothing history floor session directives mismatches buffered is_new no_directive no_mismatch = record {
-  prefix = record {
-    text = [];
-    wrote = appends-nothing buffered;
-    is = λ rest. checked-rest (answered_entries (new_session history floor) rest.items) rest.fault
-        ∙ ap (with_prefix []) (sym (same-left session (new_session history floor) directives 0 mismatches 0 rest is_new no_directive no_mismatch));
-  };
-  few = omega (arith, no_directive);
-}
+pub checked-nothing : (history : ℕ) (floor : Floor) (session : SessionState) (directives mismatches : ℕ) → session ≡ new_session history floor → directives ≡ 0 → mismatches ≡ 0 →
+    (rest : Script Item) → check_left session directives mismatches rest ≡ checked_script history floor rest
+checked-nothing history floor session directives mismatches is_new no_directive no_mismatch rest =
+    same-left session (new_session history floor) directives 0 mismatches 0 rest is_new no_directive no_mismatch ∙ sym (checked-rest (answered_entries (new_session history floor) rest.items) rest.fault)
 
 -- what an item leaves
-check-item : (s t : SessionState) (d e m n : ℕ) (item : Item) → t ≡ session_after s item → e ≡ d + cond (is_directive item) 1 0 → n ≡ m + cond (differs (entry item (actual_for s item))) 1 0 →
+pub check-item : (s t : SessionState) (d e m n : ℕ) (item : Item) → t ≡ session_after s item → e ≡ d + cond (is_directive item) 1 0 → n ≡ m + cond (differs (entry item (actual_for s item))) 1 0 →
     (rest : Script Item) → check_left s d m (prepended (item ∷ []) rest) ≡ with_prefix (report (entry item (actual_for s item))) (check_left t e n rest)
 check-item s t d e m n item session directives mismatches rest =
     rest-first d m (entry item (actual_for s item)) (answered_entries (session_after s item) rest.items) rest.fault
     ∙ ap (with_prefix (report (entry item (actual_for s item)))) (sym (same-left t _ e _ n _ rest session directives mismatches))
 
-few-more : (directives more count after : ℕ) (c : Bool) → directives ≤ count → after ≡ count + 1 → more ≡ directives + cond c 1 0 → more ≤ after
-few-more directives more count after true few forward is = omega (arith, few, forward, is)
-few-more directives more count after false few forward is = omega (arith, few, forward, is)
-
-pub checked-part : (s t : SessionState) (d e m n : ℕ) (item : Item) (total : Script Item → Output) (parts : List Item) (bytes : List ℕ) (before mid new : Option (List ℕ)) →
-    HasChecked s d m total parts before mid → t ≡ session_after s item → e ≡ d + cond (is_directive item) 1 0 → n ≡ m + cond (differs (entry item (actual_for s item))) 1 0 →
-    bytes ≡ report (entry item (actual_for s item)) → Appends mid new bytes → HasChecked t e n total (parts ++ item ∷ []) before new
-checked-part s t d e m n item total parts bytes before mid new checked session directives mismatches same appends = record {
-  prefix = wrote-part total (check_left s d m) (check_left t e n) parts item (report (entry item (actual_for s item))) bytes before mid new checked.prefix
-      (check-item s t d e m n item session directives mismatches) same appends;
-  few = few-more d e (length parts) (length (parts ++ item ∷ [])) (is_directive item) checked.few (length-append parts (item ∷ [])) directives;
-}
-
-pub checked-broken : (s : SessionState) (d m : ℕ) (item : Item) (total : Script Item → Output) (parts more : List Item) (fault : Option FileFault) (bytes : List ℕ) (before mid new : Option (List ℕ)) →
-    HasChecked s d m total parts before mid → bytes ≡ report (entry item (actual_for s item)) → AppendsPart mid new bytes →
-    AppendsPart before new (total (script (parts ++ item ∷ more) fault)).text
-checked-broken s d m item total parts more fault bytes before mid new checked same cut =
-    wrote-broken total (check_left s d m) _ parts item (report (entry item (actual_for s item))) bytes before mid new checked.prefix
-    (check-item s _ d _ m _ item refl refl refl) same cut more fault
+pub few-more : (directives more count : ℕ) (c : Bool) → directives ≤ count → more ≡ directives + cond c 1 0 → more ≤ count + 1
+few-more directives more count true few is = omega (arith, few, is)
+few-more directives more count false few is = omega (arith, few, is)
 
 -- the end of the input
-check-over : (session : SessionState) (directives mismatches : ℕ) →
+pub check-over : (session : SessionState) (directives mismatches : ℕ) →
     check_left session directives mismatches (script [] None) ≡ record { text = counts_line directives mismatches; outcome = Ok (check_status (nat_lt 0 mismatches)) }
 check-over session directives mismatches =
     let d : directives + 0 ≡ directives = omega arith in
@@ -109,17 +82,3 @@ check-over session directives mismatches =
     ap (λ k. record { text = counts_line k (mismatches + 0); outcome = Ok (check_status (nat_lt 0 mismatches || false)) }) d
     ∙ ap (λ k. record { text = counts_line directives k; outcome = Ok (check_status (nat_lt 0 mismatches || false)) }) m
     ∙ ap (λ b. record { text = counts_line directives mismatches; outcome = Ok (check_status b) }) (or-false (nat_lt 0 mismatches))
-
-pub checked-end : (session : SessionState) (directives mismatches : ℕ) (total : Script Item → Output) (parts : List Item) (bytes : List ℕ) (before mid new : Option (List ℕ)) →
-    HasChecked session directives mismatches total parts before mid → bytes ≡ counts_line directives mismatches → Appends mid new bytes →
-    Wrote (total (script parts None)) (Ok (check_status (nat_lt 0 mismatches))) before new
-checked-end session directives mismatches total parts bytes before mid new checked same appends =
-    wrote-end total (check_left session directives mismatches) parts None (counts_line directives mismatches) bytes (Ok (check_status (nat_lt 0 mismatches))) before mid new checked.prefix
-    (check-over session directives mismatches) same appends
-
-pub checked-end_part : (session : SessionState) (directives mismatches : ℕ) (total : Script Item → Output) (parts : List Item) (bytes : List ℕ) (before mid new : Option (List ℕ)) →
-    HasChecked session directives mismatches total parts before mid → bytes ≡ counts_line directives mismatches → AppendsPart mid new bytes →
-    AppendsPart before new (total (script parts None)).text
-checked-end_part session directives mismatches total parts bytes before mid new checked same cut =
-    wrote-end_part total (check_left session directives mismatches) parts None (counts_line directives mismatches) bytes (Ok (check_status (nat_lt 0 mismatches))) before mid new checked.prefix
-    (check-over session directives mismatches) same cut

@@ -1,10 +1,8 @@
 -- Of the mode `plan`: what each line leaves of its output.
-use Rattle.std.proofs.Common.{◌≡◌, ℕ, Bool, ◌||◌, ◌+◌, ◌<◌, ◌≤◌, true, false, List, [], ◌∷◌, ◌++◌, length-append, refl, sym, ◌∙◌, ap, subst, arith, inl, inr, lt-ltb, le-ltb}
-use Rattle.std.specs.Prelude.{Option, Some, None, Result, Ok, Err, IfSome, IfErr, IsOkUnless, OnOk, OnErr, nat_lt}
-use Rattle.std.specs.Io.KnownBytes.{Appends}
+use Rattle.std.proofs.Common.{◌≡◌, ℕ, Bool, ◌||◌, ◌+◌, ◌<◌, ◌≤◌, true, false, List, [], ◌∷◌, ◌++◌, refl, sym, ◌∙◌, ap, subst, arith, inl, inr, lt-ltb, le-ltb}
+use Rattle.std.specs.Prelude.{Option, Some, None, Result, Ok, Err, IfSome, IfErr, IsOkUnless, OnOk, nat_lt}
 use Rattle.std.proofs.Math.Bool.{or-false}
 use Rattle.std.proofs.lemmas.List.{append-nil}
-use Rattle.dd_file.specs.Device.{AppendsPart}
 use Rattle.dd_file.specs.Grammar.{Script}
 use Rattle.dd_file.specs.declared.fault.FileFault.{FileFault}
 use Rattle.conf_change.specs.Configuration.{is_valid}
@@ -14,7 +12,6 @@ use Rattle.conf_tool.specs.Answered.{script, prepended, with_prefix, HasPlanned,
 use Rattle.conf_tool.specs.Outputs.{Output, ends, pair_text, worse_of, pair_then, session_after_pair, ends_within, planned_pairs, planned_script, planned_texts}
 use Rattle.conf_tool.specs.Pairs.{NumberedLine, numbered, is_skipped, configuration_lines, current_at, current_written, paired, pair_from, pair_to, with_target, written_at, pair_of_texts, IsFaultOf}
 use Rattle.conf_tool.specs.Run.{Means, Wrote, IsStop, is_read_failure, is_write_failure}
-use Rattle.conf_tool.specs.AnsweredLaws.{part-nothing}
 use Rattle.conf_tool.specs.declared.mode.Mode.TheVariants.{Plan as OfPlan}
 use Rattle.conf_tool.specs.declared.origin.Origin.{Origin}
 use Rattle.conf_tool.specs.declared.origin.Origin.TheVariants.{From, To}
@@ -29,16 +26,12 @@ use Rattle.conf_tool.specs.declared.status.Status.{Status}
 use Rattle.conf_tool.specs.declared.status.Status.TheVariants.{Clean, Different}
 use Rattle.conf_tool.specs.declared.tool_fault.ToolFault.{ToolFault}
 use Rattle.conf_tool.specs.declared.tool_fault.ToolFault.TheVariants.{Script as ScriptFault, Configurations, NoMemory}
-use Rattle.conf_tool.proofs.ModeOutput.FirstParts.{appends-nothing, wrote-part, wrote-broken, wrote-all}
+use Rattle.conf_tool.proofs.ModeOutput.FirstParts.{appends-nothing, part-nothing}
 
 -- ---- what holds after a call
 pub on-ok : {X : Type 0} (result : Result X ToolFault) (A B C D P : Type 0) → OnOk result A → OnOk result B → OnOk result C → OnOk result D → (A → B → C → D → P) → OnOk result P
 on-ok (Ok x) A B C D P a b c d gives = gives a b c d
 on-ok (Err fault) A B C D P a b c d gives = tt
-
-pub on-err : {X : Type 0} (result : Result X ToolFault) (A P : Type 0) → OnErr result A → (A → P) → OnErr result P
-on-err (Ok x) A P a gives = tt
-on-err (Err fault) A P a gives = gives a
 
 -- ---- statuses
 worse_of-twice : (a b c : Status) (outcome : Result Status ToolFault) → ◌≡◌ {A = Result Status ToolFault} (Ok c) (worse_of a (Ok b)) → worse_of a (worse_of b outcome) ≡ worse_of c outcome
@@ -47,13 +40,6 @@ worse_of-twice Clean Clean c (Ok later) e = let same : Clean ≡ c = cc in ap (�
 worse_of-twice Clean Different c (Ok later) e = let same : Different ≡ c = cc in ap (λ s. worse_of s (Ok later)) same
 worse_of-twice Different Clean c (Ok later) e = let same : Different ≡ c = cc in ap (λ s. worse_of s (Ok later)) same
 worse_of-twice Different Different c (Ok later) e = let same : Different ≡ c = cc in ap (λ s. worse_of s (Ok later)) same
-
-abbrev worse : Status → Status → Status
-worse Clean later = later
-worse Different later = Different
-
-worse-is : (a b : Status) → ◌≡◌ {A = Result Status ToolFault} (Ok (worse a b)) (worse_of a (Ok b))
-worse-is a b = grind arith
 
 worse_of-begin : (outcome : Result Status ToolFault) → worse_of Clean outcome ≡ outcome
 worse_of-begin outcome = grind arith
@@ -108,6 +94,15 @@ plan_left-second options session count number current pair status after line kep
     ∙ ap (λ actual. with_status status (pair_with options session number actual (configuration_lines lines) rest.fault)) is
     ∙ ap (λ outcome. record { text = pair_text options session number pair ++ left.text; outcome = outcome }) (worse_of-twice status (plan_status options pair) after left.outcome worse)
 
+-- .. where these are the values after the reply
+pub plan_left-pair : (options options_after : PlanOptions) (session session_after : SessionState) (count count_after number number_after : ℕ) (now now_after : Option Current) (status status_after : Status) (line text : List ℕ) (current : Current) (pair : Pair) →
+    now ≡ Some current → is_skipped line ≡ false → pair_to options (record { number = count + 1; text = line }) current ≡ Ok pair →
+    options_after ≡ options → session_after ≡ session_between options session pair → count_after ≡ count + 1 → number_after ≡ number + 1 → now_after ≡ None →
+    ◌≡◌ {A = Result Status ToolFault} (Ok status_after) (worse_of status (Ok (plan_status options pair))) → text ≡ pair_text options session number pair → (rest : Script (List ℕ)) →
+    plan_left options session count number now status (prepended (line ∷ []) rest) ≡ with_prefix text (plan_left options_after session_after count_after number_after now_after status_after rest)
+plan_left-pair options options_after session session_after count count_after number number_after now now_after status status_after line text current pair there kept is same moved next following none worse made rest =
+    rw (there, same, moved, next, following, none, made) (plan_left-second options session count number current pair status status_after line kept is worse rest)
+
 -- a line with an error ends the output: the first of a pair
 pub plan_left-bad_current : (options : PlanOptions) (session : SessionState) (count number : ℕ) (status : Status) (line : List ℕ) (bad : PlanInputFault) →
     is_skipped line ≡ false → current_at options (record { number = count + 1; text = line }) ≡ Err bad → (rest : Script (List ℕ)) →
@@ -149,109 +144,42 @@ plan_left-ended options session count number now status none some =
     let one : nat_lt 1 number ≡ true = lt-ltb 1 number some in
     ap (λ at. plan_left options session count number at status (script [] None)) none ∙ simp one (ap ends (worse_of-clean status))
 
--- ---- what was answered after a line
-pub planned-begin : (options : PlanOptions) (session : SessionState) (buffered : Option (List ℕ)) → session ≡ default_session → HasPlanned options session 0 1 None Clean (planned_script options) [] buffered buffered
-planned-begin options session buffered begins = subst (λ s. HasPlanned options s 0 1 None Clean (planned_script options) [] buffered buffered) (sym begins) (record {
-  prefix = record {
-    text = [];
-    wrote = appends-nothing buffered;
-    is = λ rest. ap (λ o. record { text = (planned_script options rest).text; outcome = o }) (sym (worse_of-begin (planned_script options rest).outcome));
-  };
-  counted = refl;
-  few = omega arith;
-  valid = tt;
-})
+-- before the first line
+pub plan_left-begin : (options : PlanOptions) (session : SessionState) (count number : ℕ) (now : Option Current) (status : Status) → session ≡ default_session → count ≡ 0 → number ≡ 1 → now ≡ None → status ≡ Clean →
+    (rest : Script (List ℕ)) → plan_left options session count number now status rest ≡ planned_script options rest
+plan_left-begin options session count number now status begins none first empty clean rest =
+    rw (begins, none, first, empty, clean) (ap (λ o. record { text = (planned_script options rest).text; outcome = o }) (worse_of-begin (planned_script options rest).outcome))
 
-planned-part : (options : PlanOptions) (session session_after : SessionState) (count count_after number number_after : ℕ) (now now_after : Option Current) (status status_after : Status) (line text bytes : List ℕ)
-    (total : Script (List ℕ) → Output) (parts : List (List ℕ)) (before mid new : Option (List ℕ)) →
-    HasPlanned options session count number now status total parts before mid →
-    ((rest : Script (List ℕ)) → plan_left options session count number now status (prepended (line ∷ []) rest) ≡ with_prefix text (plan_left options session_after count_after number_after now_after status_after rest)) →
-    count_after ≡ count + 1 → number_after ≤ number + 1 → IfSome now_after (λ current. is_valid current.config ≡ true) → bytes ≡ text → Appends mid new bytes →
-    HasPlanned options session_after count_after number_after now_after status_after total (parts ++ line ∷ []) before new
-planned-part options session session_after count count_after number number_after now now_after status status_after line text bytes total parts before mid new planned gives next few valid same appends = record {
-  prefix = wrote-part total (plan_left options session count number now status) (plan_left options session_after count_after number_after now_after status_after) parts line text bytes before mid new planned.prefix gives same appends;
-  counted = omega (arith, length-append parts (line ∷ []), planned.counted, next);
-  few = omega (arith, length-append parts (line ∷ []), planned.few, few);
+-- ---- how many pairs there are
+pub planned-part : (lines lines_after number number_after count : ℕ) (now now_after : Option Current) → HasPlanned lines number now count → lines_after ≡ lines + 1 → number_after ≤ number + 1 →
+    IfSome now_after (λ current. is_valid current.config ≡ true) → HasPlanned lines_after number_after now_after (count + 1)
+planned-part lines lines_after number number_after count now now_after planned next few valid = record {
+  counted = omega (arith, planned.counted, next);
+  few = omega (arith, planned.few, few);
   valid = valid;
 }
 
--- a line that is passed over
-pub planned-passed : (options : PlanOptions) (session : SessionState) (count number : ℕ) (now : Option Current) (status : Status) (line : List ℕ) (total : Script (List ℕ) → Output) (parts : List (List ℕ)) (before mid : Option (List ℕ)) →
-    is_skipped line ≡ true → HasPlanned options session count number now status total parts before mid → HasPlanned options session (count + 1) number now status total (parts ++ line ∷ []) before mid
-planned-passed options session count number now status line total parts before mid passed planned =
-    planned-part options session session count (count + 1) number number now now status status line [] [] total parts before mid mid planned
-    (plan_left-passed options session count number now status line passed) refl (omega arith) planned.valid refl (appends-nothing mid)
-
--- the first line of a pair
-pub planned-first : (options : PlanOptions) (session : SessionState) (count number : ℕ) (now : Option Current) (status : Status) (line : List ℕ) (first : Current) (total : Script (List ℕ) → Output) (parts : List (List ℕ)) (before mid : Option (List ℕ)) →
-    now ≡ None → is_skipped line ≡ false → current_at options (record { number = count + 1; text = line }) ≡ Ok first → is_valid first.config ≡ true →
-    HasPlanned options session count number now status total parts before mid → HasPlanned options session (count + 1) number (Some first) status total (parts ++ line ∷ []) before mid
-planned-first options session count number now status line first total parts before mid none kept is valid planned =
-    planned-part options session session count (count + 1) number number None (Some first) status status line [] [] total parts before mid mid (subst (λ n. HasPlanned options session count number n status total parts before mid) none planned)
-    (plan_left-first options session count number status line first kept is) refl (omega arith) valid refl (appends-nothing mid)
-
--- the second line
-pub planned-second : (options options_after : PlanOptions) (session session_after : SessionState) (count count_after number number_after : ℕ) (now now_after : Option Current) (status status_after : Status) (line : List ℕ) (current : Current) (pair : Pair)
-    (total : Script (List ℕ) → Output) (parts : List (List ℕ)) (before mid new : Option (List ℕ)) →
-    now ≡ Some current → is_skipped line ≡ false → pair_to options (record { number = count + 1; text = line }) current ≡ Ok pair →
-    options_after ≡ options → session_after ≡ session_between options session pair → count_after ≡ count + 1 → number_after ≡ number + 1 → now_after ≡ None →
-    ◌≡◌ {A = Result Status ToolFault} (Ok status_after) (worse_of status (Ok (plan_status options pair))) → Appends mid new (pair_text options session number pair) →
-    HasPlanned options session count number now status total parts before mid → HasPlanned options_after session_after count_after number_after now_after status_after total (parts ++ line ∷ []) before new
-planned-second options options_after session session_after count count_after number number_after now now_after status status_after line current pair total parts before mid new there kept is same moved next following none worse appends planned =
-    let after = planned-part options session (session_between options session pair) count (count + 1) number (number + 1) (Some current) None status status_after line (pair_text options session number pair) (pair_text options session number pair) total parts before mid new
-    (subst (λ n. HasPlanned options session count number n status total parts before mid) there planned)
-    (plan_left-second options session count number current pair status status_after line kept is worse) refl (omega arith) tt refl appends in
-    rw (same, moved, next, following, none) after
-
--- .. whose output is broken off
-pub planned-broken : (options : PlanOptions) (session : SessionState) (count number : ℕ) (now : Option Current) (status : Status) (line : List ℕ) (current : Current) (pair : Pair)
-    (total : Script (List ℕ) → Output) (parts more : List (List ℕ)) (fault : Option FileFault) (before mid new : Option (List ℕ)) →
-    now ≡ Some current → is_skipped line ≡ false → pair_to options (record { number = count + 1; text = line }) current ≡ Ok pair → AppendsPart mid new (pair_text options session number pair) →
-    HasPlanned options session count number now status total parts before mid → AppendsPart before new (total (script (parts ++ line ∷ more) fault)).text
-planned-broken options session count number now status line current pair total parts more fault before mid new there kept is cut planned =
-    wrote-broken total (plan_left options session count number (Some current) status) (plan_left options (session_between options session pair) (count + 1) (number + 1) None (worse status (plan_status options pair))) parts line
-    (pair_text options session number pair) (pair_text options session number pair) before mid new (subst (λ n. HasPlanned options session count number n status total parts before mid) there planned).prefix
-    (plan_left-second options session count number current pair status (worse status (plan_status options pair)) line kept is (worse-is status (plan_status options pair))) refl cut more fault
-
--- a line with an error stops the run
-planned-stop : {A : Type 0} (options : PlanOptions) (session : SessionState) (count number : ℕ) (now was : Option Current) (status : Status) (line : List ℕ) (read : Result A PlanInputFault) (stop : ToolFault) (mid : Option (List ℕ)) → now ≡ was →
-    ((bad : PlanInputFault) → read ≡ Err bad → (rest : Script (List ℕ)) → plan_left options session count number was status (prepended (line ∷ []) rest) ≡ ends (Err (Configurations bad))) →
-    IsFaultOf read stop →
-    IsStop OfPlan stop ((total : Script (List ℕ) → Output) (parts more : List (List ℕ)) (fault : Option FileFault) (before : Option (List ℕ)) →
-    HasPlanned options session count number now status total parts before mid → Wrote (total (script (parts ++ line ∷ more) fault)) (Err stop) before mid)
-planned-stop {A} options session count number now was status line read stop mid is ended = by
-  where
-    Whole : ToolFault → Type 0
-    Whole s = (total : Script (List ℕ) → Output) (parts more : List (List ℕ)) (fault : Option FileFault) (before : Option (List ℕ)) →
-        HasPlanned options session count number now status total parts before mid → Wrote (total (script (parts ++ line ∷ more) fault)) (Err s) before mid
-
-    by : IsFaultOf read stop → IsStop OfPlan stop (Whole stop)
-    by (inl memory) = subst (λ s. IsStop OfPlan s (Whole s)) (sym memory) tt
-    by (inr bad) =
-        subst (λ s. IsStop OfPlan s (Whole s)) (sym bad.1) (
-          tt,
-          λ total parts more fault before planned.
-              wrote-all total (plan_left options session count number was status) parts line (Err (Configurations bad.0)) before mid
-              (subst (λ n. HasPlanned options session count number n status total parts before mid) is planned).prefix (ended bad.0 bad.2) more fault,
-        )
+-- ---- a line with an error stops the run
+stop-at : {A : Type 0} (read : Result A PlanInputFault) (stop : ToolFault) (left : Script (List ℕ) → Output) → ((bad : PlanInputFault) → read ≡ Err bad → (rest : Script (List ℕ)) → left rest ≡ ends (Err (Configurations bad))) →
+    IsFaultOf read stop → IsStop OfPlan stop ((rest : Script (List ℕ)) → left rest ≡ ends (Err stop))
+stop-at read stop left ended (inl memory) = subst (λ s. IsStop OfPlan s ((rest : Script (List ℕ)) → left rest ≡ ends (Err s))) (sym memory) tt
+stop-at read stop left ended (inr bad) = subst (λ s. IsStop OfPlan s ((rest : Script (List ℕ)) → left rest ≡ ends (Err s))) (sym bad.1) (tt, ended bad.0 bad.2)
 
 -- .. the first line of a pair
-pub stop-at_current : (options : PlanOptions) (session : SessionState) (count number : ℕ) (now : Option Current) (status : Status) (line : List ℕ) (stop : ToolFault) (mid : Option (List ℕ)) →
-    now ≡ None → is_skipped line ≡ false → IsFaultOf (current_at options (record { number = count + 1; text = line })) stop →
-    IsStop OfPlan stop ((total : Script (List ℕ) → Output) (parts more : List (List ℕ)) (fault : Option FileFault) (before : Option (List ℕ)) →
-    HasPlanned options session count number now status total parts before mid → Wrote (total (script (parts ++ line ∷ more) fault)) (Err stop) before mid)
-stop-at_current options session count number now status line stop mid is kept =
-    planned-stop options session count number now None status line (current_at options (record { number = count + 1; text = line })) stop mid is
-    (λ bad read rest. plan_left-bad_current options session count number status line bad kept read rest)
+pub stop-at_current : (options : PlanOptions) (session : SessionState) (count number : ℕ) (status : Status) (line : List ℕ) (stop : ToolFault) →
+    is_skipped line ≡ false → IsFaultOf (current_at options (record { number = count + 1; text = line })) stop →
+    IsStop OfPlan stop ((rest : Script (List ℕ)) → plan_left options session count number None status (prepended (line ∷ []) rest) ≡ ends (Err stop))
+stop-at_current options session count number status line stop kept =
+    stop-at (current_at options (record { number = count + 1; text = line })) stop (λ rest. plan_left options session count number None status (prepended (line ∷ []) rest))
+    (λ bad read. plan_left-bad_current options session count number status line bad kept read)
 
 -- .. or the second
-pub stop-at_target : (options : PlanOptions) (session : SessionState) (count number : ℕ) (now : Option Current) (current : Current) (status : Status) (line : List ℕ) (stop : ToolFault) (mid : Option (List ℕ)) →
-    now ≡ Some current → is_skipped line ≡ false → IsFaultOf (pair_to options (record { number = count + 1; text = line }) current) stop →
-    IsStop OfPlan stop ((total : Script (List ℕ) → Output) (parts more : List (List ℕ)) (fault : Option FileFault) (before : Option (List ℕ)) →
-    HasPlanned options session count number now status total parts before mid → Wrote (total (script (parts ++ line ∷ more) fault)) (Err stop) before mid)
-stop-at_target options session count number now current status line stop mid is kept =
-    planned-stop options session count number now (Some current) status line (pair_to options (record { number = count + 1; text = line }) current) stop mid is
-    (λ bad read rest. plan_left-bad_target options session count number current status line bad kept read rest)
+pub stop-at_target : (options : PlanOptions) (session : SessionState) (count number : ℕ) (current : Current) (status : Status) (line : List ℕ) (stop : ToolFault) →
+    is_skipped line ≡ false → IsFaultOf (pair_to options (record { number = count + 1; text = line }) current) stop →
+    IsStop OfPlan stop ((rest : Script (List ℕ)) → plan_left options session count number (Some current) status (prepended (line ∷ []) rest) ≡ ends (Err stop))
+stop-at_target options session count number current status line stop kept =
+    stop-at (pair_to options (record { number = count + 1; text = line }) current) stop (λ rest. plan_left options session count number (Some current) status (prepended (line ∷ []) rest))
+    (λ bad read. plan_left-bad_target options session count number current status line bad kept read)
 
 -- .. and no write has failed
 pub stop-unwritten : (X : Type 0) {A : Type 0} (read : Result A PlanInputFault) (stop : ToolFault) (mark : Bool) → IsFaultOf read stop → mark ≡ (mark || is_write_failure {X = X} (Err stop))
@@ -297,11 +225,6 @@ texts-planned options from to pair is =
     ∙ ap (λ (outcome : Result Status ToolFault). record { text = pair_text options default_session 1 pair; outcome = outcome }) (worse_of-clean (plan_status options pair))
 
 -- .. whose text is that of the reply
-pub texts-text : (options : PlanOptions) (from to text : List ℕ) (pair : Pair) → ◌≡◌ {A = Result Pair PlanInputFault} (pair_of_texts options from to) (Ok pair) →
-    text ≡ pair_text options default_session 1 pair → (planned_texts options from to).text ≡ text
-texts-text options from to text pair is of =
-    ◌∙◌ {b = pair_text options default_session 1 pair} (ap (λ (output : Output). output.text) (texts-planned options from to pair is)) (sym of)
-
 -- .. and no read has failed
 pub texts-unread : (read : Result Pair PlanInputFault) (stop : ToolFault) → IsFaultOf read stop → is_read_failure {X = Status} (Err stop) ≡ false
 texts-unread read stop (inl memory) = subst (λ s. is_read_failure {X = Status} (Err s) ≡ false) (sym memory) refl

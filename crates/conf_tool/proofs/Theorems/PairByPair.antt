@@ -13,11 +13,12 @@ use Rattle.conf_plan.specs.PathBy.{ids_down}
 use Rattle.conf_plan.specs.declared.strategy.Strategy.{Strategy}
 use Rattle.conf_session.specs.SessionState.{SessionState}
 use Rattle.plan_input.specs.Input.{current_in, target_in}
-use Rattle.plan_input.specs.Stranger.{stranger_of}
+use Rattle.plan_input.specs.Nonmember.{first_nonmember}
 use Rattle.plan_input.specs.declared.text_fault.TextFault.{TextFault}
 use Rattle.plan_input.proofs.Offered.{current_in-valid, target_in-valid}
 use Rattle.conf_tool.specs.Laws.{EachInTurn, IsAsked, PairsAreAsked, PrintsEach, PrintsPair, pair_before, named_pairs, pairs_in, pairs_in_texts, texts_from, separated_by}
 use Rattle.conf_tool.specs.Outputs.{Output, separator, pair_text, pair_then, session_after_pair, ends_within, planned_pairs, planned_output}
+use Rattle.plan_input.specs.MemberList.{is_member_list}
 use Rattle.conf_tool.specs.Pairs.{NumberedLine, numbered, configuration_lines, current_at, pair_at, pair_of_texts, pair_from, pair_written, begun, of_members, paired, strategy_from, with_target, written_at}
 use Rattle.conf_tool.specs.PlanAnswer.{plan_text_between, session_between}
 use Rattle.conf_tool.specs.PlanScript.{default_session}
@@ -33,17 +34,17 @@ use Rattle.conf_tool.proofs.Modes.Plan.{texts-planned}
 record WasRead (options : PlanOptions) (first second : List ℕ) (pair : Pair) : Type 0 where
   current : current_in first ≡ Ok pair.current
   target : target_in pair.current second ≡ Ok pair.target
-  strategy : pair.strategy ≡ strategy_from options.strategy first
-  members : stranger_of options.down pair.current pair.target ≡ None
+  strategy : pair.strategy ≡ strategy_from options.strategy (is_member_list first)
+  members : first_nonmember options.down pair.current pair.target ≡ None
 
 pair-read : (options : PlanOptions) (from to : Origin) (first second : List ℕ) (pair : Pair) → pair_written options from first to second ≡ Ok pair → WasRead options first second pair
 pair-read options from to first second pair e = by_first (current_in first) refl e
   where
     strategy : Strategy
-    strategy = strategy_from options.strategy first
+    strategy = strategy_from options.strategy (is_member_list first)
 
-    by_member : (now target : Configuration) → current_in first ≡ Ok now → target_in now second ≡ Ok target → (stranger : Option ℕ) → stranger_of options.down now target ≡ stranger →
-        of_members to stranger (record { current = now; target = target; strategy = strategy }) ≡ Ok pair → WasRead options first second pair
+    by_member : (now target : Configuration) → current_in first ≡ Ok now → target_in now second ≡ Ok target → (nonmember : Option ℕ) → first_nonmember options.down now target ≡ nonmember →
+        of_members to nonmember (record { current = now; target = target; strategy = strategy }) ≡ Ok pair → WasRead options first second pair
     by_member now target now_is target_is (Some id) is e = let wrong : ⊥ = cc in absurd wrong
     by_member now target now_is target_is None is e =
         let same : ◌≡◌ {A = Pair} (record { current = now; target = target; strategy = strategy }) pair = cc in
@@ -52,7 +53,7 @@ pair-read options from to first second pair e = by_first (current_in first) refl
     by_second : (now : Configuration) → current_in first ≡ Ok now → (read : Result Configuration TextFault) → target_in now second ≡ read →
         paired options to (record { origin = from; config = now; strategy = strategy }) (written_at to read) ≡ Ok pair → WasRead options first second pair
     by_second now now_is (Err bad) is e = let wrong : ⊥ = cc in absurd wrong
-    by_second now now_is (Ok target) is e = by_member now target now_is is (stranger_of options.down now target) refl e
+    by_second now now_is (Ok target) is e = by_member now target now_is is (first_nonmember options.down now target) refl e
 
     by_first : (read : Result Configuration TextFault) → current_in first ≡ read → with_target (pair_from options to second) (begun from strategy (written_at from read)) ≡ Ok pair → WasRead options first second pair
     by_first (Err bad) is e = let wrong : ⊥ = cc in absurd wrong
@@ -86,18 +87,18 @@ not-false true e = refl
 not-false false e = sym e
 
 -- each id that is down is a member, if the least one that is not is none
-none-strange : (down : Option Ids) (now target : Configuration) → stranger_of down now target ≡ None → (id : ℕ) → has (ids_down down) id ≡ true → (is_member now id || is_member target id) ≡ true
-none-strange None now target none id there =
+all-members : (down : Option Ids) (now target : Configuration) → first_nonmember down now target ≡ None → (id : ℕ) → has (ids_down down) id ≡ true → (is_member now id || is_member target id) ≡ true
+all-members None now target none id there =
     let empty = has-no_ids id in
     let wrong : ⊥ = cc in
     absurd wrong
-none-strange (Some ids) now target none id there =
+all-members (Some ids) now target none id there =
     not-false (is_member now id || is_member target id) (none-passes (λ x. not (is_member now x || is_member target x)) (ascending ids) id none (sym (has-ascending ids id) ∙ there))
 
 pair-asked : (options : PlanOptions) (from to : Origin) (first second : List ℕ) (pair : Pair) → pair_written options from first to second ≡ Ok pair → IsAsked options first pair
 pair-asked options from to first second pair e =
     let read = pair-read options from to first second pair e in
-    record { strategy = read.strategy; members = none-strange options.down pair.current pair.target read.members }
+    record { strategy = read.strategy; members = all-members options.down pair.current pair.target read.members }
 
 pub pairs-asked : PairsAreAsked
 pairs-asked = record {

@@ -39,7 +39,7 @@ use Rattle.conf_tool.specs.declared.plan_input_fault.PlanInputFault.{PlanInputFa
 use Rattle.conf_tool.specs.declared.plan_options.PlanOptions.{PlanOptions}
 use Rattle.conf_tool.specs.declared.plan_options.PlanOutput.TheVariants.{Script}
 use Rattle.conf_tool.specs.declared.status.Status.TheVariants.{Clean}
-use Rattle.conf_tool.proofs.Modes.Undo.{session-append, text-append}
+use Rattle.conf_tool.proofs.ModeOutput.AppendedItems.{session-append, text-append}
 use Rattle.conf_tool.proofs.Theorems.JoinedScript.{bytes-line, comment-read, step-keys, steps-read}
 use Rattle.conf_tool.proofs.Theorems.PairByPair.{planned-text}
 use Rattle.conf_tool.proofs.Theorems.RewrittenScript.{ActualIsValid, CanBeRead, read-append, written-clean}

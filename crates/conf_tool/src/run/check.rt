@@ -11,22 +11,17 @@
 //! ```
 //!
 //! A script with an error is reported up to the error, without the counts. The report is own.
-ghost use Rattle.std.specs.Prelude.{◌≡◌, ◌<◌, ◌+◌, ◌^◌, ℕ, List, [], Option, OnOk, IfOk, IsOkUnless, if◌then◌else◌};
+ghost use Rattle.std.specs.Prelude.{◌≡◌, ◌<◌, ◌+◌, ◌^◌, ◌++◌, OnOk, if◌then◌else◌};
 ghost use Rattle.dd_file.specs.Rewritten.{entry, is_directive};
-ghost use Rattle.conf_tool.specs.Outputs.{checked_script};
 ghost use Rattle.conf_tool.specs.Reports.{actual_for, session_after, differs, report};
-ghost use Rattle.conf_tool.specs.declared.tool_fault.ToolFault.TheVariants.{NoMemory as OutOfMemory};
 
-use super::handler::Handler;
+use super::handler::{Handler, Outcome};
 use crate::options::Options;
 use crate::report::{Counts, append_difference};
-use crate::status::Status;
 use crate::tool_fault::ToolFault;
 use conf_session::Session;
-use dd_file::device::Sink;
 use dd_file::fault::FileFault;
 use dd_file::item::Item;
-use dd_file::writing::write_all;
 use quorum_sets::NoMemory;
 use std::alloc::Global;
 
@@ -35,84 +30,70 @@ use std::alloc::Global;
 pub(super) struct Checking {
     session: Session,
     counts: Counts,
-    /// The report on the last item, empty if its output did not differ.
-    text: Vec<u8>,
 }
 
 impl Checking {
-    /// The mode before its first item, with a new session. It fails only if memory runs out.
-    pub(super) fn new(alloc: Global, options: Options) -> Result<Checking, ToolFault>
-        ensures unwritten { IfOk result (λ mode. (buffered : Option (List ℕ))
-            → ⟦<Checking as Handler<Item>>⟧.HasAnswered mode (checked_script options.history options.floor) [] buffered buffered) }
-        ensures memory { IsOkUnless result OutOfMemory }
-    {
-        Ok(Checking {
-            session: Session::with_floor(alloc, options.history, options.floor)?,
-            counts: Counts::new(),
-            text: Vec::new(alloc),
-        })
-    }
-
-    /// Runs and counts an item if it is a directive, and builds the report on it.
-    fn check_item(&mut self, item: &Item) -> Result<(), NoMemory>
+    /// Runs and counts an item if it is a directive, and appends the report on it: nothing if its output does not
+    /// differ.
+    fn check_item(&mut self, item: &Item, text: &mut Vec<u8>) -> Result<(), NoMemory>
         requires { self.old.counts.directives < 2 ^ 30 }
         ensures session { OnOk result (self.new.session ≡ session_after self.old.session item.now) }
         ensures directives { OnOk result (self.new.counts.directives
             ≡ self.old.counts.directives + (if is_directive item.now then 1 else 0)) }
         ensures mismatches { OnOk result (self.new.counts.mismatches
-            ≡ self.old.counts.mismatches + (if differs (entry item.now (actual_for self.old.session item.now)) then 1
+            ≡ self.old.counts.mismatches
+            + (if differs (entry item.now (actual_for self.old.session item.now)) then 1
             else 0)) }
-        ensures text { OnOk result (self.new.text.items
-            ≡ report (entry item.now (actual_for self.old.session item.now))) }
+        ensures text { OnOk result (text.new.items
+            ≡ text.old.items ++ report (entry item.now (actual_for self.old.session item.now))) }
     {
-        self.text.clear();
-        match item {
-            Item::Directive(directive) => {
-                let actual = self.session.step(directive)?;
-                let differs = actual.as_slice() != directive.expected();
-                if differs {
-                    append_difference(&mut self.text, directive, actual.as_slice())?;
-                }
-                self.counts.add(differs);
-                Ok(())
-            }
-            _ => Ok(()),
+        let Item::Directive(directive) = item else {
+            return Ok(());
+        };
+        let actual = self.session.step(directive)?;
+        let differs = actual.as_slice() != directive.expected();
+        if differs {
+            append_difference(text, directive, actual.as_slice())?;
         }
+        self.counts.add(differs);
+        Ok(())
     }
 }
 
 impl Handler<Item> for Checking {
-    ghost use Rattle.conf_tool.specs.Answered.{HasChecked};
+    ghost use Rattle.std.specs.Prelude.{◌≤◌};
+    ghost use Rattle.conf_tool.specs.Answered.{check_left};
+    ghost use Rattle.conf_tool.specs.Outputs.{checked_script};
     ghost use Rattle.conf_tool.specs.declared.mode.Mode.TheVariants.{Check as OfCheck};
-    ghost use Rattle.conf_tool.specs.AnsweredLaws.{kept-checked, wrote-prefix};
 
     ghost mode = { OfCheck };
 
-    ghost HasAnswered = { λ s. HasChecked s.session s.counts.directives s.counts.mismatches };
+    ghost whole = { λ options. checked_script options.history options.floor };
 
-    // Prints the report on the item, if its output differs.
-    fn answer<W: Sink>(&mut self, item: &Item, writer: &mut W) -> Result<(), ToolFault> {
-        self.check_item(item)?;
-        write_all(writer, self.text.as_slice())?;
+    ghost left = { λ s. check_left s.session s.counts.directives s.counts.mismatches };
+
+    ghost HasAnswered = { λ s count. s.counts.directives ≤ count };
+
+    // The mode begins with a new session.
+    fn new(alloc: Global, options: Options) -> Result<Checking, ToolFault> {
+        Ok(Checking {
+            session: Session::with_floor(alloc, options.history, options.floor)?,
+            counts: Counts::new(),
+        })
+    }
+
+    // Replies with the report on the item, if its output differs.
+    fn answer(&mut self, item: &Item, text: &mut Vec<u8>) -> Result<(), ToolFault> {
+        self.check_item(item, text)?;
         Ok(())
     }
 
-    // Prints the counts, unless the script has an error: then they would not be those of the whole script.
-    fn end<W: Sink>(
-        &mut self,
-        fault: Option<FileFault>,
-        writer: &mut W,
-    ) -> Result<Status, ToolFault> {
+    // Replies with the counts, unless the script has an error: then they would not be those of the whole script.
+    fn end(&mut self, fault: Option<FileFault>, text: &mut Vec<u8>) -> Result<Outcome, NoMemory> {
         if let Some(fault) = fault {
-            return Err(ToolFault::Script(fault));
+            return Ok(Err(ToolFault::Script(fault)));
         }
-        self.text.clear();
-        self.counts.append_to(&mut self.text)?;
-        write_all(writer, self.text.as_slice())?;
-        Ok(self.counts.status())
+        self.counts.append_to(text)?;
+        Ok(Ok(self.counts.status()))
     }
-
-    ghost stays = { λ s. kept-checked s.session s.counts.directives s.counts.mismatches };
-
-    ghost prefix = { λ s total parts more fault before after checked. wrote-prefix total _ parts more fault before after checked.prefix };
 }

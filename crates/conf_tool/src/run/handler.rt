@@ -1,5 +1,5 @@
-//! The loop of all modes: the input is read part by part, a line or an item of a script at a time, and the reply to
-//! each part is written before more input is waited for.
+//! The loop of all modes: the input is read part by part, a line or an item of a script at a time. A mode makes the
+//! reply to each part as a text, and the loop writes it before more input is waited for.
 //!
 //! ```text
 //! input         part 1    part 2    part 3    the end, or an error
@@ -7,132 +7,165 @@
 //! ```
 //!
 //! The output of a mode is defined for a whole input (`specs/Outputs.antt`), but a run knows only the parts so far. So
-//! each mode states what it has written after some parts ([`Handler`]'s `HasAnswered`), and the loop is proved once
-//! for all of them: what is written at any time is a prefix of the output, whatever input follows.
-ghost use Rattle.std.specs.Prelude.{◌≡◌, ◌<◌, ◌^◌, ◌||◌, ℕ, List, [], ◌∷◌, ◌++◌, length, Option, Err, false, is_err, OnOk, OnErr, IfErr, IfOk, IfSome};
-ghost use Rattle.std.specs.Io.KnownBytes.{Keeps};
-ghost use Rattle.dd_file.specs.Device.{AppendsPart, LosesPrefix};
-ghost use Rattle.dd_file.specs.Position.{Position, start};
-ghost use Rattle.dd_file.specs.Grammar.{Script as ScriptOf, script_from};
-ghost use Rattle.dd_file.specs.ReaderState.{fresh};
-ghost use Rattle.dd_file.specs.Answer.{ReadsOn};
+//! each mode states what is left of its output by its state ([`Handler`]'s `left`): a reply is what was left before the
+//! part and is not left after it. Then what is written at any time is a prefix of the output, whatever input follows.
+ghost use Rattle.std.specs.Prelude.{◌≡◌, ◌<◌, ◌+◌, ◌^◌, ◌||◌, ℕ, List, [], ◌∷◌, ◌++◌, Option, Err, true, false, IsOkUnless, OnOk, IfErr, IfOk, IfSome};
+ghost use Rattle.dd_file.specs.Device.{LosesPrefix};
+ghost use Rattle.dd_file.specs.Position.{Position, longest_input, start};
+ghost use Rattle.dd_file.specs.Grammar.{Script as ScriptOf, next_of, script_from};
 ghost use Rattle.dd_file.specs.declared.fault.FileFault.{FileFault as ReadFault};
-ghost use Rattle.conf_tool.specs.Answered.{script};
-ghost use Rattle.conf_tool.specs.Outputs.{Output};
-ghost use Rattle.conf_tool.specs.Run.{Answers, Means, CanAnswer, CanBeFaulty, IsStop, Wrote, as_tool_fault, is_read_failure, is_write_failure};
+ghost use Rattle.conf_tool.specs.Answered.{InTurn, script, prepended, with_prefix, WrotePrefix};
+ghost use Rattle.conf_tool.specs.Outputs.{Output, ends, output};
+ghost use Rattle.conf_tool.specs.Run.{Answers, Means, CanAnswer, CanBeFaulty, IsStop, as_tool_fault, is_read_failure, is_write_failure, is_whole_output};
+ghost use Rattle.conf_tool.specs.Ranges.{IsInRange};
 ghost use Rattle.conf_tool.specs.declared.mode.Mode.{Mode as ModeName};
+ghost use Rattle.conf_tool.specs.declared.options.Options.{Options as GivenOptions};
+ghost use Rattle.conf_tool.specs.declared.tool_fault.ToolFault.TheVariants.{NoMemory as OutOfMemory};
 
-use super::input::Input;
+use crate::options::Options;
 use crate::status::Status;
 use crate::tool_fault::ToolFault;
 use dd_file::device::{Sink, Source};
-use dd_file::fault::{FileFault, WriteFault};
+use dd_file::draft::Draft;
+use dd_file::fault::FileFault;
+use dd_file::read_ahead::Parts;
+use dd_file::writing::write_all;
+use quorum_sets::NoMemory;
+use std::alloc::Global;
 
-/// A mode: the state that it keeps between parts, what it writes for each part, and what it writes at the end. An error
-/// ends the run.
+/// How a run ends whose whole output is written: with a status, or with an error in the input.
+pub(super) type Outcome = Result<Status, ToolFault>;
+
+/// A mode: the state that it keeps between parts, and its replies. An error ends the run.
 pub(super) trait Handler<P> {
     /// The name of the mode, which decides its statuses and its errors.
     ghost mode: { ModeName };
 
-    /// The mode has replied to these parts: the writer's bytes were the former before the first reply, and are the
-    /// latter now.
-    ghost HasAnswered: { Self → (ScriptOf P → Output) → List P → Option (List ℕ) → Option (List ℕ) → Type 0 };
+    /// The output, for all parts of the input.
+    ghost whole: { GivenOptions → ScriptOf P → Output };
 
-    /// Writes the reply to a part. There are fewer than 2^30 parts, since an input has fewer bytes.
-    fn answer<W: Sink>(&mut self, part: &P, writer: &mut W) -> Result<(), ToolFault>
-        requires { (total : ScriptOf P → Output) × (parts : List P) × (before : Option (List ℕ))
-            × HasAnswered self.old total parts before (W.contents writer.old) × (length parts < 2 ^ 30) }
-        ensures answered { OnOk result ((total : ScriptOf P → Output) (parts : List P) (before : Option (List ℕ)) →
-            HasAnswered self.old total parts before (W.contents writer.old)
-            → HasAnswered self.new total (parts ++ part.now ∷ []) before (W.contents writer.new)) }
-        ensures part { OnErr result ((total : ScriptOf P → Output) (parts more : List P) (fault : Option ReadFault)
-            (before : Option (List ℕ)) →
-            HasAnswered self.old total parts before (W.contents writer.old)
-            → AppendsPart before (W.contents writer.new) (total (script (parts ++ part.now ∷ more) fault)).text) }
-        ensures write { W.has_failed writer.new ≡ (W.has_failed writer.old || is_write_failure result) }
-        ensures kinds { IfErr result (λ stop. IsStop mode stop ((total : ScriptOf P → Output) (parts more : List P)
-            (fault : Option ReadFault) (before : Option (List ℕ)) →
-            HasAnswered self.old total parts before (W.contents writer.old)
-            → Wrote (total (script (parts ++ part.now ∷ more) fault)) (Err stop) before (W.contents writer.new))) };
+    /// What is left of the output, for the parts that are left of the input.
+    ghost left: { Self → ScriptOf P → Output };
 
-    /// Writes the reply to the end of the input, or to the error in it, and returns the status of the run.
-    fn end<W: Sink>(
-        &mut self,
-        fault: Option<FileFault>,
-        writer: &mut W,
-    ) -> Result<Status, ToolFault>
-        requires { (total : ScriptOf P → Output) × (parts : List P) × (before : Option (List ℕ))
-            × HasAnswered self.old total parts before (W.contents writer.old) }
-        ensures output { (total : ScriptOf P → Output) (parts : List P) (before : Option (List ℕ)) →
-            HasAnswered self.old total parts before (W.contents writer.old)
-            → Means (total (script parts fault)) result before (W.contents writer.new) }
-        ensures read { is_read_failure result ≡ false }
-        ensures write { W.has_failed writer.new ≡ (W.has_failed writer.old || is_write_failure result) }
-        ensures kinds { IfSome fault (CanBeFaulty mode) → CanAnswer mode result };
+    /// The mode has replied to this many parts.
+    ghost HasAnswered: { Self → ℕ → Type 0 };
 
-    /// A flush does not change what was written.
-    ghost stays: { (m : Self) (total : ScriptOf P → Output) (parts : List P) (before after later : Option (List ℕ)) →
-        HasAnswered m total parts before after → Keeps after later → HasAnswered m total parts before later };
+    /// The mode before the first part. It fails only if memory runs out.
+    fn new(alloc: Global, options: Options) -> Result<Self, ToolFault>
+        requires { IsInRange options }
+        ensures unanswered { IfOk result (λ mode. HasAnswered mode 0) }
+        ensures all { IfOk result (λ mode. (rest : ScriptOf P) → left mode rest ≡ whole options rest) }
+        ensures memory { IsOkUnless result OutOfMemory };
 
-    /// What was written is a prefix of the output, whatever input follows.
-    ghost prefix: { (m : Self) (total : ScriptOf P → Output) (parts more : List P) (fault : Option ReadFault) (before after : Option (List ℕ)) →
-        HasAnswered m total parts before after → AppendsPart before after (total (script (parts ++ more) fault)).text };
+    /// Makes the reply to a part, in an empty text. There are fewer than 2^30 parts, since an input has fewer bytes.
+    fn answer(&mut self, part: &P, text: &mut Vec<u8>) -> Result<(), ToolFault>
+        requires few { (count : ℕ) × HasAnswered self.old count × (count < 2 ^ 30) }
+        requires empty { text.old.items ≡ [] }
+        ensures answered { OnOk result ((count : ℕ) → HasAnswered self.old count
+            → HasAnswered self.new (count + 1)) }
+        ensures text { OnOk result ((rest : ScriptOf P)
+            → left self.old (prepended (part.now ∷ []) rest)
+            ≡ with_prefix text.new.items (left self.new rest)) }
+        ensures stop { IfErr result (λ stop. IsStop mode stop ((rest : ScriptOf P)
+            → left self.old (prepended (part.now ∷ []) rest) ≡ ends (Err stop))) };
+
+    /// Makes the reply to the end of the input, or to the error in it, in an empty text. Returns how the run ends.
+    fn end(&mut self, fault: Option<FileFault>, text: &mut Vec<u8>) -> Result<Outcome, NoMemory>
+        requires few { (count : ℕ) × HasAnswered self.old count }
+        requires empty { text.old.items ≡ [] }
+        ensures output { IfOk result (λ outcome. left self.old (script [] fault)
+            ≡ output text.new.items outcome) }
+        ensures whole { IfOk result (λ outcome. is_whole_output outcome ≡ true) }
+        ensures kinds { IfSome fault (CanBeFaulty mode) → IfOk result (CanAnswer mode) };
 }
 
-/// The next part. If none is buffered, the output is flushed first: the user or the program that sends the input may
-/// wait for the replies before sending more.
-fn next_part<P, S: Input<P>, R: Source, W: Sink>(
-    parts: &mut S,
-    reader: &mut R,
+// Makes the reply to a part, and writes it.
+fn reply<P, M: Handler<P>, W: Sink>(
+    mode: &mut M,
+    part: &P,
+    text: &mut Vec<u8>,
     writer: &mut W,
-) -> Result<Result<Option<P>, FileFault>, WriteFault>
-    ensures reads { IfOk result (λ read. ReadsOn R.remaining R.has_failed S.coming S.IsFault (S.reader_state parts.old)
-        (S.reader_state parts.new) reader.old reader.new read) }
-    ensures unread { OnErr result (reader.new ≡ reader.old) }
-    ensures kept { Keeps (W.contents writer.old) (W.contents writer.new) }
-    ensures write { W.has_failed writer.new ≡ (W.has_failed writer.old || is_err result) }
+) -> Result<(), ToolFault>
+    requires { (count : ℕ) × M.HasAnswered mode.old count × (count < 2 ^ 30) }
+    ensures answered { OnOk result ((count : ℕ) → M.HasAnswered mode.old count
+        → M.HasAnswered mode.new (count + 1)) }
+    ensures wrote { OnOk result ((total : ScriptOf P → Output) (parts : List P)
+        (before : Option (List ℕ)) →
+        WrotePrefix total (M.left mode.old) parts before (W.contents writer.old)
+        → WrotePrefix total (M.left mode.new) (parts ++ part.now ∷ []) before
+        (W.contents writer.new)) }
+    ensures stop { IfErr result (λ stop. (total : ScriptOf P → Output) (parts : List P)
+        (before : Option (List ℕ)) →
+        WrotePrefix total (M.left mode.old) parts before (W.contents writer.old) → (rest : ScriptOf P) →
+        Means (total (prepended parts (prepended (part.now ∷ []) rest))) (Err stop) before
+        (W.contents writer.new)) }
+    ensures read { is_read_failure result ≡ false }
+    ensures write { W.has_failed writer.new ≡ (W.has_failed writer.old || is_write_failure result) }
+    ensures kinds { IfErr result (λ stop. CanAnswer M.mode (Err stop)) }
 {
-    if let Some(read) = parts.buffered(reader) {
-        return Ok(read);
-    }
-    if writer.flush_all().is_err() {
-        return Err(WriteFault);
-    }
-    Ok(parts.read(reader, writer))
+    text.clear();
+    mode.answer(part, text)?;
+    write_all(writer, text.as_slice())?;
+    Ok(())
+}
+
+// Makes the reply to the end of the input, or to the error in it, writes it, and ends the run.
+fn finish<P, M: Handler<P>, W: Sink>(
+    mode: &mut M,
+    fault: Option<FileFault>,
+    text: &mut Vec<u8>,
+    writer: &mut W,
+) -> Result<Status, ToolFault>
+    requires { (count : ℕ) × M.HasAnswered mode.old count }
+    ensures output { (total : ScriptOf P → Output) (parts : List P) (before : Option (List ℕ)) →
+        WrotePrefix total (M.left mode.old) parts before (W.contents writer.old)
+        → Means (total (script parts fault)) result before (W.contents writer.new) }
+    ensures read { is_read_failure result ≡ false }
+    ensures write { W.has_failed writer.new ≡ (W.has_failed writer.old || is_write_failure result) }
+    ensures kinds { IfSome fault (CanBeFaulty M.mode) → CanAnswer M.mode result }
+{
+    text.clear();
+    let outcome = mode.end(fault, text)?;
+    write_all(writer, text.as_slice())?;
+    outcome
 }
 
 /// Runs a mode over an input, to its end or to an error. The mode replies to an error in the input; after a failed
 /// read, a failed write or `NoMemory` nothing more is written.
-pub(super) fn run_by_part<P: Drop, S: Input<P> + Drop, M: Handler<P> + Drop, R: Source, W: Sink>(
-    mut parts: S,
-    mut mode: M,
+pub(super) fn run_by_part<D: Draft + Drop, M: Handler<D::Part> + Drop, R: Source, W: Sink>(
+    alloc: Global,
+    options: Options,
     reader: &mut R,
     writer: &mut W,
 ) -> Result<Status, ToolFault>
-    requires unread { S.reader_state parts ≡ fresh }
-    requires unwritten { (total : ScriptOf P → Output)
-        × ((buffered : Option (List ℕ)) → M.HasAnswered mode total [] buffered buffered) }
-    requires faults { (position : Position) (fault : ReadFault) → S.IsFault position fault
+    requires range { IsInRange options }
+    requires in_turn { InTurn (next_of D.first_item D.numbered longest_input) }
+    requires faults { (position : Position) (fault : ReadFault) → D.IsFault position fault
         → CanAnswer M.mode (Err (as_tool_fault fault)) }
-    ensures output { (total : ScriptOf P → Output)
-        → ((buffered : Option (List ℕ)) → M.HasAnswered mode total [] buffered buffered) →
-        Answers (λ input. total (script_from S.coming start input)) (R.remaining reader.old) (R.remaining reader.new)
-        (W.contents writer.old) (W.contents writer.new) result }
+    ensures output { Answers (λ input. M.whole options
+        (script_from (next_of D.first_item D.numbered longest_input) start input))
+        (R.remaining reader.old) (R.remaining reader.new) (W.contents writer.old)
+        (W.contents writer.new) result }
     ensures consumed { LosesPrefix (R.remaining reader.old) (R.remaining reader.new) }
     ensures read { R.has_failed reader.new ≡ (R.has_failed reader.old || is_read_failure result) }
     ensures write { W.has_failed writer.new ≡ (W.has_failed writer.old || is_write_failure result) }
     ensures kinds { CanAnswer M.mode result }
 {
+    let mut mode = M::new(alloc, options)?;
+    let mut parts = Parts::<D>::new(alloc)?;
+    let mut text = Vec::new(alloc);
     'each: loop {
-        let read = next_part(&mut parts, reader, writer)?;
+        let read = parts.next_after_flush(reader, writer)?;
         match read {
             Ok(Some(part)) => {
-                mode.answer(&part, writer)?;
-                parts.recycle(part);
+                reply(&mut mode, &part, &mut text, writer)?;
+                parts.reuse(part);
             }
-            Ok(None) => return mode.end(None, writer),
+            Ok(None) => return finish(&mut mode, None, &mut text, writer),
             Err(fault) => match ToolFault::from(fault) {
-                ToolFault::Script(fault) => return mode.end(Some(fault), writer),
+                ToolFault::Script(fault) => {
+                    return finish(&mut mode, Some(fault), &mut text, writer);
+                }
                 fault => return Err(fault),
             },
         }

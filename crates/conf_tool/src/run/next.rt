@@ -9,17 +9,17 @@
 //! ```
 //!
 //! Blank lines and comments are skipped. What is asked and answered is in the crate `driver_json`; the mode is own.
-ghost use Rattle.std.specs.Prelude.{◌≡◌, ℕ, List, [], Option, false};
-ghost use Rattle.conf_tool.specs.Outputs.{next_outcome, next_output_from};
+ghost use Rattle.std.specs.Prelude.{◌≡◌};
+ghost use Rattle.conf_tool.specs.Outputs.{next_outcome};
 
-use super::handler::Handler;
+use super::handler::{Handler, Outcome};
 use crate::next_reply::answer_view;
+use crate::options::Options;
 use crate::status::Status;
 use crate::tool_fault::ToolFault;
-use dd_file::device::Sink;
 use dd_file::fault::FileFault;
 use dd_file::line::Line;
-use dd_file::writing::write_all;
+use quorum_sets::NoMemory;
 use std::alloc::Global;
 
 /// The state of the mode: whether a line was refused.
@@ -27,70 +27,49 @@ use std::alloc::Global;
 pub(super) struct Deciding {
     alloc: Global,
     refused: bool,
-    /// The reply to the last line.
-    text: Vec<u8>,
-}
-
-impl Deciding {
-    /// The mode before its first line.
-    pub(super) fn new(alloc: Global) -> Deciding
-        ensures { (buffered : Option (List ℕ))
-            → ⟦<Deciding as Handler<Line>>⟧.HasAnswered result (next_output_from false) [] buffered buffered }
-    {
-        Deciding {
-            alloc,
-            refused: false,
-            text: Vec::new(alloc),
-        }
-    }
 }
 
 // How a run ends, by whether a line was refused, and by the error in the input.
-fn outcome(refused: bool, fault: Option<FileFault>) -> Result<Status, ToolFault>
+fn outcome(refused: bool, fault: Option<FileFault>) -> Outcome
     ensures { result ≡ next_outcome refused fault }
 {
     match fault {
-        None => {
-            if refused {
-                Ok(Status::Different)
-            } else {
-                Ok(Status::Clean)
-            }
-        }
         Some(fault) => Err(ToolFault::Script(fault)),
+        None if refused => Ok(Status::Different),
+        None => Ok(Status::Clean),
     }
 }
 
 impl Handler<Line> for Deciding {
-    ghost use Rattle.conf_tool.specs.Answered.{WrotePrefix};
+    ghost use Rattle.std.specs.Prelude.{⊤, false};
     ghost use Rattle.conf_tool.specs.Outputs.{next_output_from};
     ghost use Rattle.conf_tool.specs.declared.mode.Mode.TheVariants.{Next as OfNext};
-    ghost use Rattle.conf_tool.specs.AnsweredLaws.{kept-prefix, wrote-prefix};
 
     ghost mode = { OfNext };
 
-    ghost HasAnswered = { λ s total. WrotePrefix total (next_output_from s.refused) };
+    ghost whole = { λ _. next_output_from false };
+
+    ghost left = { λ s. next_output_from s.refused };
+
+    ghost HasAnswered = { λ s count. ⊤ };
+
+    fn new(alloc: Global, _options: Options) -> Result<Deciding, ToolFault> {
+        Ok(Deciding {
+            alloc,
+            refused: false,
+        })
+    }
 
     // Replies to a line with what to do next, or with what is wrong with it.
-    fn answer<W: Sink>(&mut self, line: &Line, writer: &mut W) -> Result<(), ToolFault> {
-        self.text.clear();
-        let refused = answer_view(self.alloc, line.as_slice(), &mut self.text)?;
-        write_all(writer, self.text.as_slice())?;
+    fn answer(&mut self, line: &Line, text: &mut Vec<u8>) -> Result<(), ToolFault> {
+        let refused = answer_view(self.alloc, line.as_slice(), text)?;
         self.refused |= refused;
         Ok(())
     }
 
     // Nothing is printed at the end.
-    fn end<W: Sink>(
-        &mut self,
-        fault: Option<FileFault>,
-        writer: &mut W,
-    ) -> Result<Status, ToolFault> {
-        let _ = &*writer;
-        outcome(self.refused, fault)
+    fn end(&mut self, fault: Option<FileFault>, text: &mut Vec<u8>) -> Result<Outcome, NoMemory> {
+        let _ = &*text;
+        Ok(outcome(self.refused, fault))
     }
-
-    ghost stays = { λ s total. kept-prefix total (next_output_from s.refused) };
-
-    ghost prefix = { λ s total. wrote-prefix total (next_output_from s.refused) };
 }

@@ -13,19 +13,18 @@
 //! Blank lines and comments are skipped, and still counted in the line numbers of errors. Between the replies to two
 //! pairs comes an empty line, but none in JSON. If the replies are scripts, one session runs all of them, so that
 //! together they are one script. The first line with an error ends the run. The form of the input is own.
-ghost use Rattle.std.specs.Prelude.{◌≡◌, ℕ, ◌+◌, ◌<◌, ◌^◌, ◌||◌, List, [], Option, Some, Ok, true, false, nat_lt, IfOk, IfErr, OnOk, OnErr, IsOkUnless, if◌then◌else◌};
-ghost use Rattle.std.specs.Io.KnownBytes.{Appends};
-ghost use Rattle.dd_file.specs.Device.{AppendsPart};
+ghost use Rattle.std.specs.Prelude.{◌≡◌, ℕ, ◌+◌, ◌<◌, ◌^◌, ◌||◌, ◌++◌, [], None, Ok, true, false, nat_lt, IfOk, IfErr, OnOk, IsOkUnless, if◌then◌else◌};
 ghost use Rattle.conf_change.specs.Configuration.{is_valid};
-ghost use Rattle.conf_tool.specs.Outputs.{planned_script, planned_texts, pair_text, separator, worse_of};
+ghost use Rattle.conf_tool.specs.Outputs.{planned_texts, pair_text, separator, worse_of};
 ghost use Rattle.conf_tool.specs.Pairs.{pair_of_texts, IsFaultOf};
 ghost use Rattle.conf_tool.specs.PlanAnswer.{plan_status, session_between};
 ghost use Rattle.conf_tool.specs.PlanScript.{default_session};
-ghost use Rattle.conf_tool.specs.Run.{IsAnswerFault, Means, is_read_failure, is_write_failure};
+ghost use Rattle.conf_tool.specs.Run.{Means, is_read_failure, is_write_failure};
 ghost use Rattle.conf_tool.specs.declared.tool_fault.ToolFault.TheVariants.{NoMemory as OutOfMemory};
 
-use super::handler::Handler;
+use super::handler::{Handler, Outcome};
 use super::plan_script::default_session;
+use crate::options::Options;
 use crate::origin::Origin;
 use crate::pair::{Current, Pair};
 use crate::pair_arguments::PairArguments;
@@ -42,6 +41,7 @@ use dd_file::fault::FileFault;
 use dd_file::line::Line;
 use dd_file::writing::write_all;
 use plan_output::Output;
+use quorum_sets::NoMemory;
 use std::alloc::Global;
 
 /// The state of the mode: the pair that is being read, and how the pairs before it ended.
@@ -62,48 +62,32 @@ pub(super) struct Planning {
 }
 
 impl Planning {
-    /// The mode before its first line, with a new session. It fails only if memory runs out.
-    pub(super) fn new(alloc: Global, options: PlanOptions) -> Result<Planning, ToolFault>
-        ensures unwritten { IfOk result (λ mode. (buffered : Option (List ℕ))
-            → ⟦<Planning as Handler<Line>>⟧.HasAnswered mode (planned_script options) [] buffered buffered) }
-        ensures memory { IsOkUnless result OutOfMemory }
-    {
-        Ok(Planning {
-            alloc,
-            session: default_session(alloc)?,
-            options,
-            lines: 0,
-            pair: 1,
-            now: None,
-            status: Status::Clean,
-        })
-    }
-
-    /// Writes the reply to a pair, and begins the next one.
-    fn write_pair<W: Sink>(&mut self, pair: &Pair, writer: &mut W) -> Result<(), ToolFault>
+    /// Appends the reply to a pair, and begins the next one.
+    fn answer_pair(&mut self, pair: &Pair, text: &mut Vec<u8>) -> Result<(), ToolFault>
         requires few { self.old.pair < 2 ^ 63 }
         requires valid_now { is_valid pair.now.current ≡ true }
         requires valid_target { is_valid pair.now.target ≡ true }
-        ensures next { OnOk result ((self.new.options ≡ self.old.options) × (self.new.lines ≡ self.old.lines)
+        ensures next { OnOk result ((self.new.options ≡ self.old.options)
+            × (self.new.lines ≡ self.old.lines)
             × (self.new.pair ≡ self.old.pair + 1) × (self.new.now ≡ self.old.now)) }
-        ensures session { OnOk result (self.new.session ≡ session_between self.old.options self.old.session pair.now) }
+        ensures session { OnOk result (self.new.session
+            ≡ session_between self.old.options self.old.session pair.now) }
         ensures status { OnOk result
-            (Ok self.new.status ≡ worse_of self.old.status (Ok (plan_status self.old.options pair.now))) }
-        ensures written { OnOk result (Appends (W.contents writer.old) (W.contents writer.new)
-            (pair_text self.old.options self.old.session self.old.pair pair.now)) }
-        ensures part { OnErr result (AppendsPart (W.contents writer.old) (W.contents writer.new)
-            (pair_text self.old.options self.old.session self.old.pair pair.now)) }
-        ensures write { W.has_failed writer.new ≡ (W.has_failed writer.old || is_write_failure result) }
-        ensures kinds { IfErr result IsAnswerFault }
+            (Ok self.new.status ≡ worse_of self.old.status
+            (Ok (plan_status self.old.options pair.now))) }
+        ensures text { OnOk result (text.new.items
+            ≡ text.old.items ++ pair_text self.old.options self.old.session self.old.pair
+            pair.now) }
+        ensures memory { IsOkUnless result OutOfMemory }
     {
-        let (text, status) = pair_answer(
+        let status = pair_answer(
             self.alloc,
+            text,
             &self.options,
             &mut self.session,
             self.pair,
             pair,
         )?;
-        write_all(writer, text.as_slice())?;
         self.pair += 1;
         self.status = worse(self.status, status);
         Ok(())
@@ -120,25 +104,25 @@ fn worse(former: Status, latter: Status) -> Status
     }
 }
 
-// The reply to the pair with this number, and its status.
+// Appends the reply to the pair with this number, and returns its status.
 fn pair_answer(
     alloc: Global,
+    text: &mut Vec<u8>,
     options: &PlanOptions,
     session: &mut Session,
     number: u64,
     pair: &Pair,
-) -> Result<(Vec<u8>, Status), ToolFault>
+) -> Result<Status, ToolFault>
     requires valid_now { is_valid pair.now.current ≡ true }
     requires valid_target { is_valid pair.now.target ≡ true }
-    ensures text { IfOk result (λ answer. answer.0.items ≡ pair_text options.now session.old number pair.now) }
+    ensures text { OnOk result (text.new.items
+        ≡ text.old.items ++ pair_text options.now session.old number pair.now) }
     ensures session { OnOk result (session.new ≡ session_between options.now session.old pair.now) }
-    ensures status { IfOk result (λ answer. answer.1 ≡ plan_status options.now pair.now) }
+    ensures status { IfOk result (λ status. status ≡ plan_status options.now pair.now) }
     ensures memory { IsOkUnless result OutOfMemory }
 {
-    let (plan, status) = plan_answer(alloc, options, session, number, pair)?;
-    let mut text = separator_before(number, options.output).to_vec(alloc)?;
-    append(&mut text, plan.as_slice())?;
-    Ok((text, status))
+    append(text, separator_before(number, options.output))?;
+    plan_answer(alloc, text, options, session, number, pair)
 }
 
 // The text before the reply to the pair with this number: nothing before the first.
@@ -160,16 +144,33 @@ fn separator(output: PlanOutput) -> &'static [u8]
 
 impl Handler<Line> for Planning {
     ghost use Rattle.conf_tool.specs.Answered.{HasPlanned, plan_left};
+    ghost use Rattle.conf_tool.specs.Outputs.{planned_script};
     ghost use Rattle.conf_tool.specs.declared.mode.Mode.TheVariants.{Plan as OfPlan};
-    ghost use Rattle.conf_tool.specs.AnsweredLaws.{kept-planned, wrote-prefix};
 
     ghost mode = { OfPlan };
 
-    ghost HasAnswered = { λ s. HasPlanned s.options s.session s.lines s.pair s.now s.status };
+    ghost whole = { λ options. planned_script options.plan };
+
+    ghost left = { λ s. plan_left s.options s.session s.lines s.pair s.now s.status };
+
+    ghost HasAnswered = { λ s. HasPlanned s.lines s.pair s.now };
+
+    // The mode begins with a new session.
+    fn new(alloc: Global, options: Options) -> Result<Planning, ToolFault> {
+        Ok(Planning {
+            alloc,
+            session: default_session(alloc)?,
+            options: options.plan,
+            lines: 0,
+            pair: 1,
+            now: None,
+            status: Status::Clean,
+        })
+    }
 
     // Keeps the current configuration, which is the first line of a pair, and replies to the second. Blank lines and
     // comments are skipped. A line with an error ends the run.
-    fn answer<W: Sink>(&mut self, line: &Line, writer: &mut W) -> Result<(), ToolFault> {
+    fn answer(&mut self, line: &Line, text: &mut Vec<u8>) -> Result<(), ToolFault> {
         self.lines += 1;
         if is_skipped(line.as_slice()) {
             return Ok(());
@@ -177,41 +178,34 @@ impl Handler<Line> for Planning {
         let origin = Origin::Line(self.lines);
         match self.now.take() {
             None => {
-                let text = line.as_slice();
-                self.now = Some(current_of(self.alloc, &self.options, origin, text)?);
+                let written = line.as_slice();
+                self.now = Some(current_of(self.alloc, &self.options, origin, written)?);
                 Ok(())
             }
             Some(current) => {
-                let text = line.as_slice();
-                let pair = pair_of(self.alloc, &self.options, current, origin, text)?;
-                self.write_pair(&pair, writer)
+                let written = line.as_slice();
+                let pair = pair_of(self.alloc, &self.options, current, origin, written)?;
+                self.answer_pair(&pair, text)
             }
         }
     }
 
-    // An input without a pair, and one that ends before the target of a pair, is an error.
-    fn end<W: Sink>(
-        &mut self,
-        fault: Option<FileFault>,
-        writer: &mut W,
-    ) -> Result<Status, ToolFault> {
-        let _ = &*writer;
+    // Nothing is printed at the end. An input without a pair, and one that ends before the target of a pair, is an
+    // error.
+    fn end(&mut self, fault: Option<FileFault>, text: &mut Vec<u8>) -> Result<Outcome, NoMemory> {
+        let _ = &*text;
         if let Some(fault) = fault {
-            return Err(ToolFault::Script(fault));
+            return Ok(Err(ToolFault::Script(fault)));
         }
         if let Some(current) = &self.now {
             let missing = PlanInputFault::NoTarget(current.origin);
-            return Err(ToolFault::Configurations(missing));
+            return Ok(Err(ToolFault::Configurations(missing)));
         }
         if self.pair <= 1 {
-            return Err(ToolFault::Configurations(PlanInputFault::NotTwoLines));
+            return Ok(Err(ToolFault::Configurations(PlanInputFault::NotTwoLines)));
         }
-        Ok(self.status)
+        Ok(Ok(self.status))
     }
-
-    ghost stays = { λ s. kept-planned s.options s.session s.lines s.pair s.now s.status };
-
-    ghost prefix = { λ s total parts more fault before after planned. wrote-prefix total (plan_left s.options s.session s.lines s.pair s.now s.status) parts more fault before after planned.prefix };
 }
 
 /// Writes the reply to the pair that the values of `--from` and `--to` are, and returns the status of the run.
@@ -221,45 +215,53 @@ pub(super) fn answer_texts<W: Sink>(
     texts: PairArguments<'_>,
     writer: &mut W,
 ) -> Result<Status, ToolFault>
-    ensures output { Means (planned_texts options.now texts.entry.from.now texts.entry.to.now) result (W.contents writer.old) (W.contents writer.new) }
+    ensures output { Means (planned_texts options.now texts.entry.from.now texts.entry.to.now)
+        result (W.contents writer.old) (W.contents writer.new) }
     ensures read { is_read_failure result ≡ false }
     ensures write { W.has_failed writer.new ≡ (W.has_failed writer.old || is_write_failure result) }
 {
-    let (text, status) = texts_answer(alloc, options, texts)?;
+    let mut text = Vec::new(alloc);
+    let status = texts_answer(alloc, &mut text, options, texts)?;
     write_all(writer, text.as_slice())?;
     Ok(status)
 }
 
-// The reply to that pair, and its status.
+// Appends the reply to that pair, and returns its status.
 fn texts_answer(
     alloc: Global,
+    text: &mut Vec<u8>,
     options: &PlanOptions,
     texts: PairArguments<'_>,
-) -> Result<(Vec<u8>, Status), ToolFault>
-    ensures text { IfOk result (λ answer. (planned_texts options.now texts.entry.from.now texts.entry.to.now).text
-        ≡ answer.0.items) }
-    ensures outcome { IfOk result (λ answer. (planned_texts options.now texts.entry.from.now texts.entry.to.now).outcome
-        ≡ Ok answer.1) }
-    ensures fault { IfErr result (IsFaultOf (pair_of_texts options.now texts.entry.from.now texts.entry.to.now)) }
+) -> Result<Status, ToolFault>
+    ensures text { OnOk result (text.new.items
+        ≡ text.old.items ++ (planned_texts options.now texts.entry.from.now
+        texts.entry.to.now).text) }
+    ensures outcome { IfOk result
+        (λ status. (planned_texts options.now texts.entry.from.now texts.entry.to.now).outcome
+        ≡ Ok status) }
+    ensures fault { IfErr result
+        (IsFaultOf (pair_of_texts options.now texts.entry.from.now texts.entry.to.now)) }
 {
     let pair = pair_of_texts(alloc, options, texts.from.as_bytes(), texts.to.as_bytes())?;
-    first_answer(alloc, options, &pair)
+    first_answer(alloc, text, options, &pair)
 }
 
-// The reply to the first pair of a run, and its status.
+// Appends the reply to the first pair of a run, and returns its status.
 fn first_answer(
     alloc: Global,
+    text: &mut Vec<u8>,
     options: &PlanOptions,
     pair: &Pair,
-) -> Result<(Vec<u8>, Status), ToolFault>
+) -> Result<Status, ToolFault>
     requires valid_now { is_valid pair.now.current ≡ true }
     requires valid_target { is_valid pair.now.target ≡ true }
-    ensures text { IfOk result (λ answer. answer.0.items ≡ pair_text options.now default_session 1 pair.now) }
-    ensures status { IfOk result (λ answer. answer.1 ≡ plan_status options.now pair.now) }
+    ensures text { OnOk result (text.new.items
+        ≡ text.old.items ++ pair_text options.now default_session 1 pair.now) }
+    ensures status { IfOk result (λ status. status ≡ plan_status options.now pair.now) }
     ensures memory { IsOkUnless result OutOfMemory }
 {
     let mut session = default_session(alloc)?;
-    pair_answer(alloc, options, &mut session, 1, pair)
+    pair_answer(alloc, text, options, &mut session, 1, pair)
 }
 
 // The pair that two texts are.

@@ -1,6 +1,12 @@
-use Rattle.std.proofs.Common.{inl, inr}
-use Rattle.conf_tool.specs.AnsweredLaws.{keeps-still}
+use Rattle.std.proofs.Common.{ℕ, List, refl, inl, inr}
+use Rattle.std.specs.Prelude.{Option, Some, None}
+use Rattle.std.specs.Io.KnownBytes.{Keeps}
 use Rattle.confscript.proofs.run_arguments.Goals as goal
+
+-- bytes that stay as they are, known or not
+keeps-still : (buffered : Option (List ℕ)) → Keeps buffered buffered
+keeps-still None = tt
+keeps-still (Some bytes) = refl
 
 pub returns-in-Ok-clause-ends : goal.returns-in-Ok-clause-ends
 returns-in-Ok-clause-ends g c =

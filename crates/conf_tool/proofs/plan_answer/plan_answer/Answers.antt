@@ -1,7 +1,7 @@
-use Rattle.std.proofs.Common.{◌≡◌, ◌∙◌, List, ap, false, refl, subst, sym, true}
+use Rattle.std.proofs.Common.{◌≡◌, ◌∙◌, ◌++◌, List, ap, false, refl, subst, sym, true}
 use Rattle.std.proofs.lemmas.Bool.{true_from_ne_false}
 use Rattle.std.proofs.lemmas.Iterator.Adapters.{option_map_id}
-use Rattle.std.specs.Prelude.{Ok, Err, IfOk, OnOk, codes}
+use Rattle.std.specs.Prelude.{Ok, Err, OnOk, codes}
 use Rattle.conf_change.specs.Configuration.{has_voter}
 use Rattle.conf_change.specs.declared.step.Step.{Step}
 use Rattle.conf_plan.specs.PathBy.{has_path, ids_down, path_by}
@@ -23,20 +23,20 @@ pub returns-in-Err-NoVoterNow-clause-text : goal.returns-in-Err-NoVoterNow-claus
 returns-in-Err-NoVoterNow-clause-text c =
     let options = c.args.options.now in
     let why = (c.plan_by.ensures.no_voter_now).0 (c.in-Err-NoVoterNow.is ∙ ap Err c.in-Err-NoVoterNow.field-0-is) in
-    subst (λ path. IfOk c.no_plan.result (λ answer. answer.0.items ≡ reply_text options c.args.session.now c.args.number c.args.pair.now.current path)) (sym (no_now options c.args.pair.now why)) c.no_plan.ensures.text
+    subst (λ path. OnOk c.no_plan.result (c.no_plan.new.text.items ≡ c.args.text.now.items ++ reply_text options c.args.session.now c.args.number c.args.pair.now.current path)) (sym (no_now options c.args.pair.now why)) c.no_plan.ensures.text
 
 pub returns-in-Err-NoVoterTarget-clause-text : goal.returns-in-Err-NoVoterTarget-clause-text
 returns-in-Err-NoVoterTarget-clause-text c =
     let options = c.args.options.now in
     let why = (c.plan_by.ensures.no_voter_target).0 (c.in-Err-NoVoterTarget.is ∙ ap Err c.in-Err-NoVoterTarget.field-0-is) in
-    subst (λ path. IfOk c.no_plan-in-Err-NoVoterTarget.result (λ answer. answer.0.items ≡ reply_text options c.args.session.now c.args.number c.args.pair.now.current path))
+    subst (λ path. OnOk c.no_plan-in-Err-NoVoterTarget.result (c.no_plan-in-Err-NoVoterTarget.new.text.items ≡ c.args.text.now.items ++ reply_text options c.args.session.now c.args.number c.args.pair.now.current path))
     (sym (no_target options c.args.pair.now why.0 why.1)) c.no_plan-in-Err-NoVoterTarget.ensures.text
 
 pub returns-in-Err-JointTarget-clause-text : goal.returns-in-Err-JointTarget-clause-text
 returns-in-Err-JointTarget-clause-text c =
     let options = c.args.options.now in
     let why = (c.plan_by.ensures.joint_target).0 (c.in-Err-JointTarget.is ∙ ap Err c.in-Err-JointTarget.field-0-is) in
-    subst (λ path. IfOk c.no_plan-in-Err-JointTarget.result (λ answer. answer.0.items ≡ reply_text options c.args.session.now c.args.number c.args.pair.now.current path))
+    subst (λ path. OnOk c.no_plan-in-Err-JointTarget.result (c.no_plan-in-Err-JointTarget.new.text.items ≡ c.args.text.now.items ++ reply_text options c.args.session.now c.args.number c.args.pair.now.current path))
     (sym (joint options c.args.pair.now why.0 why.1 why.2)) c.no_plan-in-Err-JointTarget.ensures.text
 
 -- there is a path, by its strategy

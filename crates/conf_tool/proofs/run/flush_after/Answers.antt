@@ -8,7 +8,7 @@ use Rattle.conf_tool.specs.Run.{Means}
 use Rattle.conf_tool.specs.declared.status.Status.{Status}
 use Rattle.conf_tool.specs.declared.tool_fault.ToolFault.{ToolFault}
 use Rattle.conf_tool.specs.declared.tool_fault.ToolFault.TheVariants.{Script, Configurations, Read, Write, NoMemory}
-use Rattle.conf_tool.specs.AnsweredLaws.{kept-part}
+use Rattle.conf_tool.proofs.ModeOutput.FirstParts.{kept-part}
 use Rattle.conf_tool.proofs.run.flush_after.Goals as goal
 
 -- a whole text is a prefix of it

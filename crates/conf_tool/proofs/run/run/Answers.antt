@@ -1,59 +1,40 @@
-use Rattle.std.proofs.lemmas.Result.{err_from_is_err_and}
-use Rattle.conf_tool.specs.AnsweredLaws.{part-nothing}
+use Rattle.dd_file.specs.Position.{longest_input}
+use Rattle.dd_file.specs.Grammar.{next_item, next_line}
+use Rattle.dd_file.proofs.Offered.{next_item-takes, next_line-takes, script_from-followed}
 use Rattle.conf_tool.proofs.run.run.Goals as goal
 
-pub run_by_part-requires-clause-unwritten : goal.run_by_part-requires-clause-unwritten
-run_by_part-requires-clause-unwritten g c = (_, c.new-in-Lines.ensures)
+pub run_by_part-requires-clause-in_turn : goal.run_by_part-requires-clause-in_turn
+run_by_part-requires-clause-in_turn g c = script_from-followed (next_line longest_input) (next_line-takes longest_input)
 
-pub run_by_part-requires-in-Check-clause-unwritten : goal.run_by_part-requires-in-Check-clause-unwritten
-run_by_part-requires-in-Check-clause-unwritten g c = (_, c.in_ok-new-in-Check-2.ensures.unwritten)
+pub returns-in-Lines-clause-output : goal.returns-in-Lines-clause-output
+returns-in-Lines-clause-output g c = rw c.in-Lines.is c.run_by_part.ensures.output
 
-pub returns-in_err-new-in-Rewrite-2-clause-output : goal.returns-in_err-new-in-Rewrite-2-clause-output
-returns-in_err-new-in-Rewrite-2-clause-output g c =
-    let p = err_from_is_err_and c.from_residual-in_err-new-in-Rewrite-2.result c.from_residual-in_err-new-in-Rewrite-2.ensures.1 in
-    rw (p.1, p.2, c.in_err-new-in-Rewrite-2.ensures.memory) (λ input more agrees. part-nothing _ _)
+pub run_by_part-requires-in-Check-clause-in_turn : goal.run_by_part-requires-in-Check-clause-in_turn
+run_by_part-requires-in-Check-clause-in_turn g c = script_from-followed (next_item longest_input) (next_item-takes longest_input)
 
-pub run_by_part-requires-in-Rewrite-clause-unwritten : goal.run_by_part-requires-in-Rewrite-clause-unwritten
-run_by_part-requires-in-Rewrite-clause-unwritten g c = (_, c.in_ok-new-in-Rewrite-2.ensures.unwritten)
+pub returns-in-Check-clause-output : goal.returns-in-Check-clause-output
+returns-in-Check-clause-output g c = rw c.in-Check.is c.run_by_part-in-Check.ensures.output
 
-pub returns-in_err-new-in-Undo-2-clause-output : goal.returns-in_err-new-in-Undo-2-clause-output
-returns-in_err-new-in-Undo-2-clause-output g c =
-    let p = err_from_is_err_and c.from_residual-in_err-new-in-Undo-2.result c.from_residual-in_err-new-in-Undo-2.ensures.1 in
-    rw (p.1, p.2, c.in_err-new-in-Undo-2.ensures.memory) (λ input more agrees. part-nothing _ _)
+pub run_by_part-requires-in-Rewrite-clause-in_turn : goal.run_by_part-requires-in-Rewrite-clause-in_turn
+run_by_part-requires-in-Rewrite-clause-in_turn g c = script_from-followed (next_item longest_input) (next_item-takes longest_input)
 
-pub run_by_part-requires-in-Undo-clause-unwritten : goal.run_by_part-requires-in-Undo-clause-unwritten
-run_by_part-requires-in-Undo-clause-unwritten g c = (_, c.in_ok-new-in-Undo-2.ensures.unwritten)
+pub returns-in-Rewrite-clause-output : goal.returns-in-Rewrite-clause-output
+returns-in-Rewrite-clause-output g c = rw c.in-Rewrite.is c.run_by_part-in-Rewrite.ensures.output
 
-pub returns-in_err-new-in-Plan-clause-output : goal.returns-in_err-new-in-Plan-clause-output
-returns-in_err-new-in-Plan-clause-output g c =
-    let p = err_from_is_err_and c.from_residual-in_err-new-in-Plan.result c.from_residual-in_err-new-in-Plan.ensures.1 in
-    rw (p.1, p.2, c.in_err-new-in-Plan.ensures.memory) (λ input more agrees. part-nothing _ _)
+pub run_by_part-requires-in-Undo-clause-in_turn : goal.run_by_part-requires-in-Undo-clause-in_turn
+run_by_part-requires-in-Undo-clause-in_turn g c = script_from-followed (next_item longest_input) (next_item-takes longest_input)
 
-pub returns-in_err-new-in-Plan-2-clause-output : goal.returns-in_err-new-in-Plan-2-clause-output
-returns-in_err-new-in-Plan-2-clause-output g c =
-    let p = err_from_is_err_and c.from_residual-in_err-new-in-Plan-2.result c.from_residual-in_err-new-in-Plan-2.ensures.1 in
-    rw (p.1, p.2, c.in_err-new-in-Plan-2.ensures.memory) (λ input more agrees. part-nothing _ _)
+pub returns-in-Undo-clause-output : goal.returns-in-Undo-clause-output
+returns-in-Undo-clause-output g c = rw c.in-Undo.is c.run_by_part-in-Undo.ensures.output
 
-pub run_by_part-requires-in-Plan-clause-unwritten : goal.run_by_part-requires-in-Plan-clause-unwritten
-run_by_part-requires-in-Plan-clause-unwritten g c = (_, c.in_ok-new-in-Plan-2.ensures.unwritten)
+pub run_by_part-requires-in-Plan-clause-in_turn : goal.run_by_part-requires-in-Plan-clause-in_turn
+run_by_part-requires-in-Plan-clause-in_turn g c = script_from-followed (next_line longest_input) (next_line-takes longest_input)
 
-pub returns-in_ok-new-in-Lines-clause-output : goal.returns-in_ok-new-in-Lines-clause-output
-returns-in_ok-new-in-Lines-clause-output g c = rw c.in-Lines.is (c.run_by_part.ensures.output _ c.new-in-Lines.ensures)
+pub returns-in-Plan-clause-output : goal.returns-in-Plan-clause-output
+returns-in-Plan-clause-output g c = rw c.in-Plan.is c.run_by_part-in-Plan.ensures.output
 
-pub returns-in_ok-new-in-Check-2-clause-output : goal.returns-in_ok-new-in-Check-2-clause-output
-returns-in_ok-new-in-Check-2-clause-output g c = rw c.in-Check.is (c.run_by_part-in-Check.ensures.output _ c.in_ok-new-in-Check-2.ensures.unwritten)
+pub run_by_part-requires-in-Next-clause-in_turn : goal.run_by_part-requires-in-Next-clause-in_turn
+run_by_part-requires-in-Next-clause-in_turn g c = script_from-followed (next_line longest_input) (next_line-takes longest_input)
 
-pub returns-in_ok-new-in-Rewrite-2-clause-output : goal.returns-in_ok-new-in-Rewrite-2-clause-output
-returns-in_ok-new-in-Rewrite-2-clause-output g c = rw c.in-Rewrite.is (c.run_by_part-in-Rewrite.ensures.output _ c.in_ok-new-in-Rewrite-2.ensures.unwritten)
-
-pub returns-in_ok-new-in-Undo-2-clause-output : goal.returns-in_ok-new-in-Undo-2-clause-output
-returns-in_ok-new-in-Undo-2-clause-output g c = rw c.in-Undo.is (c.run_by_part-in-Undo.ensures.output _ c.in_ok-new-in-Undo-2.ensures.unwritten)
-
-pub returns-in_ok-new-in-Plan-2-clause-output : goal.returns-in_ok-new-in-Plan-2-clause-output
-returns-in_ok-new-in-Plan-2-clause-output g c = rw c.in-Plan.is (c.run_by_part-in-Plan.ensures.output _ c.in_ok-new-in-Plan-2.ensures.unwritten)
-
-pub run_by_part-requires-in-Next-clause-unwritten : goal.run_by_part-requires-in-Next-clause-unwritten
-run_by_part-requires-in-Next-clause-unwritten g c = (_, c.new-in-Next-2.ensures)
-
-pub returns-in_ok-new-in-Next-clause-output : goal.returns-in_ok-new-in-Next-clause-output
-returns-in_ok-new-in-Next-clause-output g c = rw c.in-Next.is (c.run_by_part-in-Next.ensures.output _ c.new-in-Next-2.ensures)
+pub returns-in-Next-clause-output : goal.returns-in-Next-clause-output
+returns-in-Next-clause-output g c = rw c.in-Next.is c.run_by_part-in-Next.ensures.output

@@ -1,8 +1,8 @@
-use Rattle.std.proofs.Common.{◌≡◌, ◌≤◌, ◌-◌, ℕ, List, []}
+use Rattle.std.proofs.Common.{◌≡◌, ◌≤◌, ◌-◌, ℕ, List, length}
 use Rattle.std.specs.Prelude.{Option}
 use Rattle.dd_file.specs.Position.{longest_input}
-use Rattle.dd_file.specs.Grammar.{Script}
-use Rattle.conf_tool.specs.Outputs.{Output}
+use Rattle.dd_file.specs.Grammar.{next_of}
+use Rattle.conf_tool.specs.Answered.{WrotePrefix}
 use Rattle.conf_tool.proofs.ModeInput.PositionReached.{Reached}
 use Rattle.conf_tool.proofs.run.handler.run_by_part.Given as goal
 
@@ -13,15 +13,15 @@ invariant-each g l =
     let contents = g.W.Sink.contents in
     let mode = g.M.Handler in
     record {
-      parts : List g.row.P.Denot;
-      reached : Reached g.S.Input.coming (remaining l.fn.reader) (remaining l.reader) (g.S.Input.reader_state l.parts) parts;
-      answered : (total : Script g.row.P.Denot → Output) → ((buffered : Option (List ℕ)) → mode.HasAnswered l.fn.mode total [] buffered buffered) →
-          mode.HasAnswered l.mode total parts (contents l.fn.writer) (contents l.writer);
-      counted : (g.S.Input.reader_state l.parts).position.lines ≤ longest_input;
+      parts : List g.row.D-Part.Denot;
+      reached : Reached (next_of g.D.Draft.first_item g.D.Draft.numbered longest_input) (remaining l.fn.reader) (remaining l.reader) l.parts parts;
+      answered : mode.HasAnswered l.mode (length parts);
+      wrote : WrotePrefix (mode.whole l.fn.options) (mode.left l.mode) parts (contents l.fn.writer) (contents l.writer);
+      counted : l.parts.position.lines ≤ longest_input;
       unread : g.R.Source.has_failed l.reader ≡ g.R.Source.has_failed l.fn.reader;
       unwritten : g.W.Sink.has_failed l.writer ≡ g.W.Sink.has_failed l.fn.writer;
     }
 
 -- an input has only this many lines, and each part has one
 abbrev pub decreases-each : goal.decreases-each
-decreases-each g l = longest_input - (g.S.Input.reader_state l.parts).position.lines
+decreases-each g l = longest_input - l.parts.position.lines

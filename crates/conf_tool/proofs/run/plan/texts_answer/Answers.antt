@@ -1,9 +1,8 @@
-use Rattle.std.proofs.Common.{◌≡◌, ◌∙◌, sym, ap}
-use Rattle.std.specs.Prelude.{Ok}
+use Rattle.std.proofs.Common.{◌≡◌, ◌∙◌, ◌++◌, sym, subst, ap}
+use Rattle.std.specs.Prelude.{Ok, OnOk}
 use Rattle.std.proofs.lemmas.Result.{err_from_is_err_and, IfOk-weaker}
-use Rattle.conf_tool.specs.Outputs.{Output, pair_text, planned_texts}
-use Rattle.conf_tool.specs.PlanScript.{default_session}
-use Rattle.conf_tool.proofs.Modes.Plan.{texts-memory, texts-planned, texts-text}
+use Rattle.conf_tool.specs.Outputs.{Output, planned_texts}
+use Rattle.conf_tool.proofs.Modes.Plan.{texts-memory, texts-planned}
 use Rattle.conf_tool.proofs.run.plan.texts_answer.Goals as goal
 
 pub returns-in_err-pair-clause-fault : goal.returns-in_err-pair-clause-fault
@@ -14,17 +13,16 @@ returns-in_err-pair-clause-fault c =
 pub returns-clause-text : goal.returns-clause-text
 returns-clause-text c =
     let pair = rw c.as_bytes.ensures.value at (rw c.as_bytes-2.ensures.value at c.in_ok-pair.ensures.pair) in
-    IfOk-weaker c.first_answer.result (λ answer. answer.0.items ≡ pair_text c.args.options.now default_session 1 c.in_ok-pair.pair)
-    (λ answer. (planned_texts c.args.options.now c.args.texts.from.now c.args.texts.to.now).text ≡ answer.0.items)
-    (λ answer is. texts-text c.args.options.now c.args.texts.from.now c.args.texts.to.now answer.0.items c.in_ok-pair.pair pair is)
-    c.first_answer.ensures.text
+    let before = c.args.text.now.items in
+    let after = c.first_answer.new.text.items in
+    subst (λ text. OnOk c.first_answer.result (after ≡ before ++ text)) (sym (ap (λ (o : Output). o.text) (texts-planned c.args.options.now c.args.texts.from.now c.args.texts.to.now c.in_ok-pair.pair pair))) c.first_answer.ensures.text
 
 pub returns-clause-outcome : goal.returns-clause-outcome
 returns-clause-outcome c =
     let pair = rw c.as_bytes.ensures.value at (rw c.as_bytes-2.ensures.value at c.in_ok-pair.ensures.pair) in
     let output = planned_texts c.args.options.now c.args.texts.from.now c.args.texts.to.now in
-    IfOk-weaker c.first_answer.result _ (λ answer. output.outcome ≡ Ok answer.1)
-    (λ answer is. ap (λ (o : Output). o.outcome) (texts-planned c.args.options.now c.args.texts.from.now c.args.texts.to.now c.in_ok-pair.pair pair) ∙ ap Ok (sym is)) c.first_answer.ensures.status
+    IfOk-weaker c.first_answer.result _ (λ status. output.outcome ≡ Ok status)
+    (λ status is. ap (λ (o : Output). o.outcome) (texts-planned c.args.options.now c.args.texts.from.now c.args.texts.to.now c.in_ok-pair.pair pair) ∙ ap Ok (sym is)) c.first_answer.ensures.status
 
 pub returns-clause-fault : goal.returns-clause-fault
 returns-clause-fault c = texts-memory _ _ c.first_answer.ensures.memory

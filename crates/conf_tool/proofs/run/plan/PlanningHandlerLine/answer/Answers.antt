@@ -1,55 +1,43 @@
-use Rattle.std.proofs.Common.{sym, ◌∙◌}
-use Rattle.std.specs.Prelude.{⊤}
+use Rattle.std.proofs.Common.{sym, refl, ◌∙◌, arith}
 use Rattle.std.proofs.lemmas.Result.{err_from_is_err_and}
-use Rattle.conf_tool.specs.AnsweredLaws.{wrote-prefix}
-use Rattle.conf_tool.proofs.Modes.Plan.{on-ok, on-err, planned-passed, planned-first, planned-second, planned-broken, stop-at_current, stop-at_target, stop-unwritten}
+use Rattle.conf_tool.proofs.Modes.Plan.{on-ok, planned-part, plan_left-pair, plan_left-passed, plan_left-first, stop-at_current, stop-at_target}
 use Rattle.conf_tool.proofs.run.plan.PlanningHandlerLine.answer.Goals as goal
 
-pub returns-then-is_skipped-clause-answered : goal.returns-then-is_skipped-clause-answered
-returns-then-is_skipped-clause-answered g c = λ total parts before planned.
-    planned-passed _ _ _ _ _ _ _ total parts before _ (rw c.as_slice.ensures at (sym c.is_skipped.ensures ∙ c.if-is_skipped.true)) planned
+pub returns-then-is_skipped : goal.returns-then-is_skipped
+returns-then-is_skipped c =
+    let skipped = rw c.as_slice.ensures at (sym c.is_skipped.ensures ∙ c.if-is_skipped.true) in
+    record {
+      answered = λ count planned. planned-part _ _ _ _ count _ _ planned refl (omega arith) planned.valid;
+      text = λ rest. rw c.requires.empty (plan_left-passed c.args.self.now.options c.args.self.now.session c.args.self.now.lines c.args.self.now.pair c.args.self.now.now c.args.self.now.status c.args.line.now skipped rest);
+      stop = tt;
+    }
 
-pub returns-in_err-current_of-in-None-clause-part : goal.returns-in_err-current_of-in-None-clause-part
-returns-in_err-current_of-in-None-clause-part g c =
+pub returns-in_err-current_of-in-None-clause-stop : goal.returns-in_err-current_of-in-None-clause-stop
+returns-in_err-current_of-in-None-clause-stop c =
     let p = err_from_is_err_and c.from_residual.result c.from_residual.ensures.1 in
-    rw p.1 (λ total parts more fault before planned. wrote-prefix total _ parts _ fault before _ planned.prefix)
-
-pub returns-in_err-current_of-in-None-clause-kinds : goal.returns-in_err-current_of-in-None-clause-kinds
-returns-in_err-current_of-in-None-clause-kinds g c =
-    let p = err_from_is_err_and c.from_residual.result c.from_residual.ensures.1 in
-    rw (p.1, p.2) (stop-at_current _ _ _ _ _ _ _ _ _ (sym c.in-None.ensures.value) (rw c.as_slice.ensures at (sym c.is_skipped.ensures ∙ c.if-is_skipped.false)) (rw c.as_slice-text.ensures at c.in_err-current_of-in-None.ensures.fault))
-
-pub returns-in_ok-current_of-in-None-clause-answered : goal.returns-in_ok-current_of-in-None-clause-answered
-returns-in_ok-current_of-in-None-clause-answered g c = λ total parts before planned.
-    planned-first _ _ _ _ _ _ _ _ total parts before _ (sym c.in-None.ensures.value) (rw c.as_slice.ensures at (sym c.is_skipped.ensures ∙ c.if-is_skipped.false))
-    (rw c.as_slice-text.ensures at c.in_ok-current_of-in-None.ensures.current) c.in_ok-current_of-in-None.ensures.valid planned
-
-pub returns-in_err-pair-in-Some-clause-part : goal.returns-in_err-pair-in-Some-clause-part
-returns-in_err-pair-in-Some-clause-part g c =
-    let p = err_from_is_err_and c.from_residual-in_err-pair-in-Some.result c.from_residual-in_err-pair-in-Some.ensures.1 in
-    rw p.1 (λ total parts more fault before planned. wrote-prefix total _ parts _ fault before _ planned.prefix)
-
-pub returns-in_err-pair-in-Some-clause-kinds : goal.returns-in_err-pair-in-Some-clause-kinds
-returns-in_err-pair-in-Some-clause-kinds g c =
-    let p = err_from_is_err_and c.from_residual-in_err-pair-in-Some.result c.from_residual-in_err-pair-in-Some.ensures.1 in
-    rw (p.1, p.2) (stop-at_target _ _ _ _ _ c.in-Some.current _ _ _ _ (sym c.in-Some.ensures.value) (rw c.as_slice.ensures at (sym c.is_skipped.ensures ∙ c.if-is_skipped.false)) (rw c.as_slice-text-in-Some.ensures at c.in_err-pair-in-Some.ensures.fault))
-
-pub returns-in_ok-pair-in-Some-clause-answered : goal.returns-in_ok-pair-in-Some-clause-answered
-returns-in_ok-pair-in-Some-clause-answered g c =
     let kept = rw c.as_slice.ensures at (sym c.is_skipped.ensures ∙ c.if-is_skipped.false) in
-    let target = rw c.as_slice-text-in-Some.ensures at c.in_ok-pair-in-Some.ensures.pair in
-    on-ok c.write_pair.result _ _ _ _ _ c.write_pair.ensures.next c.write_pair.ensures.session c.write_pair.ensures.status c.write_pair.ensures.written (λ next moved worse written total parts before planned.
-    planned-second _ _ _ _ _ _ _ _ _ _ _ _ _ c.in-Some.current c.in_ok-pair-in-Some.pair total parts before _ _ (sym c.in-Some.ensures.value) kept target
-    next.0 moved next.1 next.2 (next.3 ∙ c.take.ensures.after) worse written planned)
+    rw (p.1, p.2, sym c.in-None.ensures.value) (stop-at_current c.args.self.now.options c.args.self.now.session c.args.self.now.lines c.args.self.now.pair c.args.self.now.status c.args.line.now _ kept (rw c.as_slice-written.ensures at c.in_err-current_of-in-None.ensures.fault))
 
-pub returns-in_ok-pair-in-Some-clause-part : goal.returns-in_ok-pair-in-Some-clause-part
-returns-in_ok-pair-in-Some-clause-part g c =
+pub returns-in_ok-current_of-in-None : goal.returns-in_ok-current_of-in-None
+returns-in_ok-current_of-in-None c =
     let kept = rw c.as_slice.ensures at (sym c.is_skipped.ensures ∙ c.if-is_skipped.false) in
-    let target = rw c.as_slice-text-in-Some.ensures at c.in_ok-pair-in-Some.ensures.pair in
-    on-err c.write_pair.result _ _ c.write_pair.ensures.part (λ cut total parts more fault before planned.
-    planned-broken _ _ _ _ _ _ _ c.in-Some.current c.in_ok-pair-in-Some.pair total parts more fault before _ _ (sym c.in-Some.ensures.value) kept target cut planned)
+    record {
+      answered = λ count planned. planned-part _ _ _ _ count _ _ planned refl (omega arith) c.in_ok-current_of-in-None.ensures.valid;
+      text = λ rest. rw (c.requires.empty, sym c.in-None.ensures.value) (plan_left-first c.args.self.now.options c.args.self.now.session c.args.self.now.lines c.args.self.now.pair c.args.self.now.status c.args.line.now _ kept (rw c.as_slice-written.ensures at c.in_ok-current_of-in-None.ensures.current) rest);
+      stop = tt;
+    }
 
-pub returns-in_err-pair-in-Some-clause-write : goal.returns-in_err-pair-in-Some-clause-write
-returns-in_err-pair-in-Some-clause-write g c =
+pub returns-in_err-pair-in-Some-clause-stop : goal.returns-in_err-pair-in-Some-clause-stop
+returns-in_err-pair-in-Some-clause-stop c =
     let p = err_from_is_err_and c.from_residual-in_err-pair-in-Some.result c.from_residual-in_err-pair-in-Some.ensures.1 in
-    rw (p.1, p.2) (stop-unwritten ⊤ _ _ _ c.in_err-pair-in-Some.ensures.fault)
+    let kept = rw c.as_slice.ensures at (sym c.is_skipped.ensures ∙ c.if-is_skipped.false) in
+    rw (p.1, p.2, sym c.in-Some.ensures.value) (stop-at_target c.args.self.now.options c.args.self.now.session c.args.self.now.lines c.args.self.now.pair c.in-Some.current c.args.self.now.status c.args.line.now _ kept (rw c.as_slice-written-in-Some.ensures at c.in_err-pair-in-Some.ensures.fault))
+
+pub returns-in_ok-pair-in-Some-clause-text : goal.returns-in_ok-pair-in-Some-clause-text
+returns-in_ok-pair-in-Some-clause-text c =
+    let kept = rw c.as_slice.ensures at (sym c.is_skipped.ensures ∙ c.if-is_skipped.false) in
+    let target = rw c.as_slice-written-in-Some.ensures at c.in_ok-pair-in-Some.ensures.pair in
+    let pair = c.answer_pair.ensures in
+    on-ok c.answer_pair.result _ _ _ _ _ pair.next pair.session pair.status (rw c.requires.empty at pair.text) (λ next session worse text rest.
+    plan_left-pair c.args.self.now.options _ c.args.self.now.session _ c.args.self.now.lines _ c.args.self.now.pair _ c.args.self.now.now _ c.args.self.now.status _ c.args.line.now _ c.in-Some.current c.in_ok-pair-in-Some.pair
+    (sym c.in-Some.ensures.value) kept target next.0 session next.1 next.2 (next.3 ∙ c.take.ensures.after) worse text rest)

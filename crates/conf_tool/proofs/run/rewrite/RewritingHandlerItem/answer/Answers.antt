@@ -1,14 +1,19 @@
-use Rattle.std.proofs.Common.{refl}
-use Rattle.conf_tool.proofs.Modes.Rewrite.{ok-by_three, err-by, rewritten-part, rewritten-broken}
+use Rattle.std.proofs.Common.{◌≡◌, ◌∙◌, ◌++◌, [], ◌∷◌, ap, length, rules, arith}
+use Rattle.dd_file.specs.Rewritten.{newlines_at_end}
+use Rattle.conf_tool.specs.Reports.{answered_text}
+use Rattle.conf_tool.proofs.Modes.Rewrite.{rewrite-item, added}
 use Rattle.conf_tool.proofs.run.rewrite.RewritingHandlerItem.answer.Goals as goal
 
 pub returns-clause-answered : goal.returns-clause-answered
-returns-clause-answered g c =
-    ok-by_three c.rewrite_item.result
-    (λ session ready written total parts before rewritten. rewritten-part _ _ _ _ _ _ total parts before _ _ rewritten session refl ready written)
-    c.rewrite_item.ensures.session c.rewrite_item.ensures.expecting c.rewrite_item.ensures.written
+returns-clause-answered c = λ count so_far. (so_far.0 ++ _, c.count_newlines-self.ensures so_far.0 so_far.1)
 
-pub returns-clause-part : goal.returns-clause-part
-returns-clause-part g c =
-    err-by c.rewrite_item.result
-    (λ breaks total parts more fault before rewritten. rewritten-broken _ _ _ _ total parts more fault before _ _ rewritten refl breaks) c.rewrite_item.ensures.part
+pub returns-clause-text : goal.returns-clause-text
+returns-clause-text c = λ rest.
+    let item = c.args.item.now in
+    let text = c.requires.few.1.0 in
+    let more = answered_text c.args.self.now.session (item ∷ []) in
+    let start : c.len-start.result ≡ length c.extend_from_slice.new.self.items = search (rules, arith) in
+    let appended = added c.len-start.result c.extend_from_slice.new.self.items more c.as_slice.result.now start (c.as_slice.ensures.value ∙ c.in_ok-rewrite_item.ensures.text) in
+    let counts = c.count_newlines-self.ensures text c.requires.few.1.1 ∙ ap (λ t. newlines_at_end (text ++ t)) appended in
+    rw (c.hold_newline.ensures, c.in_ok-rewrite_item.ensures.text, c.in_ok-extend_from_slice.ensures.items, c.requires.empty, c.pending_newline.ensures)
+    (rewrite-item _ _ _ _ item text c.in_ok-rewrite_item.ensures.session c.requires.few.1.1 counts rest)
