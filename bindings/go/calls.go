@@ -94,8 +94,8 @@ func callStep(configuration []uint64, kind uint32, changes []ConfChangeSingle, o
 	return C.confscript_step(numbers(configuration), length(configuration), C.uint32_t(kind), &list[0], length(changes), numbers(out), length(out))
 }
 
-func callMayBeDown(incoming, outgoing, uncounted []uint64) answer {
-	return C.confscript_may_be_down(numbers(incoming), length(incoming), numbers(outgoing), length(outgoing), numbers(uncounted), length(uncounted))
+func callMayBeDown(incoming, outgoing, down []uint64) answer {
+	return C.confscript_may_be_down(numbers(incoming), length(incoming), numbers(outgoing), length(outgoing), numbers(down), length(down))
 }
 
 func committedOf(incoming, outgoing []uint64) uint64 {

@@ -59,10 +59,10 @@ type ConfChangeV2 struct {
 	Changes    []ConfChangeSingle   `json:"changes"`
 }
 
-// ApplyConfChange returns the configuration after a proposal, as etcd's raft applies it, and the members that begin
-// afresh in it: those that were none before, and those that the changes remove and add again, unless they are outgoing
-// voters. The other members keep their progress. A transition that raftpb does not have is refused.
-func ApplyConfChange(state ConfState, change ConfChangeV2) (next ConfState, fresh []uint64, err error) {
+// ApplyConfChange returns the configuration after a proposal, as etcd's raft applies it, and the members that are
+// catching up in it: those that were none before, and those that the changes remove and add again, unless they are
+// outgoing voters. The other members keep their progress. A transition that raftpb does not have is refused.
+func ApplyConfChange(state ConfState, change ConfChangeV2) (next ConfState, catchingUp []uint64, err error) {
 	switch change.Transition {
 	case ConfChangeTransitionAuto, ConfChangeTransitionJointImplicit, ConfChangeTransitionJointExplicit:
 		return step(state, uint32(change.Transition), change.Changes)
@@ -74,12 +74,12 @@ func ApplyConfChange(state ConfState, change ConfChangeV2) (next ConfState, fres
 
 // Simple returns the configuration after changes of any number of learners and at most one voter. It is refused in a
 // joint configuration.
-func Simple(state ConfState, changes []ConfChangeSingle) (next ConfState, fresh []uint64, err error) {
+func Simple(state ConfState, changes []ConfChangeSingle) (next ConfState, catchingUp []uint64, err error) {
 	return step(state, C.CONFSCRIPT_STEP_SIMPLE, changes)
 }
 
 // EnterJoint returns the joint configuration that changes lead to, which raft leaves by itself with autoLeave.
-func EnterJoint(state ConfState, autoLeave bool, changes []ConfChangeSingle) (next ConfState, fresh []uint64, err error) {
+func EnterJoint(state ConfState, autoLeave bool, changes []ConfChangeSingle) (next ConfState, catchingUp []uint64, err error) {
 	if autoLeave {
 		return step(state, C.CONFSCRIPT_STEP_IMPLICIT, changes)
 	}
@@ -87,13 +87,13 @@ func EnterJoint(state ConfState, autoLeave bool, changes []ConfChangeSingle) (ne
 }
 
 // LeaveJoint returns the configuration after a joint one is left.
-func LeaveJoint(state ConfState) (next ConfState, fresh []uint64, err error) {
+func LeaveJoint(state ConfState) (next ConfState, catchingUp []uint64, err error) {
 	return step(state, C.CONFSCRIPT_STEP_LEAVE_JOINT, nil)
 }
 
-// Restore checks a saved configuration, and returns it with its ids in ascending order. Each member begins afresh, as
+// Restore checks a saved configuration, and returns it with its ids in ascending order. Each member is catching up, as
 // when a server restarts.
-func Restore(state ConfState) (restored ConfState, fresh []uint64, err error) {
+func Restore(state ConfState) (restored ConfState, catchingUp []uint64, err error) {
 	from := state.numbers()
 	return configuration(room(state, 0), func(out []uint64) answer { return callRestore(from, out) })
 }
@@ -127,19 +127,19 @@ func room(state ConfState, changes int) int {
 	return C.CONFSCRIPT_PART_IDS + 2*(state.size()+changes)
 }
 
-// configuration returns the configuration that a call writes into this room, and the members that begin afresh in it.
+// configuration returns the configuration that a call writes into this room, and the members that are catching up in it.
 func configuration(room int, call func(out []uint64) answer) (ConfState, []uint64, error) {
 	out := make([]uint64, room)
 	if _, err := number(call(out)); err != nil {
 		return ConfState{}, nil, err
 	}
-	state, fresh, _ := read(out)
-	return state, fresh, nil
+	state, catchingUp, _ := read(out)
+	return state, catchingUp, nil
 }
 
-// read returns the configuration and the fresh members of such an array, and what follows it. The lists are parts of it; an
-// empty one is nil.
-func read(numbers []uint64) (state ConfState, fresh, rest []uint64) {
+// read returns the configuration of such an array, its members that are catching up, and what follows it. The lists are
+// parts of it; an empty one is nil.
+func read(numbers []uint64) (state ConfState, catchingUp, rest []uint64) {
 	rest = numbers[C.CONFSCRIPT_PART_IDS:]
 	next := func(part int) []uint64 {
 		count := numbers[part]
@@ -157,6 +157,6 @@ func read(numbers []uint64) (state ConfState, fresh, rest []uint64) {
 		LearnersNext:   next(C.CONFSCRIPT_PART_LEARNERS_NEXT),
 		AutoLeave:      numbers[C.CONFSCRIPT_PART_AUTO_LEAVE] == 1,
 	}
-	fresh = next(C.CONFSCRIPT_PART_FRESH)
-	return state, fresh, rest
+	catchingUp = next(C.CONFSCRIPT_PART_CATCHING_UP)
+	return state, catchingUp, rest
 }

@@ -20,9 +20,9 @@ func TestChanges(t *testing.T) {
 	three := ConfState{Voters: ids(1, 2, 3)}
 	joint := ConfState{Voters: ids(2, 4), VotersOutgoing: ids(1, 2, 3), Learners: ids(5), LearnersNext: ids(3), AutoLeave: true}
 	for name, row := range map[string]struct {
-		got   outcome
-		next  ConfState
-		fresh []uint64
+		got        outcome
+		next       ConfState
+		catchingUp []uint64
 	}{
 		"simple":                               {of(Simple(three, changes(voter(4)))), ConfState{Voters: ids(1, 2, 3, 4)}, ids(4)},
 		"promote":                              {of(Simple(ConfState{Voters: ids(1), Learners: ids(2)}, changes(voter(2)))), ConfState{Voters: ids(1, 2)}, nil},
@@ -41,7 +41,7 @@ func TestChanges(t *testing.T) {
 		"restore the largest id":               {of(Restore(ConfState{Voters: ids(1<<64 - 1)})), ConfState{Voters: ids(1<<64 - 1)}, ids(1<<64 - 1)},
 		"restore nothing":                      {of(Restore(ConfState{})), ConfState{}, nil},
 	} {
-		if row.got.err != nil || !reflect.DeepEqual(row.got.next, row.next) || !reflect.DeepEqual(row.got.fresh, row.fresh) {
+		if row.got.err != nil || !reflect.DeepEqual(row.got.next, row.next) || !reflect.DeepEqual(row.got.catchingUp, row.catchingUp) {
 			t.Errorf("%s: %v", name, row.got)
 		}
 	}
@@ -49,12 +49,14 @@ func TestChanges(t *testing.T) {
 
 // An outcome is what a call returned.
 type outcome struct {
-	next  ConfState
-	fresh []uint64
-	err   error
+	next       ConfState
+	catchingUp []uint64
+	err        error
 }
 
-func of(next ConfState, fresh []uint64, err error) outcome { return outcome{next, fresh, err} }
+func of(next ConfState, catchingUp []uint64, err error) outcome {
+	return outcome{next, catchingUp, err}
+}
 
 func TestRefusedChanges(t *testing.T) {
 	one, joint := ConfState{Voters: ids(1)}, ConfState{Voters: ids(1, 2), VotersOutgoing: ids(1)}

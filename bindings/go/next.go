@@ -136,15 +136,9 @@ func Next(options DriveOptions, target ConfState, view View) (Action, error) {
 
 // numbers returns the array of the view (enum confscript_view_part), with the members in ascending order.
 func (view View) numbers(maxLag uint64) []uint64 {
-	numbers := make([]uint64, C.CONFSCRIPT_VIEW_FIRST, C.CONFSCRIPT_VIEW_FIRST+3*len(view.Progress)+len(view.Running)+len(view.Retired))
-	numbers[C.CONFSCRIPT_VIEW_CONF_INDEX] = view.ConfIndex
-	numbers[C.CONFSCRIPT_VIEW_LEAD] = view.Lead
-	numbers[C.CONFSCRIPT_VIEW_COMMIT] = view.Commit
-	numbers[C.CONFSCRIPT_VIEW_PENDING_CONF_INDEX] = view.PendingConfIndex
-	numbers[C.CONFSCRIPT_VIEW_MAX_LAG] = maxLag
-	numbers[C.CONFSCRIPT_VIEW_MEMBERS] = uint64(len(view.Progress))
-	numbers[C.CONFSCRIPT_VIEW_RUNNING] = uint64(len(view.Running))
-	numbers[C.CONFSCRIPT_VIEW_RETIRED] = uint64(len(view.Retired))
+	numbers := make([]uint64, 0, C.CONFSCRIPT_VIEW_FIRST+3*len(view.Progress)+len(view.Running)+len(view.Retired))
+	numbers = append(numbers, view.ConfIndex, view.Lead, view.Commit, view.PendingConfIndex, maxLag,
+		uint64(len(view.Progress)), uint64(len(view.Running)), uint64(len(view.Retired)))
 	for _, id := range ascending(view.Progress) {
 		var active uint64
 		if view.Progress[id].RecentActive {
@@ -176,10 +170,7 @@ func readAction(numbers []uint64, options DriveOptions, view View) Action {
 	case C.CONFSCRIPT_ACTION_TRANSFER:
 		return Transfer{rest[0]}
 	case C.CONFSCRIPT_ACTION_PROPOSE:
-		stage, _ := readStage(rest)
-		if len(options.Down) == 0 {
-			stage.MayBeDownBesides = nil
-		}
+		stage, _ := readStage(rest, len(options.Down) > 0)
 		return Propose{stage}
 	case C.CONFSCRIPT_ACTION_WAIT:
 		return waitFor(WaitReason(reason), rest, options, view)

@@ -127,9 +127,9 @@ func BallotOf(votes map[uint64]bool, id uint64) Ballot {
 	}
 }
 
-// MayBeDown returns how many ids may be down, whichever they are, while the other voters are a quorum, for which the
-// uncounted ids do not count. A voter that a list names twice counts once. If the voters that count are not a quorum even
+// MayBeDown returns how many ids may be down, whichever they are, while the other voters are a quorum, for which those
+// in down do not count. A voter that a list names twice counts once. If the voters that count are not a quorum even
 // when all are up, as if there are none, the error wraps ErrNoQuorum.
-func MayBeDown(incoming, outgoing, uncounted []uint64) (uint64, error) {
-	return number(callMayBeDown(incoming, outgoing, uncounted))
+func MayBeDown(incoming, outgoing, down []uint64) (uint64, error) {
+	return number(callMayBeDown(incoming, outgoing, down))
 }

@@ -14,14 +14,14 @@ type Stage struct {
 	ConfChange ConfChangeV2
 	// The configuration once it is applied.
 	ConfState ConfState
-	// The members that begin afresh there, and have to catch up.
-	CatchUp []uint64
+	// The members that have to catch up there.
+	CatchingUp []uint64
 	// How many ids may be down there, whichever they are.
 	MayBeDown *uint64
-	// How many until the members have caught up; nil if nothing commits until then.
-	UntilThen *uint64
-	// How many besides those in Options.Down, until the members have caught up. It is nil if nothing commits then, and if
-	// no ids are down.
+	// How many while members are catching up; nil if nothing commits then.
+	WhileCatchingUp *uint64
+	// How many besides those in Options.Down, while members are catching up. It is nil if nothing commits then, and if no ids
+	// are down.
 	MayBeDownBesides *uint64
 }
 
@@ -39,28 +39,27 @@ func Stages(options Options, configuration, target ConfState) (stages []Stage, s
 	rest := numbers[C.CONFSCRIPT_STAGES_FIRST:]
 	for count := numbers[C.CONFSCRIPT_STAGES_COUNT]; count > 0; count-- {
 		var stage Stage
-		stage, rest = readStage(rest)
-		if len(down) == 0 {
-			stage.MayBeDownBesides = nil
-		}
+		stage, rest = readStage(rest, len(down) > 0)
 		stages = append(stages, stage)
 	}
 	return stages, numbers[C.CONFSCRIPT_STAGES_STALLS] == 1, nil
 }
 
 // readStage returns the stage with which the numbers begin, and the rest of them.
-func readStage(numbers []uint64) (stage Stage, rest []uint64) {
+func readStage(numbers []uint64, areDown bool) (stage Stage, rest []uint64) {
 	stage.ConfChange.Transition = ConfChangeTransition(numbers[C.CONFSCRIPT_STAGE_TRANSITION])
 	stage.MayBeDown = count(numbers[C.CONFSCRIPT_STAGE_MAY_BE_DOWN])
-	stage.UntilThen = count(numbers[C.CONFSCRIPT_STAGE_WHILE_CATCHING_UP])
-	stage.MayBeDownBesides = count(numbers[C.CONFSCRIPT_STAGE_BESIDES])
+	stage.WhileCatchingUp = count(numbers[C.CONFSCRIPT_STAGE_WHILE_CATCHING_UP])
+	if areDown {
+		stage.MayBeDownBesides = count(numbers[C.CONFSCRIPT_STAGE_MAY_BE_DOWN_BESIDES])
+	}
 	rest = numbers[C.CONFSCRIPT_STAGE_FIRST_CHANGE:]
 	for changes := numbers[C.CONFSCRIPT_STAGE_CHANGES]; changes > 0; changes-- {
 		change := ConfChangeSingle{Type: ConfChangeType(rest[0]), NodeID: rest[1]}
 		stage.ConfChange.Changes = append(stage.ConfChange.Changes, change)
 		rest = rest[2:]
 	}
-	stage.ConfState, stage.CatchUp, rest = read(rest)
+	stage.ConfState, stage.CatchingUp, rest = read(rest)
 	return stage, rest
 }
 

@@ -47,9 +47,9 @@ func TestStagesLead(t *testing.T) {
 				}
 				state := now
 				for _, stage := range stages {
-					next, fresh, err := ApplyConfChange(state, stage.ConfChange)
-					if err != nil || !reflect.DeepEqual(next, stage.ConfState) || !reflect.DeepEqual(fresh, stage.CatchUp) {
-						t.Errorf("%v to %v: %v, %v, %v, and not %v", now, target, next, fresh, err, stage)
+					next, catchingUp, err := ApplyConfChange(state, stage.ConfChange)
+					if err != nil || !reflect.DeepEqual(next, stage.ConfState) || !reflect.DeepEqual(catchingUp, stage.CatchingUp) {
+						t.Errorf("%v to %v: %v, %v, %v, and not %v", now, target, next, catchingUp, err, stage)
 					}
 					state = next
 				}
@@ -76,7 +76,7 @@ func TestStagesWithIdsDown(t *testing.T) {
 		t.Errorf("Stages: %+v, %v, %v", stages, stalls, err)
 	}
 	stages, stalls, err = Stages(Options{}, one, ConfState{Voters: ids(1, 2)})
-	if err != nil || stalls || len(stages) != 1 || stages[0].UntilThen != nil || *stages[0].MayBeDown != 0 {
+	if err != nil || stalls || len(stages) != 1 || stages[0].WhileCatchingUp != nil || *stages[0].MayBeDown != 0 {
 		t.Errorf("Stages: %+v, %v, %v", stages, stalls, err)
 	}
 }
@@ -88,7 +88,7 @@ func TestManyStages(t *testing.T) {
 		target.Learners = append(target.Learners, id)
 	}
 	stages, _, err := Stages(Options{}, ConfState{Voters: ids(1000)}, target)
-	if err != nil || len(stages) != 100 || !reflect.DeepEqual(stages[99].ConfState, target) || !reflect.DeepEqual(stages[99].CatchUp, ids(100)) {
+	if err != nil || len(stages) != 100 || !reflect.DeepEqual(stages[99].ConfState, target) || !reflect.DeepEqual(stages[99].CatchingUp, ids(100)) {
 		t.Errorf("Stages: %+v, %v", stages, err)
 	}
 }

@@ -33,14 +33,11 @@ func (ballot Ballot) String() string { return nameIn(ballotNames, int32(ballot))
 func (state ConfState) String() string {
 	var text strings.Builder
 	fmt.Fprintf(&text, "voters=%s", set(state.Voters))
-	if len(state.VotersOutgoing) > 0 {
-		fmt.Fprintf(&text, "&&%s", set(state.VotersOutgoing))
-	}
-	if len(state.Learners) > 0 {
-		fmt.Fprintf(&text, " learners=%s", set(state.Learners))
-	}
-	if len(state.LearnersNext) > 0 {
-		fmt.Fprintf(&text, " learners_next=%s", set(state.LearnersNext))
+	names := []string{"&&", " learners=", " learners_next="}
+	for i, ids := range [][]uint64{state.VotersOutgoing, state.Learners, state.LearnersNext} {
+		if len(ids) > 0 {
+			text.WriteString(names[i] + set(ids))
+		}
 	}
 	if state.AutoLeave {
 		text.WriteString(" autoleave")
@@ -60,8 +57,8 @@ func set(ids []uint64) string {
 
 // String returns the proposal, where it leads, and what the other fields say there.
 func (stage Stage) String() string {
-	return fmt.Sprintf("%v -> %v catch up %s, may be down %s, until then %s, besides %s", stage.ConfChange, stage.ConfState, set(stage.CatchUp),
-		countText(stage.MayBeDown), countText(stage.UntilThen), countText(stage.MayBeDownBesides))
+	return fmt.Sprintf("%v -> %v catch up %s, may be down %s, until then %s, besides %s", stage.ConfChange, stage.ConfState, set(stage.CatchingUp),
+		countText(stage.MayBeDown), countText(stage.WhileCatchingUp), countText(stage.MayBeDownBesides))
 }
 
 // countText returns how many ids may be down, or "-" if there is no such number.

@@ -42,7 +42,7 @@ impl Configuration {
         [u64::from(self.auto_leave)].iter().chain(&counts).chain(&[0]).chain(ids).copied().collect()
     }
 
-    // The configuration of an array that a call wrote, the members that begin afresh in it, and the numbers after it.
+    // The configuration of an array that a call wrote, the members that are catching up in it, and the numbers after it.
     pub(crate) fn of(numbers: &[u64]) -> (Configuration, Vec<u64>, &[u64]) {
         let (head, mut rest) = numbers.split_at(6);
         let mut part = |count: u64| {
@@ -85,14 +85,10 @@ impl Hash for Configuration {
 impl fmt::Display for Configuration {
     fn fmt(&self, out: &mut fmt::Formatter<'_>) -> fmt::Result {
         write!(out, "voters={}", Set(&self.voters))?;
-        if !self.voters_outgoing.is_empty() {
-            write!(out, "&&{}", Set(&self.voters_outgoing))?;
-        }
-        if !self.learners.is_empty() {
-            write!(out, " learners={}", Set(&self.learners))?;
-        }
-        if !self.learners_next.is_empty() {
-            write!(out, " learners_next={}", Set(&self.learners_next))?;
+        for (name, ids) in [("&&", &self.voters_outgoing), (" learners=", &self.learners), (" learners_next=", &self.learners_next)] {
+            if !ids.is_empty() {
+                write!(out, "{name}{}", Set(ids))?;
+            }
         }
         out.write_str(if self.auto_leave { " autoleave" } else { "" })
     }
@@ -147,10 +143,18 @@ pub(crate) struct Set<'a>(pub(crate) &'a [u64]);
 
 impl fmt::Display for Set<'_> {
     fn fmt(&self, out: &mut fmt::Formatter<'_>) -> fmt::Result {
-        out.write_str("(")?;
-        for (at, id) in sorted(self.0).iter().enumerate() {
-            write!(out, "{}{id}", if at > 0 { " " } else { "" })?;
+        write!(out, "({})", Ids(&sorted(self.0)))
+    }
+}
+
+// Ids with a space between them.
+pub(crate) struct Ids<'a>(pub(crate) &'a [u64]);
+
+impl fmt::Display for Ids<'_> {
+    fn fmt(&self, out: &mut fmt::Formatter<'_>) -> fmt::Result {
+        for (at, id) in self.0.iter().enumerate() {
+            write!(out, "{}{id}", if at == 0 { "" } else { " " })?;
         }
-        out.write_str(")")
+        Ok(())
     }
 }

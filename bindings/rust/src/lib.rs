@@ -79,7 +79,7 @@ extern "C" {
         view_len: usize, out: *mut u64, out_len: usize,
     ) -> Answer;
     fn confscript_may_be_down(
-        incoming: *const u64, incoming_len: usize, outgoing: *const u64, outgoing_len: usize, uncounted: *const u64, uncounted_len: usize,
+        incoming: *const u64, incoming_len: usize, outgoing: *const u64, outgoing_len: usize, down: *const u64, down_len: usize,
     ) -> Answer;
 }
 
@@ -161,7 +161,7 @@ fn written(call: impl Fn(&mut [u8]) -> Answer) -> Result<String, Error> {
     Ok(String::from_utf8_lossy(&filled(call)?).into_owned())
 }
 
-// The configuration that a call writes, from a configuration and this number of changes, and the members that begin afresh in
+// The configuration that a call writes, from a configuration and this number of changes, and the members that are catching up in
 // it. The buffer has the length of the macro CONFSCRIPT_STEP_ROOM of confscript.h.
 fn configured(from: &Configuration, changes: usize, call: impl Fn(&[u64], &mut [u64]) -> Answer) -> Result<(Configuration, Vec<u64>), Error> {
     check_library();
@@ -206,14 +206,14 @@ pub fn check(configuration: &str) -> Result<(), Error> {
     number(unsafe { confscript_check(configuration.as_ptr(), configuration.len()) }).map(|_| ())
 }
 
-/// Checks a saved configuration, and returns it with its ids in ascending order, and all its members, which begin afresh, as
+/// Checks a saved configuration, and returns it with its ids in ascending order, and all its members, which are catching up, as
 /// when a server restarts (etcd's `confchange.Restore`).
 pub fn restore(configuration: &Configuration) -> Result<(Configuration, Vec<u64>), Error> {
     // SAFETY: a vector's pointer is not null, even if the vector is empty, and the count its length.
     configured(configuration, 0, |numbers, out| unsafe { confscript_restore(numbers.as_ptr(), numbers.len(), out.as_mut_ptr(), out.len()) })
 }
 
-/// The configuration after one step, and the members that begin afresh in it: those that were none before, and those that
+/// The configuration after one step, and the members that are catching up in it: those that were none before, and those that
 /// the changes remove and add again, unless they are outgoing voters. The others keep their progress.
 ///
 /// ```

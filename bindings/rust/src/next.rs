@@ -1,4 +1,5 @@
 //! What to do next on the way of a plan.
+use crate::configuration::Ids;
 use crate::{confscript_next, filled, ConfChangeTransition, ConfChangeType, ConfChangeV2, Configuration, Error, Stage, Strategy};
 use alloc::vec::Vec;
 use core::fmt;
@@ -170,7 +171,7 @@ impl Action {
             2 => Action::Transfer(rest[0]),
             3 => Action::Propose(Stage::of(rest, !options.down.is_empty()).0),
             4 => {
-                let why = WaitReason::of(reason);
+                let why = WAIT_REASONS[reason as usize - 1];
                 let index = match why {
                     WaitReason::Pending => view.pending_conf_index,
                     WaitReason::Behind => view.conf_index.max(view.commit.saturating_sub(options.max_lag)),
@@ -178,36 +179,15 @@ impl Action {
                 };
                 Action::Wait(why, rest.iter().map(|id| view.waited(*id, index)).collect())
             }
-            5 => Action::Stuck(StuckReason::of(reason), rest.to_vec()),
+            5 => Action::Stuck(STUCK_REASONS[reason as usize - 7], rest.to_vec()),
             _ => Action::Done,
         }
     }
 }
 
-impl WaitReason {
-    // The reason of a number that the library wrote.
-    fn of(number: u64) -> WaitReason {
-        match number {
-            1 => WaitReason::NoLeader,
-            2 => WaitReason::Pending,
-            3 => WaitReason::Heard,
-            4 => WaitReason::Unheard,
-            5 => WaitReason::Behind,
-            _ => WaitReason::Leaving,
-        }
-    }
-}
-
-impl StuckReason {
-    // The reason of a number that the library wrote.
-    fn of(number: u64) -> StuckReason {
-        match number {
-            7 => StuckReason::QuorumLost,
-            8 => StuckReason::Stalls,
-            _ => StuckReason::Reused,
-        }
-    }
-}
+const WAIT_REASONS: [WaitReason; 6] =
+    [WaitReason::NoLeader, WaitReason::Pending, WaitReason::Heard, WaitReason::Unheard, WaitReason::Behind, WaitReason::Leaving];
+const STUCK_REASONS: [StuckReason; 3] = [StuckReason::QuorumLost, StuckReason::Stalls, StuckReason::Reused];
 
 impl fmt::Display for Action {
     fn fmt(&self, f: &mut fmt::Formatter<'_>) -> fmt::Result {
@@ -261,17 +241,5 @@ fn wait_text(f: &mut fmt::Formatter<'_>, why: WaitReason, waited: &[Waited]) -> 
             }
             Ok(())
         }
-    }
-}
-
-// Ids with a space between them.
-struct Ids<'a>(&'a [u64]);
-
-impl fmt::Display for Ids<'_> {
-    fn fmt(&self, f: &mut fmt::Formatter<'_>) -> fmt::Result {
-        for (at, id) in self.0.iter().enumerate() {
-            write!(f, "{}{id}", if at == 0 { "" } else { " " })?;
-        }
-        Ok(())
     }
 }

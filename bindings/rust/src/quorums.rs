@@ -67,24 +67,21 @@ pub fn tally_votes(incoming: &[Option<bool>], outgoing: &[Option<bool>]) -> Vote
     check_library();
     let [incoming, outgoing] = [incoming, outgoing].map(|votes| votes.iter().map(|vote| vote.map_or(2, u8::from)).collect::<Vec<_>>());
     // SAFETY: a vector's pointer is not null, even if the vector is empty, and the count its length.
-    match unsafe { confscript_vote(incoming.as_ptr(), incoming.len(), outgoing.as_ptr(), outgoing.len()) }.number {
-        0 => VoteResult::Pending,
-        1 => VoteResult::Lost,
-        _ => VoteResult::Won,
-    }
+    let answer = unsafe { confscript_vote(incoming.as_ptr(), incoming.len(), outgoing.as_ptr(), outgoing.len()) };
+    [VoteResult::Pending, VoteResult::Lost, VoteResult::Won][answer.number as usize]
 }
 
-/// How many ids may be down, whichever they are, while the other voters are a quorum, for which the uncounted ids do
+/// How many ids may be down, whichever they are, while the other voters are a quorum, for which those in `down` do
 /// not count. A voter that is listed twice counts once. The status is `NoQuorum` if the voters that count are not
 /// a quorum even when all are up, as if there are none.
 ///
 /// ```
 /// assert_eq!(confscript::may_be_down(&[1, 2, 3], &[], &[]), Ok(1));
 /// ```
-pub fn may_be_down(incoming: &[u64], outgoing: &[u64], uncounted: &[u64]) -> Result<u64, Error> {
+pub fn may_be_down(incoming: &[u64], outgoing: &[u64], down: &[u64]) -> Result<u64, Error> {
     check_library();
     // SAFETY: as in `committed_index`.
     number(unsafe {
-        confscript_may_be_down(incoming.as_ptr(), incoming.len(), outgoing.as_ptr(), outgoing.len(), uncounted.as_ptr(), uncounted.len())
+        confscript_may_be_down(incoming.as_ptr(), incoming.len(), outgoing.as_ptr(), outgoing.len(), down.as_ptr(), down.len())
     })
 }

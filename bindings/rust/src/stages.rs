@@ -57,13 +57,13 @@ pub struct Stage {
     pub conf_change: ConfChangeV2,
     /// The configuration once it is applied.
     pub conf_state: Configuration,
-    /// The members that begin afresh there, and have to catch up.
+    /// The members that have to catch up there.
     pub catching_up: Vec<u64>,
     /// How many ids may be down there, whichever they are.
     pub may_be_down: Option<u64>,
-    /// How many until the members have caught up; `None` if nothing commits until then.
-    pub until_then: Option<u64>,
-    /// How many besides those in [`Options::down`], until the members have caught up. It is `None` if nothing commits then,
+    /// How many while members are catching up; `None` if nothing commits then.
+    pub while_catching_up: Option<u64>,
+    /// How many besides those in [`Options::down`], while members are catching up. It is `None` if nothing commits then,
     /// and if no ids are down.
     pub may_be_down_besides: Option<u64>,
 }
@@ -121,12 +121,15 @@ impl Stage {
         let (head, rest) = numbers.split_at(5);
         let (changes, rest) = rest.split_at(2 * head[4] as usize);
         let (conf_state, catching_up, rest) = Configuration::of(rest);
+        let transition = [ConfChangeTransition::Auto, ConfChangeTransition::Implicit, ConfChangeTransition::Explicit][head[0] as usize];
+        let types = [ConfChangeType::AddNode, ConfChangeType::RemoveNode, ConfChangeType::UpdateNode, ConfChangeType::AddLearnerNode];
+        let changes = changes.chunks(2).map(|change| ConfChangeSingle { change_type: types[change[0] as usize], node_id: change[1] }).collect();
         let stage = Stage {
-            conf_change: ConfChangeV2 { transition: ConfChangeTransition::of(head[0]), changes: changes.chunks(2).map(ConfChangeSingle::of).collect() },
+            conf_change: ConfChangeV2 { transition, changes },
             conf_state,
             catching_up,
             may_be_down: count(head[1]),
-            until_then: count(head[2]),
+            while_catching_up: count(head[2]),
             may_be_down_besides: if are_down { count(head[3]) } else { None },
         };
         (stage, rest)
@@ -139,7 +142,7 @@ impl fmt::Display for Stage {
         if !self.catching_up.is_empty() {
             write!(out, ", catching up {}", Set(&self.catching_up))?;
         }
-        let counts = [("may be down", self.may_be_down), ("until then", self.until_then), ("besides", self.may_be_down_besides)];
+        let counts = [("may be down", self.may_be_down), ("until then", self.while_catching_up), ("besides", self.may_be_down_besides)];
         for (what, count) in counts {
             if let Some(count) = count {
                 write!(out, ", {what} {count}")?;
@@ -159,43 +162,10 @@ impl fmt::Display for ConfChangeV2 {
     }
 }
 
-impl ConfChangeTransition {
-    // The transition of a number that the library wrote.
-    fn of(number: u64) -> ConfChangeTransition {
-        match number {
-            0 => ConfChangeTransition::Auto,
-            1 => ConfChangeTransition::Implicit,
-            _ => ConfChangeTransition::Explicit,
-        }
-    }
-}
-
-impl ConfChangeSingle {
-    // The change of a kind and an id that the library wrote.
-    fn of(numbers: &[u64]) -> ConfChangeSingle {
-        let change_type = match numbers[0] {
-            0 => ConfChangeType::AddNode,
-            1 => ConfChangeType::RemoveNode,
-            2 => ConfChangeType::UpdateNode,
-            _ => ConfChangeType::AddLearnerNode,
-        };
-        ConfChangeSingle { change_type, node_id: numbers[1] }
-    }
-}
-
-/// The configuration after a proposal, as raft applies it, and the members that begin afresh in it, as of [`step`].
+/// The configuration after a proposal, as raft applies it, and the members that are catching up in it, as of [`step`].
 pub fn apply_conf_change(configuration: &Configuration, change: &ConfChangeV2) -> Result<(Configuration, Vec<u64>), Error> {
-    let kind = match change.transition {
-        ConfChangeTransition::Auto => StepKind::Auto,
-        ConfChangeTransition::Implicit => StepKind::Implicit,
-        ConfChangeTransition::Explicit => StepKind::Explicit,
-    };
-    let kind_of = |change_type| match change_type {
-        ConfChangeType::AddNode => ChangeKind::Voter,
-        ConfChangeType::RemoveNode => ChangeKind::Remove,
-        ConfChangeType::UpdateNode => ChangeKind::Update,
-        ConfChangeType::AddLearnerNode => ChangeKind::Learner,
-    };
-    let changes: Vec<Change> = change.changes.iter().map(|it| Change { kind: kind_of(it.change_type), id: it.node_id }).collect();
+    let kind = [StepKind::Auto, StepKind::Implicit, StepKind::Explicit][change.transition as usize];
+    let kinds = [ChangeKind::Voter, ChangeKind::Remove, ChangeKind::Update, ChangeKind::Learner];
+    let changes: Vec<Change> = change.changes.iter().map(|it| Change { kind: kinds[it.change_type as usize], id: it.node_id }).collect();
     step(configuration, kind, &changes)
 }

@@ -15,7 +15,7 @@ use Rattle.conf_change.specs.declared.step.StepKind.{StepKind}
 use Rattle.conf_plan.specs.OnTheWay.{catching_up}
 use Rattle.conf_change.specs.declared.configuration_line.ConfigurationFault.{ConfigurationFault}
 use Rattle.confscript_c.specs.Answer.{status_answer}
-use Rattle.confscript_c.specs.Numbers.{flag_number, array_of, counted, has_form, outgoing_at, learners_at, learners_next_at, fresh_at, lists_in, valid_or_answer, with_voter_or_answer, configuration_of, numbers_of, restored_array, restore_result}
+use Rattle.confscript_c.specs.Numbers.{flag_number, array_of, counted, has_form, outgoing_at, learners_at, learners_next_at, catching_up_at, lists_in, valid_or_answer, with_voter_or_answer, configuration_of, numbers_of, restored_array, restore_result}
 use Rattle.confscript_c.specs.Stepped.{array_after, changes_from, step_kind_at, step_result, step_result_of, stepped}
 use Rattle.confscript_c.specs.declared.answer.Answer.{Answer}
 use Rattle.confscript_c.specs.declared.status.Status.TheVariants.{NoVoter, DifferentLengths}
@@ -23,7 +23,7 @@ use Rattle.confscript_c.specs.declared.stepping.NumberedChange.{NumberedChange}
 
 -- the ids of an array
 abbrev ids_in : ConfStateLists → List ℕ → List ℕ
-ids_in saved fresh = saved.voters ++ saved.voters_outgoing ++ saved.learners ++ saved.learners_next ++ fresh
+ids_in saved catching_up = saved.voters ++ saved.voters_outgoing ++ saved.learners ++ saved.learners_next ++ catching_up
 
 -- those of each part, and the others
 in_turn : (a b c d e : List ℕ) → a ++ b ++ c ++ d ++ e ≡ a ++ (b ++ (c ++ (d ++ e)))
@@ -45,15 +45,15 @@ part numbers mine after from to is ends =
 flag_is : (b : Bool) → (flag_number b == 1) ≡ b
 flag_is b = grind arith
 
-pub lists_in-array_of : (saved : ConfStateLists) (fresh : List ℕ) → lists_in (array_of saved fresh) ≡ saved
-lists_in-array_of saved fresh =
-    let numbers = array_of saved fresh in
+pub lists_in-array_of : (saved : ConfStateLists) (catching_up : List ℕ) → lists_in (array_of saved catching_up) ≡ saved
+lists_in-array_of saved catching_up =
+    let numbers = array_of saved catching_up in
     let voters =
-    part numbers saved.voters (saved.voters_outgoing ++ (saved.learners ++ (saved.learners_next ++ fresh))) 6 (outgoing_at numbers)
-    (in_turn saved.voters saved.voters_outgoing saved.learners saved.learners_next fresh) refl in
-    let outgoing = part numbers saved.voters_outgoing (saved.learners ++ (saved.learners_next ++ fresh)) (outgoing_at numbers) (learners_at numbers) voters.rest refl in
-    let learners = part numbers saved.learners (saved.learners_next ++ fresh) (learners_at numbers) (learners_next_at numbers) outgoing.rest refl in
-    let next = part numbers saved.learners_next fresh (learners_next_at numbers) (fresh_at numbers) learners.rest refl in
+    part numbers saved.voters (saved.voters_outgoing ++ (saved.learners ++ (saved.learners_next ++ catching_up))) 6 (outgoing_at numbers)
+    (in_turn saved.voters saved.voters_outgoing saved.learners saved.learners_next catching_up) refl in
+    let outgoing = part numbers saved.voters_outgoing (saved.learners ++ (saved.learners_next ++ catching_up)) (outgoing_at numbers) (learners_at numbers) voters.rest refl in
+    let learners = part numbers saved.learners (saved.learners_next ++ catching_up) (learners_at numbers) (learners_next_at numbers) outgoing.rest refl in
+    let next = part numbers saved.learners_next catching_up (learners_next_at numbers) (catching_up_at numbers) learners.rest refl in
     λ i. record {
       voters = voters.here i;
       voters_outgoing = outgoing.here i;
@@ -65,11 +65,11 @@ lists_in-array_of saved fresh =
 small_flag : (b : Bool) → nat_le (flag_number b) 1 ≡ true
 small_flag b = grind arith
 
-pub has_form-array_of : (saved : ConfStateLists) (fresh : List ℕ) → has_form (array_of saved fresh) ≡ true
-has_form-array_of saved fresh =
-    let numbers = array_of saved fresh in
-    let ids = ids_in saved fresh in
-    let many : length ids ≡ length saved.voters + length saved.voters_outgoing + length saved.learners + length saved.learners_next + length fresh =
+pub has_form-array_of : (saved : ConfStateLists) (catching_up : List ℕ) → has_form (array_of saved catching_up) ≡ true
+has_form-array_of saved catching_up =
+    let numbers = array_of saved catching_up in
+    let ids = ids_in saved catching_up in
+    let many : length ids ≡ length saved.voters + length saved.voters_outgoing + length saved.learners + length saved.learners_next + length catching_up =
     simp length-append (omega arith) in
     let long : length numbers ≡ 6 + counted numbers = omega arith in
     and_from _ _ (and_from _ _ (le-leb 6 (length numbers) (omega arith)) (small_flag saved.auto_leave)) (eq-eqb (length numbers) (6 + counted numbers) long)

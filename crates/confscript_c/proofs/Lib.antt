@@ -7,7 +7,6 @@ pub mod PartsApplied
 pub mod StagesWritten
 pub mod StagesStepped
 pub mod StagesOfThePlan
-pub mod PathsFound
 mod WorkedExamples
 mod MembersRead
 mod ActionFound

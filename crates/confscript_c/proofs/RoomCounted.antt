@@ -79,13 +79,13 @@ count_by-at_most_two a b c d e few (q ∷ list) =
 abbrev pub ids_count : Configuration → ℕ
 ids_count c = size c.incoming + size c.outgoing + size c.learners + size c.learners_next
 
-numbers_of-length : (c : Configuration) (fresh : Ids) → length (numbers_of c fresh) ≡ 6 + (ids_count c + size fresh)
-numbers_of-length c fresh =
+numbers_of-length : (c : Configuration) (catching_up : Ids) → length (numbers_of c catching_up) ≡ 6 + (ids_count c + size catching_up)
+numbers_of-length c catching_up =
     let incoming = ascending c.incoming in
     let outgoing = ascending c.outgoing in
     let learners = ascending c.learners in
     let next = ascending c.learners_next in
-    let long : length (incoming ++ outgoing ++ learners ++ next ++ ascending fresh) ≡ ids_count c + size fresh =
+    let long : length (incoming ++ outgoing ++ learners ++ next ++ ascending catching_up) ≡ ids_count c + size catching_up =
     simp length-append (omega arith) in
     omega (arith, long)
 
@@ -216,7 +216,7 @@ ComesFrom-outcome c after step_kind.Leave changes e =
     subst (λ (d : Configuration). ComesFrom c d changes) (LeaveTaken-from_outcome c after e).made
     (ComesFrom-after_leave c changes)
 
--- ---- which ids begin afresh
+-- ---- which ids are catching up
 has-catching_up : (c after : Configuration) (step : Step) (q : ℕ)
     → has (catching_up c step after) q ≡ (not (keeps_progress c step after q) && is_member after q)
 has-catching_up c after step q =
@@ -231,12 +231,12 @@ catching_up-not_outgoing c after step changes from q here =
     grind (arith, here, was, has-catching_up c after step q)
 
 -- ---- two lists for each id
--- a next learner is an outgoing voter only, a learner is no voter, and an outgoing voter does not begin afresh
-passed-at_most_two : (incoming outgoing learner next fresh : Bool)
+-- a next learner is an outgoing voter only, a learner is no voter, and an outgoing voter is not catching up
+passed-at_most_two : (incoming outgoing learner next catching_up : Bool)
     → (next ≡ true → outgoing ≡ true) → (next ≡ true → incoming ≡ false)
     → (learner ≡ true → incoming ≡ false) → (learner ≡ true → outgoing ≡ false)
-    → (outgoing ≡ true → fresh ≡ false) → passed incoming outgoing learner next fresh ≤ 2
-passed-at_most_two incoming outgoing learner next fresh next_out next_apart learner_in learner_out kept = grind arith
+    → (outgoing ≡ true → catching_up ≡ false) → passed incoming outgoing learner next catching_up ≤ 2
+passed-at_most_two incoming outgoing learner next catching_up next_out next_apart learner_in learner_out kept = grind arith
 
 ids_count-stepped : (c after : Configuration) (step : Step) (changes : List Change)
     → ValidByMember after → ComesFrom c after changes
@@ -249,40 +249,40 @@ ids_count-stepped c after step changes valid from =
       size-counted after.outgoing list (λ q here. known_ids-any c changes q ∙ outgoing q here),
       size-counted after.learners list (λ q here. known_ids-any c changes q ∙ from.learners q here),
       size-counted after.learners_next list (λ q here. known_ids-any c changes q ∙ from.learners_next q here),
-      size-counted fresh list (λ q here. known_ids-any c changes q ∙ begun q here),
+      size-counted late list (λ q here. known_ids-any c changes q ∙ begun q here),
       count_by-at_most_two (has after.incoming) (has after.outgoing) (has after.learners) (has after.learners_next)
-          (has fresh) few list,
+          (has late) few list,
     )
   where
     list : List ℕ
     list = known_ids c changes
 
-    fresh : Ids
-    fresh = catching_up c step after
+    late : Ids
+    late = catching_up c step after
 
     outgoing : (q : ℕ) → has after.outgoing q ≡ true → is_known c changes q ≡ true
     outgoing q here = let was = from.outgoing q here in grind (arith, was)
 
-    begun : (q : ℕ) → has fresh q ≡ true → is_known c changes q ≡ true
+    begun : (q : ℕ) → has late q ≡ true → is_known c changes q ≡ true
     begun q here = grind (arith, here, has-catching_up c after step q, from.incoming q, outgoing q, from.learners q)
 
     few : (q : ℕ)
         → passed (has after.incoming q) (has after.outgoing q) (has after.learners q) (has after.learners_next q)
-        (has fresh q) ≤ 2
+        (has late q) ≤ 2
     few q =
         passed-at_most_two _ _ _ _ _ (valid.next_outgoing q) (valid.next_incoming q)
         (valid.learner_incoming q) (valid.learner_outgoing q) (catching_up-not_outgoing c after step changes from q)
 
--- all members begin afresh; there are no more of them than voters of both kinds and learners
+-- all members are catching up; there are no more of them than voters of both kinds and learners
 ids_count-restored : (c : Configuration) → ids_count c + size (member_ids c) ≤ 2 * ids_count c
 ids_count-restored c =
     omega (arith, size-union c.incoming c.outgoing, size-union (union c.incoming c.outgoing) c.learners)
 
 -- ---- the room
-numbers_of-has_room : (c : Configuration) (fresh : Ids) (len changes_len : ℕ)
-    → ids_count c + size fresh ≤ 2 * (ids_len len + changes_len)
-    → length (numbers_of c fresh) ≤ step_room len changes_len
-numbers_of-has_room c fresh len changes_len few = omega (arith, few, numbers_of-length c fresh)
+numbers_of-has_room : (c : Configuration) (catching_up : Ids) (len changes_len : ℕ)
+    → ids_count c + size catching_up ≤ 2 * (ids_len len + changes_len)
+    → length (numbers_of c catching_up) ≤ step_room len changes_len
+numbers_of-has_room c catching_up len changes_len few = omega (arith, few, numbers_of-length c catching_up)
 
 pub restored-has_room : (c : Configuration) (len : ℕ) → ids_count c ≤ ids_len len
     → length (numbers_of c (member_ids c)) ≤ restore_room len

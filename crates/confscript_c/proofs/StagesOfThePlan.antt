@@ -7,10 +7,10 @@ use Rattle.conf_change.specs.declared.step.Step.{Step}
 use Rattle.conf_plan.specs.PathBy.{has_path, ids_down, path_by}
 use Rattle.conf_plan.specs.declared.strategy.Strategy.{Strategy}
 use Rattle.plan_output.specs.Json.{json_text}
-use Rattle.plan_input.specs.Stranger.{stranger_of}
+use Rattle.plan_input.specs.Nonmember.{first_nonmember}
 use Rattle.confscript_c.specs.Answer.{status_answer}
 use Rattle.confscript_c.specs.Numbers.{valid_configuration_of}
-use Rattle.confscript_c.specs.Paths.{path_result, unless_stranger}
+use Rattle.confscript_c.specs.Paths.{path_result, unless_nonmember}
 use Rattle.confscript_c.specs.Planning.{plan_result, result_for}
 use Rattle.confscript_c.specs.PlanTexts.{current_or_answer, paired, target_or_answer, with_target}
 use Rattle.confscript_c.specs.Request.{down_in, request_in, request_of, strategy_at, text_request_in, text_request_of}
@@ -30,19 +30,19 @@ of_path given down now steps true false has is = refl
 of_path given down now steps false second has is = refl
 
 -- by the id that is down and not a member
-of_stranger : (given : List ℕ) (down : Option Ids) (strategy : Strategy) (now target : Configuration) (stranger : Option ℕ) → down_in given ≡ Ok down
-    → AreOfOnePath given now (unless_stranger stranger (path_result (record { strategy = strategy; down = down }) now target (λ steps. json_text 1 now steps down)))
-    (unless_stranger stranger (path_result (record { strategy = strategy; down = down }) now target (stages_array down now)))
-of_stranger given down strategy now target None is =
+of_nonmember : (given : List ℕ) (down : Option Ids) (strategy : Strategy) (now target : Configuration) (id : Option ℕ) → down_in given ≡ Ok down
+    → AreOfOnePath given now (unless_nonmember id (path_result (record { strategy = strategy; down = down }) now target (λ steps. json_text 1 now steps down)))
+    (unless_nonmember id (path_result (record { strategy = strategy; down = down }) now target (stages_array down now)))
+of_nonmember given down strategy now target None is =
     of_path given down now (path_by strategy (ids_down down) now target) (has_voter now) (has_voter target) (has_path strategy now target) is
-of_stranger given down strategy now target (Some id) is = refl
+of_nonmember given down strategy now target (Some id) is = refl
 
 -- by the request
 of_request : (given : List ℕ) (now target : Configuration) (strategy : Result Strategy Answer) (down : Result (Option Ids) Answer) → down_in given ≡ down
     → AreOfOnePath given now (result_for (text_request_of strategy (Ok Json) down) (Ok (now, target))) (stages_for (request_of strategy down) (Ok now) (Ok target))
 of_request given now target (Err why) down is = refl
 of_request given now target (Ok strategy) (Err why) is = refl
-of_request given now target (Ok strategy) (Ok down) is = of_stranger given down strategy now target (stranger_of down now target) is
+of_request given now target (Ok strategy) (Ok down) is = of_nonmember given down strategy now target (first_nonmember down now target) is
 
 pub AreOfOnePath-results : (now_text target_text now_array target_array given : List ℕ) (strategy : ℕ) (now target : Configuration)
     → current_or_answer now_text ≡ Ok now → target_or_answer now target_text ≡ Ok target

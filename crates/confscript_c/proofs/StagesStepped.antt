@@ -83,12 +83,12 @@ outcome-proposed enters before after LeaveJoint one gives = gives
 
 pub IsStepped-by_proposal : EntersAlike → (before after : StageState) (step : Step) → IsOneProposal step → configuration_of (numbers_of before.config before.catching_up) ≡ Ok before.config
     → outcome before.config step ≡ Ok after.config → after.catching_up ≡ catching_up before.config step after.config → IsStepped before step after
-IsStepped-by_proposal enters before after step one again gives fresh =
+IsStepped-by_proposal enters before after step one again gives catching_up =
     (λ k. step_result_of number (again k) (changes_again 1 made k))
     ∙ ap (stepped before.config made) (step_kind_again (transition_of step) made)
     ∙ ap (array_after before.config (proposed_step before.config step)) (outcome-proposed enters before.config after.config step one gives)
     ∙ (λ k. Ok (numbers_of after.config (catching_up-proposed before.config after.config step one k)))
-    ∙ (λ k. Ok (numbers_of after.config (sym fresh k)))
+    ∙ (λ k. Ok (numbers_of after.config (sym catching_up k)))
   where
     number : ℕ
     number = transition_number (transition_of step)
@@ -113,7 +113,7 @@ IsOneProposal-one_change_each (LeaveJoint ∷ steps) = All-cons IsOneProposal Le
 -- what the laws of the crates below and of arrays say
 pub record IsGiven : Type 0 where
   pub enters : EntersAlike
-  pub again : (c : Configuration) (fresh : Ids) → is_restorable c ≡ true → configuration_of (numbers_of c fresh) ≡ Ok c
+  pub again : (c : Configuration) (catching_up : Ids) → is_restorable c ≡ true → configuration_of (numbers_of c catching_up) ≡ Ok c
   pub valid : (before after : Configuration) (steps : List Step) → IsValidWithVoter before → IsRun before steps after → IsValidWithVoter after
 
 pub is_restorable-valid : (c : Configuration) → IsValidWithVoter c → is_restorable c ≡ true

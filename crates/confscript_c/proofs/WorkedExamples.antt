@@ -12,18 +12,18 @@ use Rattle.plan_output.specs.Stages.{StageState, may_be_down_besides, stage_afte
 use Rattle.confscript_c.specs.Stages.{count_number, stage_numbers, stages_array}
 
 -- ---- stages
--- a stage with voters and learners that is not joint, and its members that begin afresh
+-- a stage with voters and learners that is not joint, and its members that are catching up
 abbrev stage : List ℕ → List ℕ → List ℕ → StageState
-stage voters learners fresh = record {
+stage voters learners late = record {
   config = record { incoming = ids_of voters; outgoing = ids_of []; learners = ids_of learners; learners_next = ids_of []; auto_leave = false };
-  catching_up = ids_of fresh;
+  catching_up = ids_of late;
 }
 
 -- the simple step of one change
 abbrev one : Kind → ℕ → Step
 one kind id = Simple (record { kind = kind; id = id } ∷ [])
 
--- (1 2), then (1 2) learners=(3), where 3 begins afresh, then (2) learners=(3)
+-- (1 2), then (1 2) learners=(3), where 3 is catching up, then (2) learners=(3)
 abbrev first : StageState
 first = stage (1 ∷ 2 ∷ []) [] []
 

@@ -59,7 +59,8 @@ then_result number (Ok next) rest = rest next
 -- that is refused
 abbrev pub steps_result : ℕ → Configuration → List Step → OutResult
 steps_result number c [] = Ok (conf_state_text (lists_of c))
-steps_result number c (step ∷ steps) = then_result number (outcome c step) (λ next. steps_result (number + 1) next steps)
+steps_result number c (step ∷ steps) =
+    then_result number (outcome c step) (λ next. steps_result (number + 1) next steps)
 
 -- the result of applying steps to a configuration; an error of the configuration comes before one of the path
 abbrev pub applied : Result Configuration Answer → Result (List Step) PlanTextFault → OutResult

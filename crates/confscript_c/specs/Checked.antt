@@ -3,22 +3,15 @@ use Rattle.std.specs.Prelude.{ℕ, List, Result, Ok, Err}
 use Rattle.conf_change.specs.Configuration.{Configuration}
 use Rattle.conf_change.specs.Violation.{configuration_in}
 use Rattle.conf_change.specs.declared.configuration_line.ConfigurationFault.{ConfigurationFault}
-use Rattle.conf_change.specs.declared.configuration_line.ConfigurationFault.TheVariants as fault
-use Rattle.confscript_c.specs.Answer.{status_answer, done, no_memory}
-use Rattle.confscript_c.specs.Numbers.{violation_answer}
+use Rattle.confscript_c.specs.Answer.{status_answer, done}
+use Rattle.confscript_c.specs.Numbers.{fault_answer}
 use Rattle.confscript_c.specs.declared.answer.Answer.{Answer}
 use Rattle.confscript_c.specs.declared.status.Status.TheVariants.{BadConfState}
-
--- the answer for a line that names no valid configuration
-abbrev pub wrong_answer : ConfigurationFault → Answer
-wrong_answer fault.BadConfState = status_answer BadConfState 1
-wrong_answer (fault.NotAConfiguration violation) = violation_answer violation
-wrong_answer fault.NoMemory = no_memory
 
 -- the answer for a line, given what was read from it
 abbrev pub checked_answer : Result Configuration ConfigurationFault → Answer
 checked_answer (Ok c) = done 0
-checked_answer (Err fault) = wrong_answer fault
+checked_answer (Err fault) = fault_answer fault (status_answer BadConfState 1)
 
 -- the answer of `confscript_check` for a line
 abbrev pub check_answer : List ℕ → Answer

@@ -19,15 +19,15 @@ use Rattle.confscript_c.specs.declared.status.Status.TheVariants.{RepeatedId, No
 abbrev pub flag_number : Bool → ℕ
 flag_number auto_leave = if auto_leave then 1 else 0
 
--- the array of a saved configuration, with the ids that begin afresh
+-- the array of a saved configuration, with the ids that are catching up
 abbrev pub array_of : ConfStateLists → List ℕ → List ℕ
-array_of saved fresh =
-    flag_number saved.auto_leave ∷ length saved.voters ∷ length saved.voters_outgoing ∷ length saved.learners ∷ length saved.learners_next ∷ length fresh
-    ∷ saved.voters ++ saved.voters_outgoing ++ saved.learners ++ saved.learners_next ++ fresh
+array_of saved catching_up =
+    flag_number saved.auto_leave ∷ length saved.voters ∷ length saved.voters_outgoing ∷ length saved.learners ∷ length saved.learners_next ∷ length catching_up
+    ∷ saved.voters ++ saved.voters_outgoing ++ saved.learners ++ saved.learners_next ++ catching_up
 
--- the array of a configuration, with the members that begin afresh; the ids of each part are in ascending order
+-- the array of a configuration, with the members that are catching up; the ids of each part are in ascending order
 abbrev pub numbers_of : Configuration → Ids → List ℕ
-numbers_of c fresh = array_of (lists_of c) (ascending fresh)
+numbers_of c catching_up = array_of (lists_of c) (ascending catching_up)
 
 -- ---- read
 -- how many ids the array counts: its second to sixth numbers are the counts
@@ -48,41 +48,39 @@ learners_at numbers = outgoing_at numbers + slice_index numbers 2
 abbrev pub learners_next_at : List ℕ → ℕ
 learners_next_at numbers = learners_at numbers + slice_index numbers 3
 
-abbrev pub fresh_at : List ℕ → ℕ
-fresh_at numbers = learners_next_at numbers + slice_index numbers 4
+abbrev pub catching_up_at : List ℕ → ℕ
+catching_up_at numbers = learners_next_at numbers + slice_index numbers 4
 
--- the saved configuration of an array; the ids that begin afresh belong to the step before it, and are ignored
+-- the saved configuration of an array; the ids that are catching up belong to the step before it, and are ignored
 abbrev pub lists_in : List ℕ → ConfStateLists
 lists_in numbers = record {
   voters = slice_range numbers 6 (outgoing_at numbers);
   voters_outgoing = slice_range numbers (outgoing_at numbers) (learners_at numbers);
   learners = slice_range numbers (learners_at numbers) (learners_next_at numbers);
-  learners_next = slice_range numbers (learners_next_at numbers) (fresh_at numbers);
+  learners_next = slice_range numbers (learners_next_at numbers) (catching_up_at numbers);
   auto_leave = slice_index numbers 0 == 1;
 }
 
 -- ---- checked
--- the answer for an id that is listed twice or for a broken invariant, with the id; a next learner without outgoing
--- voters is not an outgoing voter, and is always reported as that
+-- the answer for an id that is listed twice or for a broken invariant, with the id
 abbrev pub violation_answer : Violation → Answer
 violation_answer (violated.ListedTwice id) = status_answer RepeatedId id
 violation_answer violated.ZeroId = status_answer ZeroId 0
 violation_answer (violated.NextNotOutgoing id) = status_answer NextNotOutgoing id
 violation_answer (violated.NextAndIncoming id) = status_answer NextAndIncoming id
 violation_answer (violated.LearnerAndVoter id) = status_answer LearnerAndVoter id
-violation_answer (violated.NotJointButNext id) = status_answer NextNotOutgoing id
 violation_answer violated.NotJointButAutoLeave = status_answer NotJointButAutoLeave 0
 
--- the answer for a saved configuration that is not valid; it is not read from a line, so there is no bad one
-abbrev pub invalid_answer : ConfigurationFault → Answer
-invalid_answer fault.BadConfState = status_answer DifferentLengths 0
-invalid_answer (fault.NotAConfiguration violation) = violation_answer violation
-invalid_answer fault.NoMemory = no_memory
+-- the answer for a configuration that is not valid, or this one if it could not be read
+abbrev pub fault_answer : ConfigurationFault → Answer → Answer
+fault_answer fault.BadConfState unread = unread
+fault_answer (fault.NotAConfiguration violation) unread = violation_answer violation
+fault_answer fault.NoMemory unread = no_memory
 
 -- the configuration that a saved one describes, or the answer if it is not valid
 abbrev pub valid_or_answer : Result Configuration ConfigurationFault → Result Configuration Answer
 valid_or_answer (Ok c) = Ok c
-valid_or_answer (Err why) = Err (invalid_answer why)
+valid_or_answer (Err why) = Err (fault_answer why (status_answer DifferentLengths 0))
 
 -- the valid configuration of an array, or the answer if it has none
 abbrev pub valid_configuration_of : List ℕ → Result Configuration Answer
@@ -103,7 +101,7 @@ abbrev pub configuration_of : List ℕ → Result Configuration Answer
 configuration_of numbers = with_voter_or_answer (valid_configuration_of numbers)
 
 -- ---- restored
--- the array of a configuration all of whose members begin afresh, if there is a configuration
+-- the array of a configuration all of whose members are catching up, if there is a configuration
 abbrev pub restored_array : Result Configuration Answer → OutResult
 restored_array (Ok c) = Ok (numbers_of c (member_ids c))
 restored_array (Err why) = Err why

@@ -7,12 +7,11 @@ use Rattle.conf_change.specs.Violation.{configuration_in}
 use Rattle.conf_change.specs.declared.step.Step.{Step}
 use Rattle.conf_plan.specs.PathBy.{ids_down, KeepsPromises}
 use Rattle.conf_plan.specs.PlanText.{plan_text}
-use Rattle.plan_input.specs.Stranger.{stranger_of}
 use Rattle.plan_output.specs.Output.{text_as}
 use Rattle.plan_output.specs.declared.output.Output.{Output}
 use Rattle.plan_output.specs.declared.output.Output.TheVariants.{Steps}
 use Rattle.confscript_c.specs.Applied.{apply_result, steps_result}
-use Rattle.confscript_c.specs.Paths.{path_result, unless_stranger}
+use Rattle.confscript_c.specs.Paths.{members_path_result}
 use Rattle.confscript_c.specs.PlanTexts.{current_or_answer, target_or_answer, pair_in}
 use Rattle.confscript_c.specs.Request.{text_request_in}
 use Rattle.confscript_c.specs.Written.{OutResult}
@@ -25,8 +24,7 @@ abbrev pub result_for : Result (Request × Output) Answer → Result (Configurat
 result_for (Err why) pair = Err why
 result_for (Ok asked) (Err why) = Err why
 result_for (Ok asked) (Ok pair) =
-    unless_stranger (stranger_of asked.0.down pair.0 pair.1)
-    (path_result asked.0 pair.0 pair.1 (text_as asked.1 1 asked.0.down pair.0))
+    members_path_result asked.0 pair.0 pair.1 (text_as asked.1 1 asked.0.down pair.0)
 
 -- the result of `confscript_plan` for the codes of a strategy and an output, a list of ids that are down, and two texts
 abbrev pub plan_result : ℕ → ℕ → List ℕ → List ℕ → List ℕ → OutResult

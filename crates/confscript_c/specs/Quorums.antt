@@ -41,6 +41,6 @@ abbrev pub count_answer : Option ℕ → Answer
 count_answer (Some count) = done count
 count_answer None = status_answer NoQuorum 0
 
--- the answer of `confscript_may_be_down`: how many ids may be down while the uncounted ones do not count
+-- the answer of `confscript_may_be_down`: how many ids may be down while those in `down` do not count
 abbrev pub may_be_down_answer : List ℕ → List ℕ → List ℕ → Answer
-may_be_down_answer incoming outgoing uncounted = count_answer (may_be_down (voters_of_lists incoming outgoing) (ids_of uncounted))
+may_be_down_answer incoming outgoing down = count_answer (may_be_down (voters_of_lists incoming outgoing) (ids_of down))

@@ -11,12 +11,11 @@ use Rattle.conf_change.specs.declared.transition.Transition.{Transition}
 use Rattle.conf_change.specs.declared.transition.Transition.TheVariants.{Auto, Implicit, Explicit}
 use Rattle.conf_plan.specs.OneChangeEach.{one_change_each}
 use Rattle.conf_plan.specs.PathBy.{ids_down, KeepsPromises}
-use Rattle.plan_input.specs.Stranger.{stranger_of}
 use Rattle.plan_output.specs.Json.{json_text}
 use Rattle.plan_output.specs.Stages.{AreOnTheWay, StageState, first_stage, stage_after, stage_may_be_down, while_catching_up, may_be_down_besides, stages, stalls}
 use Rattle.raft_json.specs.Proposal.{proposed_changes, transition_of}
 use Rattle.confscript_c.specs.Numbers.{flag_number, numbers_of, valid_configuration_of}
-use Rattle.confscript_c.specs.Paths.{path_result, unless_stranger}
+use Rattle.confscript_c.specs.Paths.{members_path_result}
 use Rattle.confscript_c.specs.Request.{down_in, request_in}
 use Rattle.confscript_c.specs.Stepped.{step_result}
 use Rattle.confscript_c.specs.Written.{OutResult}
@@ -52,7 +51,7 @@ abbrev pub changes_numbers : List Change → List ℕ
 changes_numbers changes = length changes ∷ flat_map change_numbers changes
 
 -- the stage after a step: what is proposed for the step, how many ids may be down after it, and the configuration
--- there, with the members that begin afresh
+-- there, with the members that are catching up
 abbrev pub stage_numbers : Ids → StageState → Step → StageState → List ℕ
 stage_numbers down before step after =
     transition_number (transition_of step) ∷ count_number (stage_may_be_down after)
@@ -85,8 +84,7 @@ stages_for (Err why) now target = Err why
 stages_for (Ok request) (Err why) target = Err why
 stages_for (Ok request) (Ok now) (Err why) = Err why
 stages_for (Ok request) (Ok now) (Ok target) =
-    unless_stranger (stranger_of request.down now target)
-    (path_result request now target (stages_array request.down now))
+    members_path_result request now target (stages_array request.down now)
 
 -- the result of `confscript_stages` for two arrays, the code of a strategy and a list of ids that are down
 abbrev pub stages_result : List ℕ → List ℕ → ℕ → List ℕ → OutResult

@@ -1,5 +1,5 @@
 -- The codes of the statuses and their texts, which include/confscript.h gives to callers.
-use Rattle.std.specs.Prelude.{ℕ, List, codes, ◌==◌, if◌then◌else◌}
+use Rattle.std.specs.Prelude.{ℕ, List, [], ◌∷◌, codes, slice_index_or}
 use Rattle.confscript_c.specs.declared.status.Status.{Status}
 use Rattle.confscript_c.specs.declared.status.Status.TheVariants.{Done, TooSmall, NoMemory, BadConfState, RepeatedId, NotAConfiguration, NoVoter, BadLine, NotAMember, AlreadyJoint, ZeroVoterJoint, NotJoint, SimpleInJoint, RemovedAllVoters, MoreThanOneVoter, ZeroId, NextNotOutgoing, NextAndIncoming, LearnerAndVoter, AddedAgain, NotJointButAutoLeave, DifferentLengths, BadVote, NoQuorum, BadStrategy, JointTarget, BadStep, BadChange, BadOutput, UnknownForm, BadPrinted, BadJson, BadChangeList, DownNotAMember, StrategyMayStall}
 
@@ -41,80 +41,45 @@ code_of BadChangeList = 32
 code_of DownNotAMember = 33
 code_of StrategyMayStall = 34
 
--- what a status means; the text of a refused step is what the program prints
-abbrev pub status_text : Status → List ℕ
-status_text Done = codes "done"
-status_text TooSmall = codes "the buffer is too small"
-status_text NoMemory = codes "out of memory"
-status_text BadConfState = codes "not a ConfState line: expected Voters:[1 2] VotersOutgoing:[] Learners:[3] LearnersNext:[] AutoLeave:false"
-status_text RepeatedId = codes "an id is named twice"
-status_text NotAConfiguration = codes "not a configuration: an id is 0 or listed twice, a learner is a voter, a next learner is not an outgoing voter alone, or auto-leave has no outgoing voters"
-status_text NoVoter = codes "no incoming voter"
-status_text BadLine = codes "not a step: expected simple l4 l5, enter-joint autoleave=false r1 v4, or leave-joint"
-status_text NotAMember = codes "not a member"
-status_text AlreadyJoint = codes "config is already joint"
-status_text ZeroVoterJoint = codes "can't make a zero-voter config joint"
-status_text NotJoint = codes "can't leave a non-joint config"
-status_text SimpleInJoint = codes "can't apply simple config change in joint config"
-status_text RemovedAllVoters = codes "removed all voters"
-status_text MoreThanOneVoter = codes "more than one voter changed without entering joint config"
-status_text ZeroId = codes "the id 0"
-status_text NextNotOutgoing = codes "a next learner is not an outgoing voter"
-status_text NextAndIncoming = codes "a next learner is an incoming voter"
-status_text LearnerAndVoter = codes "a learner is a voter"
-status_text AddedAgain = codes "removed and added again: a server that lost its log needs a new id"
-status_text NotJointButAutoLeave = codes "auto-leave without outgoing voters"
-status_text DifferentLengths = codes "the counts do not match the length"
-status_text BadVote = codes "a vote is neither 0, 1 nor 2"
-status_text NoQuorum = codes "the voters are no quorum"
-status_text BadStrategy = codes "unknown strategy"
-status_text JointTarget = codes "the target is joint"
-status_text BadStep = codes "unknown step"
-status_text BadChange = codes "unknown kind of change"
-status_text BadOutput = codes "unknown output"
-status_text UnknownForm = codes "no form of a configuration: expected voters=(1 2 3) learners=(4), a ConfState line, or JSON of a ConfState or of etcdctl member list"
-status_text BadPrinted = codes "not a printed configuration: expected voters=(1 2)&&(1 2 3) learners=(4) learners_next=(3) autoleave, without what is empty, with spaces between ids"
-status_text BadJson = codes "not the JSON of a configuration: expected voters, voters_outgoing, learners, learners_next and auto_leave, or etcdctl member list -w json, with decimal numbers as ids"
-status_text BadChangeList = codes "not a list of changes: expected changes as r1 v4 l5, or a configuration as voters=(1 2 3), a ConfState line, or JSON"
-status_text DownNotAMember = codes "down and not a member"
-status_text StrategyMayStall = codes "by this strategy the cluster may stall"
+-- what the statuses mean, in the order of their codes; the text of a refused step is what the program prints
+abbrev pub status_texts : List (List ℕ)
+status_texts =
+    codes "done"
+    ∷ codes "the buffer is too small"
+    ∷ codes "out of memory"
+    ∷ codes "not a ConfState line: expected Voters:[1 2] VotersOutgoing:[] Learners:[3] LearnersNext:[] AutoLeave:false"
+    ∷ codes "an id is named twice"
+    ∷ codes "not a configuration: an id is 0 or listed twice, a learner is a voter, a next learner is not an outgoing voter alone, or auto-leave has no outgoing voters"
+    ∷ codes "no incoming voter"
+    ∷ codes "not a step: expected simple l4 l5, enter-joint autoleave=false r1 v4, or leave-joint"
+    ∷ codes "not a member"
+    ∷ codes "config is already joint"
+    ∷ codes "can't make a zero-voter config joint"
+    ∷ codes "can't leave a non-joint config"
+    ∷ codes "can't apply simple config change in joint config"
+    ∷ codes "removed all voters"
+    ∷ codes "more than one voter changed without entering joint config"
+    ∷ codes "the id 0"
+    ∷ codes "a next learner is not an outgoing voter"
+    ∷ codes "a next learner is an incoming voter"
+    ∷ codes "a learner is a voter"
+    ∷ codes "removed and added again: a server that lost its log needs a new id"
+    ∷ codes "auto-leave without outgoing voters"
+    ∷ codes "the counts do not match the length"
+    ∷ codes "a vote is neither 0, 1 nor 2"
+    ∷ codes "the voters are no quorum"
+    ∷ codes "unknown strategy"
+    ∷ codes "the target is joint"
+    ∷ codes "unknown step"
+    ∷ codes "unknown kind of change"
+    ∷ codes "unknown output"
+    ∷ codes "no form of a configuration: expected voters=(1 2 3) learners=(4), a ConfState line, or JSON of a ConfState or of etcdctl member list"
+    ∷ codes "not a printed configuration: expected voters=(1 2)&&(1 2 3) learners=(4) learners_next=(3) autoleave, without what is empty, with spaces between ids"
+    ∷ codes "not the JSON of a configuration: expected voters, voters_outgoing, learners, learners_next and auto_leave, or etcdctl member list -w json, with decimal numbers as ids"
+    ∷ codes "not a list of changes: expected changes as r1 v4 l5, or a configuration as voters=(1 2 3), a ConfState line, or JSON"
+    ∷ codes "down and not a member"
+    ∷ codes "by this strategy the cluster may stall" ∷ []
 
 -- what the status of a code means; the numbers above 34 are codes of none
 abbrev pub text_of_code : ℕ → List ℕ
-text_of_code code =
-    if code == 0 then status_text Done
-    else (if code == 1 then status_text TooSmall
-    else (if code == 2 then status_text NoMemory
-    else (if code == 3 then status_text BadConfState
-    else (if code == 4 then status_text RepeatedId
-    else (if code == 5 then status_text NotAConfiguration
-    else (if code == 6 then status_text NoVoter
-    else (if code == 7 then status_text BadLine
-    else (if code == 8 then status_text NotAMember
-    else (if code == 9 then status_text AlreadyJoint
-    else (if code == 10 then status_text ZeroVoterJoint
-    else (if code == 11 then status_text NotJoint
-    else (if code == 12 then status_text SimpleInJoint
-    else (if code == 13 then status_text RemovedAllVoters
-    else (if code == 14 then status_text MoreThanOneVoter
-    else (if code == 15 then status_text ZeroId
-    else (if code == 16 then status_text NextNotOutgoing
-    else (if code == 17 then status_text NextAndIncoming
-    else (if code == 18 then status_text LearnerAndVoter
-    else (if code == 19 then status_text AddedAgain
-    else (if code == 20 then status_text NotJointButAutoLeave
-    else (if code == 21 then status_text DifferentLengths
-    else (if code == 22 then status_text BadVote
-    else (if code == 23 then status_text NoQuorum
-    else (if code == 24 then status_text BadStrategy
-    else (if code == 25 then status_text JointTarget
-    else (if code == 26 then status_text BadStep
-    else (if code == 27 then status_text BadChange
-    else (if code == 28 then status_text BadOutput
-    else (if code == 29 then status_text UnknownForm
-    else (if code == 30 then status_text BadPrinted
-    else (if code == 31 then status_text BadJson
-    else (if code == 32 then status_text BadChangeList
-    else (if code == 33 then status_text DownNotAMember
-    else (if code == 34 then status_text StrategyMayStall
-    else codes "unknown status"))))))))))))))))))))))))))))))))))
+text_of_code code = slice_index_or status_texts code (codes "unknown status")

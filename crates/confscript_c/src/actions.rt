@@ -14,14 +14,14 @@ ghost use Rattle.plan_output.specs.Stages.{first_stage, stage_after};
 ghost use Rattle.confscript_c.specs.Stages.{stage_numbers};
 ghost use Rattle.conf_driver.specs.declared.action.Action.TheVariants.{Propose};
 ghost use Rattle.confscript_c.specs.Actions as spec;
-ghost use Rattle.confscript_c.specs.Actions.{action_numbers, counted_ids};
+ghost use Rattle.confscript_c.specs.Actions.{action_numbers};
 
-use crate::numbers::{Numbers, append_ids};
+use crate::numbers::Numbers;
 use crate::stages::append_stage;
 use conf_change::{Config, Step};
 use conf_driver::{Action, StuckReason, WaitReason};
 use plan_output::Stage;
-use quorum_sets::{InlineIds, MemberSet, NoMemory};
+use quorum_sets::{InlineIds, NoMemory};
 use smallvec::SmallVec;
 use std::alloc::Global;
 
@@ -35,34 +35,17 @@ pub(crate) fn numbers_of_action(
     ensures { IfOk result (λ numbers. numbers.items ≡ action_numbers down.now now.now action.now) }
 {
     match action {
-        Action::Start(ids) => numbers_naming(alloc, 0, 0, ids),
-        Action::Stop(ids) => numbers_naming(alloc, 1, 0, ids),
+        Action::Start(ids) => numbers_listing(alloc, 0, 0, ids.as_slice()),
+        Action::Stop(ids) => numbers_listing(alloc, 1, 0, ids.as_slice()),
         Action::Transfer(id) => numbers_listing(alloc, 2, 0, &[*id]),
         Action::Propose(step) => numbers_of_proposal(alloc, down, now, step),
-        Action::Wait(why, ids) => numbers_naming(alloc, 4, wait_number(*why), ids),
-        Action::Stuck(why, ids) => numbers_naming(alloc, 5, stuck_number(*why), ids),
+        Action::Wait(why, ids) => numbers_listing(alloc, 4, wait_number(*why), ids.as_slice()),
+        Action::Stuck(why, ids) => numbers_listing(alloc, 5, stuck_number(*why), ids.as_slice()),
         Action::Done => numbers_listing(alloc, 6, 0, &[]),
     }
 }
 
 // The array of an action that names these ids.
-fn numbers_naming(
-    alloc: Global,
-    action: u64,
-    reason: u64,
-    ids: &InlineIds,
-) -> Result<Numbers, NoMemory>
-    ensures { IfOk result (λ numbers. numbers.items ≡ action ∷ reason ∷ counted_ids ids.now) }
-{
-    let mut numbers = SmallVec::new(alloc);
-    numbers.push(action)?;
-    numbers.push(reason)?;
-    numbers.push(ids.len() as u64)?;
-    append_ids(&mut numbers, ids)?;
-    Ok(numbers)
-}
-
-// The array of an action that names the ids of a list.
 fn numbers_listing(
     alloc: Global,
     action: u64,
@@ -86,7 +69,8 @@ fn numbers_of_proposal(
     now: &Config<InlineIds>,
     step: &Step,
 ) -> Result<Numbers, NoMemory>
-    ensures { IfOk result (λ numbers. numbers.items ≡ action_numbers down.now now.now (Propose step.now)) }
+    ensures { IfOk result (λ numbers. numbers.items
+        ≡ action_numbers down.now now.now (Propose step.now)) }
 {
     let mut numbers = numbers_listing(alloc, 3, 0, &[])?;
     append_first_stage(alloc, &mut numbers, down, now, step)?;
@@ -102,7 +86,8 @@ fn append_first_stage(
     step: &Step,
 ) -> Result<(), NoMemory>
     ensures { OnOk result (numbers.new.items
-        ≡ numbers.old.items ++ stage_numbers down.now (first_stage now.now) step.now (stage_after now.now step.now)) }
+        ≡ numbers.old.items ++ stage_numbers down.now (first_stage now.now) step.now
+        (stage_after now.now step.now)) }
 {
     let before = Stage::first(alloc, now)?;
     let after = before.next(alloc, step)?;

@@ -6,11 +6,11 @@
 //!
 //! A program keeps its configuration as a line. Once its cluster has committed a step, the program applies the step
 //! here and keeps the new line. Progress does not affect the configuration, so the line is all that it has to keep.
-ghost use Rattle.std.specs.Prelude.{◌≡◌, ◌⊎◌, Ok, Err, IfOk, IfErr, OnOk, MatchResult};
+ghost use Rattle.std.specs.Prelude.{◌≡◌, ◌⊎◌, Ok, IfOk, IfErr, OnOk, MatchResult};
 ghost use Rattle.conf_change.specs.ConfState.{lists_of};
 ghost use Rattle.conf_change.specs.ConfStateLine.{conf_state_in, conf_state_text};
 ghost use Rattle.conf_plan.specs.PlanCode.{path_in};
-ghost use Rattle.confscript_c.specs.Answer.{no_memory};
+ghost use Rattle.confscript_c.specs.Answer.{Refuses, no_memory};
 ghost use Rattle.confscript_c.specs.Applied.{apply_result, restore_answer, restored_of, steps_result, text_fault_answer, refusal_answer};
 ghost use Rattle.confscript_c.specs.InputLines.{read_as};
 ghost use Rattle.confscript_c.specs.Written.{Writes};
@@ -46,7 +46,7 @@ pub extern "C" fn confscript_apply(
 // The line of the configuration after all steps, or the answer with the reason why there is none.
 fn line_after(alloc: Global, state: &[u8], path: &[u8]) -> Result<Vec<u8>, Answer>
     ensures line { IfOk result (λ line. apply_result state.now path.now ≡ Ok line.items) }
-    ensures refused { IfErr result (λ why. (why ≡ no_memory) ⊎ (apply_result state.now path.now ≡ Err why)) }
+    ensures refused { IfErr result (Refuses (apply_result state.now path.now)) }
 {
     let mut changer = read_changer(alloc, state)?;
     let path = read_steps(alloc, path)?;
@@ -58,14 +58,10 @@ fn line_after(alloc: Global, state: &[u8], path: &[u8]) -> Result<Vec<u8>, Answe
 fn read_changer(alloc: Global, state: &[u8]) -> Result<Changer<InlineIds>, Answer>
     ensures restored { IfOk result (λ changer. restored_of (read_as 1 (conf_state_in state.now))
         ≡ Ok changer.tracker.config) }
-    ensures refused { IfErr result (λ why. (why ≡ no_memory)
-        ⊎ (restored_of (read_as 1 (conf_state_in state.now)) ≡ Err why)) }
+    ensures refused { IfErr result (Refuses (restored_of (read_as 1 (conf_state_in state.now)))) }
 {
     let saved = read_saved(alloc, 1, state)?;
-    match Changer::restore(alloc, &saved, 0) {
-        Ok(changer) => Ok(changer),
-        Err(fault) => Err(restore_answer(fault)),
-    }
+    Changer::restore(alloc, &saved, 0).map_err(restore_answer)
 }
 
 // The answer for a configuration that is not restored.
@@ -84,10 +80,7 @@ fn read_steps(alloc: Global, text: &[u8]) -> Result<Path, Answer>
     ensures refused { IfErr result (λ why. (why ≡ no_memory)
         ⊎ MatchResult (path_in text.now) (λ _. ⊥) (λ fault. why ≡ text_fault_answer fault)) }
 {
-    match read_path(alloc, text) {
-        Ok(path) => Ok(path),
-        Err(fault) => Err(text_fault_answer(fault)),
-    }
+    read_path(alloc, text).map_err(text_fault_answer)
 }
 
 // The answer for a text that is not a path. A path may have any number of steps, so none is refused for its fifth line.
@@ -105,8 +98,7 @@ fn text_fault_answer(fault: PlanTextFault) -> Answer
 fn take(changer: &mut Changer<InlineIds>, path: &Path) -> Result<(), Answer>
     ensures taken { OnOk result (steps_result 1 changer.old.tracker.config path.now
         ≡ Ok (conf_state_text (lists_of changer.new.tracker.config))) }
-    ensures refused { IfErr result (λ why. (why ≡ no_memory)
-        ⊎ (steps_result 1 changer.old.tracker.config path.now ≡ Err why)) }
+    ensures refused { IfErr result (Refuses (steps_result 1 changer.old.tracker.config path.now)) }
 {
     match apply_path(changer, path) {
         Ok(()) => Ok(()),

@@ -5,10 +5,10 @@
 //! ```
 ghost use Rattle.std.specs.Prelude.{◌≡◌, ◌⊎◌};
 ghost use Rattle.confscript_c.specs.Answer.{no_memory};
-ghost use Rattle.confscript_c.specs.Checked.{check_answer, wrong_answer};
+ghost use Rattle.confscript_c.specs.Checked.{check_answer};
 
 use crate::answer::Answer;
-use crate::numbers::violation_answer;
+use crate::numbers::fault_answer;
 use crate::status::Status;
 use conf_change::{Config, ConfigurationFault, read_configuration};
 use quorum_sets::InlineIds;
@@ -25,17 +25,6 @@ pub extern "C" fn confscript_check(alloc: Global, state: &[u8]) -> Answer
     let read: Result<Config<InlineIds>, ConfigurationFault> = read_configuration(alloc, state);
     match read {
         Ok(_) => Answer::done(0),
-        Err(fault) => wrong_answer(fault),
-    }
-}
-
-// The answer for a line that names no valid configuration.
-fn wrong_answer(fault: ConfigurationFault) -> Answer
-    ensures { result ≡ wrong_answer fault }
-{
-    match fault {
-        ConfigurationFault::BadConfState => Answer::new(Status::BadConfState, 1),
-        ConfigurationFault::NotAConfiguration(violation) => violation_answer(violation),
-        ConfigurationFault::NoMemory => Answer::no_memory(),
+        Err(fault) => fault_answer(fault, Answer::new(Status::BadConfState, 1)),
     }
 }

@@ -13,7 +13,8 @@ use std::alloc::Global;
 /// The saved configuration of a line. It may be invalid.
 pub(crate) fn read_saved(alloc: Global, number: u64, line: &[u8]) -> Result<ConfState, Answer>
     ensures saved { IfOk result (λ saved. read_as number (conf_state_in line.now) ≡ Ok saved) }
-    ensures refused { IfErr result (λ why. (why ≡ no_memory) ⊎ (read_as number (conf_state_in line.now) ≡ Err why)) }
+    ensures refused { IfErr result (λ why. (why ≡ no_memory)
+        ⊎ (read_as number (conf_state_in line.now) ≡ Err why)) }
 {
     match read_conf_state(alloc, line) {
         Ok(saved) => Ok(saved),

@@ -21,8 +21,8 @@
 //! confscript_check        a line                       the first broken invariant, and the id that breaks it
 //! confscript_committed    an index for each voter      the committed index
 //! confscript_vote         a vote for each voter        pending, lost or won
-//! confscript_restore      a configuration in numbers   the configuration, all members beginning afresh
-//! confscript_step         a configuration, changes     the configuration after them, and who begins afresh
+//! confscript_restore      a configuration in numbers   the configuration, all members catching up
+//! confscript_step         a configuration, changes     the configuration after them, and who is catching up
 //! confscript_may_be_down  voters, ids with no log      how many ids may be down
 //! ```
 //!

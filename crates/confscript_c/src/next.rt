@@ -37,7 +37,8 @@ pub extern "C" fn confscript_next(
     view: &[u64],
     out: &mut [u64],
 ) -> Answer
-    ensures { Writes (next_result configuration.now target.now strategy down.now view.now) out.old result out.new }
+    ensures { Writes (next_result configuration.now target.now strategy down.now view.now) out.old
+        result out.new }
 {
     match next_of_call(alloc, configuration, target, strategy, down, view) {
         Ok(numbers) => write_out(numbers.as_slice(), out),
@@ -76,7 +77,8 @@ fn action_of(
 ) -> Result<Numbers, Answer>
     requires valid_now { is_valid view.now.conf_state ≡ true }
     requires valid_target { is_valid target.now ≡ true }
-    ensures numbers { IfOk result (λ numbers. action_result request.now target.now view.now ≡ Ok numbers.items) }
+    ensures numbers { IfOk result (λ numbers. action_result request.now target.now view.now
+        ≡ Ok numbers.items) }
     ensures refused { IfErr result (λ why. (why ≡ no_memory)
         ⊎ (action_result request.now target.now view.now ≡ Err why)) }
 {
@@ -97,7 +99,8 @@ fn action_with(
     requires valid_now { is_valid view.now.conf_state ≡ true }
     requires valid_target { is_valid target.now ≡ true }
     requires down { down.now ≡ ids_down request.now.down }
-    ensures numbers { IfOk result (λ numbers. action_result request.now target.now view.now ≡ Ok numbers.items) }
+    ensures numbers { IfOk result (λ numbers. action_result request.now target.now view.now
+        ≡ Ok numbers.items) }
     ensures refused { IfErr result (λ why. (why ≡ no_memory)
         ⊎ (action_result request.now target.now view.now ≡ Err why)) }
 {

@@ -5,15 +5,15 @@
 //! (1 2)&&(1 2 3) learners_next=(3) autoleave   is   1, 2, 3, 0, 1, 0,  1, 2,  1, 2, 3,  3
 //! ```
 //!
-//! The last count is that of the members that begin afresh. They belong to the step that led to the configuration, so
+//! The last count is that of the members that catch up. They belong to the step that led to the configuration, so
 //! what comes out of one call goes into the next as it is.
-ghost use Rattle.std.specs.Prelude.{◌≡◌, ◌⊎◌, [], ◌∷◌, ◌++◌, true, Ok, Err, IfOk, IfErr, OnOk};
+ghost use Rattle.std.specs.Prelude.{◌≡◌, [], ◌∷◌, ◌++◌, true, Ok, IfOk, IfErr, OnOk};
 ghost use Rattle.quorum_sets.specs.Ids.{ascending, size};
 ghost use Rattle.conf_change.specs.Configuration.{is_valid};
 ghost use Rattle.conf_change.specs.ConfState.{lists_of};
-ghost use Rattle.confscript_c.specs.Answer.{no_memory};
+ghost use Rattle.confscript_c.specs.Answer.{Refuses};
 ghost use Rattle.confscript_c.specs.Numbers as spec;
-ghost use Rattle.confscript_c.specs.Numbers.{has_form, lists_in, violation_answer, configuration_of, flag_number, numbers_of, valid_configuration_of};
+ghost use Rattle.confscript_c.specs.Numbers.{has_form, lists_in, violation_answer, fault_answer, configuration_of, flag_number, numbers_of, valid_configuration_of};
 
 use crate::answer::Answer;
 use crate::status::Status;
@@ -31,7 +31,7 @@ pub(crate) type Numbers = SmallVec<u64, 64>;
 /// `confchange.Restore` restores.
 pub(crate) fn configuration_of(alloc: Global, numbers: &[u64]) -> Result<Config<InlineIds>, Answer>
     ensures configuration { IfOk result (λ c. configuration_of numbers.now ≡ Ok c) }
-    ensures refused { IfErr result (λ why. (why ≡ no_memory) ⊎ (configuration_of numbers.now ≡ Err why)) }
+    ensures refused { IfErr result (Refuses (configuration_of numbers.now)) }
 {
     with_voter(valid_configuration_of(alloc, numbers)?)
 }
@@ -43,14 +43,14 @@ pub(crate) fn valid_configuration_of(
 ) -> Result<Config<InlineIds>, Answer>
     ensures configuration { IfOk result (λ c. valid_configuration_of numbers.now ≡ Ok c) }
     ensures valid { IfOk result (λ c. is_valid c ≡ true) }
-    ensures refused { IfErr result (λ why. (why ≡ no_memory) ⊎ (valid_configuration_of numbers.now ≡ Err why)) }
+    ensures refused { IfErr result (Refuses (valid_configuration_of numbers.now)) }
 {
     if !has_form(numbers) {
         return Err(Answer::new(Status::DifferentLengths, 0));
     }
     match valid_lists(alloc, &lists_in(numbers)) {
         Ok(config) => Ok(config),
-        Err(fault) => Err(invalid_answer(fault)),
+        Err(fault) => Err(fault_answer(fault, Answer::new(Status::DifferentLengths, 0))),
     }
 }
 
@@ -77,12 +77,12 @@ fn lists_in(numbers: &[u64]) -> SavedLists<'_>
     let outgoing = 6 + numbers[1] as usize;
     let learners = outgoing + numbers[2] as usize;
     let learners_next = learners + numbers[3] as usize;
-    let fresh = learners_next + numbers[4] as usize;
+    let catching_up = learners_next + numbers[4] as usize;
     SavedLists {
         voters: &numbers[6..outgoing],
         voters_outgoing: &numbers[outgoing..learners],
         learners: &numbers[learners..learners_next],
-        learners_next: &numbers[learners_next..fresh],
+        learners_next: &numbers[learners_next..catching_up],
         auto_leave: numbers[0] == 1,
     }
 }
@@ -98,79 +98,79 @@ fn with_voter(config: Config<InlineIds>) -> Result<Config<InlineIds>, Answer>
     }
 }
 
-// The answer for a saved configuration that is not valid.
-fn invalid_answer(fault: ConfigurationFault) -> Answer
-    ensures { result ≡ spec.invalid_answer fault }
+/// The answer for a configuration that is not valid, or this one if it could not be read.
+pub(crate) fn fault_answer(fault: ConfigurationFault, unread: Answer) -> Answer
+    ensures { result ≡ fault_answer fault unread }
 {
     match fault {
-        ConfigurationFault::BadConfState => Answer::new(Status::DifferentLengths, 0),
+        ConfigurationFault::BadConfState => unread,
         ConfigurationFault::NotAConfiguration(violation) => violation_answer(violation),
         ConfigurationFault::NoMemory => Answer::no_memory(),
     }
 }
 
-/// The answer for an id that is listed twice or a broken invariant. The number is the id, if there is one.
-pub(crate) fn violation_answer(violation: Violation) -> Answer
+// The answer for an id that is listed twice or a broken invariant. The number is the id, if there is one.
+fn violation_answer(violation: Violation) -> Answer
     ensures { result ≡ violation_answer violation }
 {
     match violation {
         Violation::ListedTwice(id) => Answer::new(Status::RepeatedId, id),
         Violation::ZeroId => Answer::new(Status::ZeroId, 0),
-        // Next learners without outgoing voters are never the first violation, since they are not outgoing voters.
-        Violation::NextNotOutgoing(id) | Violation::NotJointButNext(id) => {
-            Answer::new(Status::NextNotOutgoing, id)
-        }
+        Violation::NextNotOutgoing(id) => Answer::new(Status::NextNotOutgoing, id),
         Violation::NextAndIncoming(id) => Answer::new(Status::NextAndIncoming, id),
         Violation::LearnerAndVoter(id) => Answer::new(Status::LearnerAndVoter, id),
         Violation::NotJointButAutoLeave => Answer::new(Status::NotJointButAutoLeave, 0),
     }
 }
 
-/// The array of a configuration with the members that begin afresh.
-pub(crate) fn numbers_of<S: MemberSet>(
+/// The array of a configuration with the members that are catching up.
+pub(crate) fn numbers_of(
     alloc: Global,
-    config: &Config<S>,
-    fresh: &S,
+    config: &Config<InlineIds>,
+    catching_up: &InlineIds,
 ) -> Result<Numbers, NoMemory>
-    ensures { IfOk result (λ numbers. numbers.items ≡ numbers_of config.now (S.ids fresh.now)) }
+    ensures { IfOk result (λ numbers. numbers.items ≡ numbers_of config.now catching_up.now) }
 {
     let mut numbers = SmallVec::new(alloc);
-    append_configuration(&mut numbers, config, fresh)?;
+    append_configuration(&mut numbers, config, catching_up)?;
     Ok(numbers)
 }
 
-/// Appends the array of a configuration with the members that begin afresh.
-pub(crate) fn append_configuration<S: MemberSet>(
+/// Appends the array of a configuration with the members that are catching up.
+pub(crate) fn append_configuration(
     numbers: &mut Numbers,
-    config: &Config<S>,
-    fresh: &S,
+    config: &Config<InlineIds>,
+    catching_up: &InlineIds,
 ) -> Result<(), NoMemory>
-    ensures { OnOk result (numbers.new.items ≡ numbers.old.items ++ numbers_of config.now (S.ids fresh.now)) }
+    ensures { OnOk result (numbers.new.items
+        ≡ numbers.old.items ++ numbers_of config.now catching_up.now) }
 {
-    append_counts(numbers, config, fresh)?;
-    append_ids(numbers, &config.incoming)?;
-    append_ids(numbers, &config.outgoing)?;
-    append_ids(numbers, &config.learners)?;
-    append_ids(numbers, &config.learners_next)?;
-    append_ids(numbers, fresh)
+    append_counts(numbers, config, catching_up)?;
+    numbers.extend_from_slice(config.incoming.as_slice())?;
+    numbers.extend_from_slice(config.outgoing.as_slice())?;
+    numbers.extend_from_slice(config.learners.as_slice())?;
+    numbers.extend_from_slice(config.learners_next.as_slice())?;
+    numbers.extend_from_slice(catching_up.as_slice())?;
+    Ok(())
 }
 
 // Appends the flag, and how many ids each part has.
-fn append_counts<S: MemberSet>(
+fn append_counts(
     numbers: &mut Numbers,
-    config: &Config<S>,
-    fresh: &S,
+    config: &Config<InlineIds>,
+    catching_up: &InlineIds,
 ) -> Result<(), NoMemory>
-    ensures { OnOk result (numbers.new.items ≡ numbers.old.items ++ flag_number config.now.auto_leave
+    ensures { OnOk result (numbers.new.items ≡ numbers.old.items
+        ++ flag_number config.now.auto_leave
         ∷ size config.now.incoming ∷ size config.now.outgoing ∷ size config.now.learners
-        ∷ size config.now.learners_next ∷ size (S.ids fresh.now) ∷ []) }
+        ∷ size config.now.learners_next ∷ size catching_up.now ∷ []) }
 {
     numbers.push(flag_number(config.auto_leave))?;
     numbers.push(config.incoming.len() as u64)?;
     numbers.push(config.outgoing.len() as u64)?;
     numbers.push(config.learners.len() as u64)?;
     numbers.push(config.learners_next.len() as u64)?;
-    numbers.push(fresh.len() as u64)?;
+    numbers.push(catching_up.len() as u64)?;
     Ok(())
 }
 
@@ -179,16 +179,4 @@ pub(crate) fn flag_number(auto_leave: bool) -> u64
     ensures { result ≡ flag_number auto_leave }
 {
     if auto_leave { 1 } else { 0 }
-}
-
-/// Appends the ids of a set, in ascending order.
-pub(crate) fn append_ids<S: MemberSet>(numbers: &mut Numbers, ids: &S) -> Result<(), NoMemory>
-    ensures { OnOk result (numbers.new.items ≡ numbers.old.items ++ ascending (S.ids ids.now)) }
-{
-    for position in 0..ids.len() {
-        if let Some(id) = ids.at(position) {
-            numbers.push(id)?;
-        }
-    }
-    Ok(())
 }

@@ -23,7 +23,8 @@ pub(crate) fn pair_in(
     ensures now { IfOk result (λ pair. current_or_answer now.now ≡ Ok pair.0) }
     ensures target { IfOk result (λ pair. target_or_answer pair.0 target.now ≡ Ok pair.1) }
     ensures valid { IfOk result (λ pair. (is_valid pair.0 ≡ true) × (is_valid pair.1 ≡ true)) }
-    ensures refused { IfErr result (λ why. (why ≡ no_memory) ⊎ (spec.pair_in now.now target.now ≡ Err why)) }
+    ensures refused { IfErr result (λ why. (why ≡ no_memory) ⊎ (spec.pair_in now.now target.now
+        ≡ Err why)) }
 {
     let now = current_of(alloc, now)?;
     let target = target_of(alloc, &now, target)?;
@@ -34,10 +35,11 @@ pub(crate) fn pair_in(
 fn current_of(alloc: Global, text: &[u8]) -> Result<Config<InlineIds>, Answer>
     ensures configuration { IfOk result (λ c. current_or_answer text.now ≡ Ok c) }
     ensures valid { IfOk result (λ c. is_valid c ≡ true) }
-    ensures refused { IfErr result (λ why. (why ≡ no_memory) ⊎ (current_or_answer text.now ≡ Err why)) }
+    ensures refused { IfErr result (λ why. (why ≡ no_memory)
+        ⊎ (current_or_answer text.now ≡ Err why)) }
 {
     match read_current(alloc, text) {
-        Ok(config) => Ok(config),
+        Ok(current) => Ok(current.config),
         Err(fault) => Err(text_answer(1, fault)),
     }
 }
@@ -51,7 +53,8 @@ fn target_of(
     requires { is_valid now.now ≡ true }
     ensures configuration { IfOk result (λ c. target_or_answer now.now text.now ≡ Ok c) }
     ensures valid { IfOk result (λ c. is_valid c ≡ true) }
-    ensures refused { IfErr result (λ why. (why ≡ no_memory) ⊎ (target_or_answer now.now text.now ≡ Err why)) }
+    ensures refused { IfErr result (λ why. (why ≡ no_memory) ⊎ (target_or_answer now.now text.now
+        ≡ Err why)) }
 {
     match read_target(alloc, now, text) {
         Ok(config) => Ok(config),

@@ -4,7 +4,7 @@
 //! ```text
 //! incoming 7 5 4                ->  committed 5
 //! incoming yes no not-voted     ->  pending
-//! incoming 1 2 3, uncounted 3   ->  0 may be down
+//! incoming 1 2 3, down 3        ->  0 may be down
 //! ```
 ghost use Rattle.std.specs.Prelude.{◌≡◌, ◌⊎◌, map, Some, None, IfOk, if◌then◌else◌};
 ghost use Rattle.std.specs.List.{list_all};
@@ -94,7 +94,7 @@ fn vote_number(vote: VoteResult) -> u64
     }
 }
 
-/// How many ids may be down, whichever they are, while the other voters are still a quorum. The uncounted ids, such as
+/// How many ids may be down, whichever they are, while the other voters are still a quorum. Those in `down`, such as
 /// members whose logs are empty, never count for a quorum. The call is refused if the voters are no quorum even with
 /// none down (own).
 #[unsafe(no_mangle)]
@@ -102,11 +102,12 @@ pub extern "C" fn confscript_may_be_down(
     alloc: Global,
     incoming: &[u64],
     outgoing: &[u64],
-    uncounted: &[u64],
+    down: &[u64],
 ) -> Answer
-    ensures { (result ≡ no_memory) ⊎ (result ≡ may_be_down_answer incoming.now outgoing.now uncounted.now) }
+    ensures { (result ≡ no_memory)
+        ⊎ (result ≡ may_be_down_answer incoming.now outgoing.now down.now) }
 {
-    may_be_down_answer(alloc, incoming, outgoing, uncounted).unwrap_or(Answer::no_memory())
+    may_be_down_answer(alloc, incoming, outgoing, down).unwrap_or(Answer::no_memory())
 }
 
 // The answer of `confscript_may_be_down`, as a result, so that `?` returns `NoMemory` early.
@@ -114,14 +115,15 @@ fn may_be_down_answer(
     alloc: Global,
     incoming: &[u64],
     outgoing: &[u64],
-    uncounted: &[u64],
+    down: &[u64],
 ) -> Result<Answer, NoMemory>
-    ensures { IfOk result (λ answer. answer ≡ may_be_down_answer incoming.now outgoing.now uncounted.now) }
+    ensures { IfOk result (λ answer. answer
+        ≡ may_be_down_answer incoming.now outgoing.now down.now) }
 {
     let incoming = InlineIds::of_list(alloc, incoming)?;
     let outgoing = InlineIds::of_list(alloc, outgoing)?;
-    let uncounted = InlineIds::of_list(alloc, uncounted)?;
-    Ok(count_answer(may_be_down((&incoming, &outgoing), &uncounted)))
+    let down = InlineIds::of_list(alloc, down)?;
+    Ok(count_answer(may_be_down((&incoming, &outgoing), &down)))
 }
 
 // The answer for a count; `NoQuorum` if there is none.

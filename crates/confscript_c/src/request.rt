@@ -25,7 +25,8 @@ pub struct Request {
 /// The request of the code of a strategy, and the ids that are down. They are looked at in this order.
 pub(crate) fn request_in(alloc: Global, strategy: u32, down: &[u64]) -> Result<Request, Answer>
     ensures request { IfOk result (λ request. spec.request_in strategy down.now ≡ Ok request) }
-    ensures refused { IfErr result (λ why. (why ≡ no_memory) ⊎ (spec.request_in strategy down.now ≡ Err why)) }
+    ensures refused { IfErr result (λ why. (why ≡ no_memory) ⊎ (spec.request_in strategy down.now
+        ≡ Err why)) }
 {
     Ok(Request {
         strategy: strategy_at(strategy)?,
@@ -41,7 +42,8 @@ pub(crate) fn text_request_in(
     output: u32,
     down: &[u64],
 ) -> Result<(Request, Output), Answer>
-    ensures request { IfOk result (λ asked. spec.text_request_in strategy output down.now ≡ Ok asked) }
+    ensures request { IfOk result (λ asked. spec.text_request_in strategy output down.now
+        ≡ Ok asked) }
     ensures refused { IfErr result (λ why. (why ≡ no_memory)
         ⊎ (spec.text_request_in strategy output down.now ≡ Err why)) }
 {

@@ -3,8 +3,8 @@
 //! ```text
 //! 0, 3, 0, 1, 0, 0,  3, 1, 2,  4   ->  0, 3, 0, 1, 0, 4,  1, 2, 3,  4,  1, 2, 3, 4
 //! ```
-ghost use Rattle.std.specs.Prelude.{◌≡◌, ◌⊎◌, Ok, Err, IfOk, IfErr};
-ghost use Rattle.confscript_c.specs.Answer.{no_memory};
+ghost use Rattle.std.specs.Prelude.{◌≡◌, Ok, IfOk, IfErr};
+ghost use Rattle.confscript_c.specs.Answer.{Refuses};
 ghost use Rattle.confscript_c.specs.Numbers.{restore_result};
 ghost use Rattle.confscript_c.specs.Written.{Writes};
 
@@ -13,7 +13,7 @@ use crate::buffer::write_out;
 use crate::numbers::{Numbers, configuration_of, numbers_of};
 use std::alloc::Global;
 
-/// Writes a saved configuration with its ids in ascending order and all members beginning afresh. The number is how
+/// Writes a saved configuration with its ids in ascending order and all members catching up. The number is how
 /// many numbers are written. The call is refused if the array has not the form of a configuration, if a list names an
 /// id twice, if an invariant is broken, or if there are members but no incoming voter (etcd's `confchange.Restore`; the
 /// form is own).
@@ -33,10 +33,11 @@ pub extern "C" fn confscript_restore(
 
 // The array of the restored configuration, or the answer with the reason why there is none.
 fn restored(alloc: Global, configuration: &[u64]) -> Result<Numbers, Answer>
-    ensures numbers { IfOk result (λ numbers. restore_result configuration.now ≡ Ok numbers.items) }
-    ensures refused { IfErr result (λ why. (why ≡ no_memory) ⊎ (restore_result configuration.now ≡ Err why)) }
+    ensures numbers { IfOk result (λ numbers. restore_result configuration.now
+        ≡ Ok numbers.items) }
+    ensures refused { IfErr result (Refuses (restore_result configuration.now)) }
 {
     let config = configuration_of(alloc, configuration)?;
-    let fresh = config.members()?;
-    Ok(numbers_of(alloc, &config, &fresh)?)
+    let catching_up = config.members()?;
+    Ok(numbers_of(alloc, &config, &catching_up)?)
 }

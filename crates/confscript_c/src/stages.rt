@@ -4,29 +4,26 @@
 //! ```text
 //! 0, 2                                the plan does not stall, and 2 stages follow
 //! 0, 0, 0, 0,  1,  3, 3               propose the learner 3, by auto; 0 may be down
-//! 0, 2, 0, 1, 0, 1,  1, 2,  3,  3     (1 2) learners=(3), and 3 begins afresh
+//! 0, 2, 0, 1, 0, 1,  1, 2,  3,  3     (1 2) learners=(3), and 3 is catching up
 //! 0, 1, 1, 1,  1,  0, 3               propose the voter 3, by auto; 1 may be down
 //! 0, 3, 0, 0, 0, 0,  1, 2, 3          (1 2 3)
 //! ```
 //!
 //! What is proposed for a stage goes into `confscript_step` with the configuration before it, which writes the
 //! configuration of the stage.
-ghost use Rattle.std.specs.Prelude.{◌≡◌, ◌≢◌, ◌⊎◌, ◌++◌, ℕ, List, true, Ok, Err, IfOk, IfErr, OnOk};
-ghost use Rattle.conf_change.specs.Configuration.{is_valid};
+ghost use Rattle.std.specs.Prelude.{◌≡◌, ◌≢◌, ◌⊎◌, ◌++◌, ℕ, List, Ok, Err, IfOk, IfErr, OnOk};
 ghost use Rattle.plan_output.specs.Stages.{first_stage};
 ghost use Rattle.raft_json.specs.Proposal.{proposed_changes};
 ghost use Rattle.confscript_c.specs.Answer.{no_memory};
-ghost use Rattle.confscript_c.specs.Paths.{path_result};
 ghost use Rattle.confscript_c.specs.Stages as spec;
-ghost use Rattle.confscript_c.specs.Stages.{changes_numbers, counted_stages, stage_numbers, stages_array, stages_numbers, stages_result, IsStagesArray, StagesLead};
+ghost use Rattle.confscript_c.specs.Stages.{changes_numbers, counted_stages, stage_numbers, stages_array, stages_numbers, stages_result, StagesLead};
 ghost use Rattle.confscript_c.specs.Written.{Writes};
 
 use crate::answer::Answer;
 use crate::buffer::write_out;
 use crate::numbers::{Numbers, append_configuration, flag_number, valid_configuration_of};
-use crate::paths::{no_path_answer, path_between, stranger_in};
+use crate::paths::path_between;
 use crate::request::{Request, request_in};
-use crate::status::Status;
 use conf_change::{Change, Config, Kind, Step, Transition};
 use conf_plan::Path;
 use conf_plan::laws::one_change_each_leads;
@@ -40,12 +37,12 @@ use std::alloc::Global;
 /// Writes the plan from one configuration to another as numbers, by a strategy as in `confscript_plan`: whether the
 /// plan stalls with the ids that are down, how many stages it has, and the stages. The number is how many numbers are
 /// written. A stage is the transition to propose (0 auto, 1 implicit, 2 explicit); how many ids may be down after it;
-/// how many until the members that begin afresh have caught up; how many besides those that are down until then; how
-/// many changes to propose; the kind and the id of each; and the array of the configuration. A count is the greatest
-/// `u64` if nothing commits. A simple step of several changes is a stage for each change. The call is refused if the
-/// strategy is unknown, if an id that is down is 0, if an array does not have a valid configuration, if an id that is
-/// down is a member of neither, if one of them has no incoming voter, or if the strategy has no plan (own; the numbers
-/// of transitions and kinds are those of etcd's `raftpb`).
+/// how many while members are catching up; how many besides those that are down while they are; how many changes to
+/// propose; the kind and the id of each; and the array of the configuration. A count is the greatest `u64` if nothing
+/// commits. A simple step of several changes is a stage for each change. The call is refused if the strategy is
+/// unknown, if an id that is down is 0, if an array does not have a valid configuration, if an id that is down is a
+/// member of neither, if one of them has no incoming voter, or if the strategy has no plan (own; the numbers of
+/// transitions and kinds are those of etcd's `raftpb`).
 #[unsafe(no_mangle)]
 pub extern "C" fn confscript_stages(
     alloc: Global,
@@ -55,7 +52,8 @@ pub extern "C" fn confscript_stages(
     down: &[u64],
     out: &mut [u64],
 ) -> Answer
-    ensures writes { Writes (stages_result configuration.now target.now strategy down.now) out.old result out.new }
+    ensures writes { Writes (stages_result configuration.now target.now strategy down.now) out.old
+        result out.new }
 
     // The stages are on the way to the target, and the plan keeps what the strategy promises.
     ensures leads { result ≢ no_memory → (array : List ℕ)
@@ -87,37 +85,10 @@ fn stages_of_call(
     let request = request_in(alloc, strategy, down)?;
     let now = valid_configuration_of(alloc, configuration)?;
     let target = valid_configuration_of(alloc, target)?;
-    match stranger_in(&request, &now, &target) {
-        Some(id) => Err(Answer::new(Status::DownNotAMember, id)),
-        None => stages_between(alloc, &request, &now, &target),
-    }
-}
-
-// The array of the plan between two configurations, or the answer with the reason why there is none.
-fn stages_between(
-    alloc: Global,
-    request: &Request,
-    now: &Config<InlineIds>,
-    target: &Config<InlineIds>,
-) -> Result<Numbers, Answer>
-    requires valid_now { is_valid now.now ≡ true }
-    requires valid_target { is_valid target.now ≡ true }
-    ensures numbers { IfOk result (λ numbers. path_result request.now now.now target.now
-        (stages_array request.now.down now.now) ≡ Ok numbers.items) }
-    ensures leads { IfOk result (λ numbers. IsStagesArray request.now now.now target.now numbers.items) }
-    ensures refused { IfErr result (λ why. (why ≡ no_memory) ⊎ (path_result request.now now.now target.now
-        (stages_array request.now.down now.now) ≡ Err why)) }
-
-    // It is found that there is no path before any memory is taken.
-    ensures no_path { (why : Answer) → path_result request.now now.now target.now
-        (stages_array request.now.down now.now) ≡ Err why → result ≡ Err why }
-{
+    let path = path_between(alloc, &request, &now, &target)?;
     one_change_each_leads();
     stages_are_on_the_way();
-    match path_between(alloc, request, now, target) {
-        Ok(path) => Ok(stages_array(alloc, request, now, &path)?),
-        Err(why) => Err(no_path_answer(why)),
-    }
+    Ok(stages_array(alloc, &request, &now, &path)?)
 }
 
 // The array of a path.
@@ -127,7 +98,8 @@ fn stages_array(
     now: &Config<InlineIds>,
     path: &Path,
 ) -> Result<Numbers, NoMemory>
-    ensures { IfOk result (λ numbers. numbers.items ≡ stages_array request.now.down now.now path.now) }
+    ensures { IfOk result (λ numbers. numbers.items
+        ≡ stages_array request.now.down now.now path.now) }
 {
     let each = path.one_change_each(alloc)?;
     match &request.down {
@@ -147,7 +119,8 @@ fn counted_stages(
     now: &Config<InlineIds>,
     path: &Path,
 ) -> Result<Numbers, NoMemory>
-    ensures { IfOk result (λ numbers. numbers.items ≡ counted_stages stalls down.now now.now path.now) }
+    ensures { IfOk result (λ numbers. numbers.items ≡ counted_stages stalls down.now now.now
+        path.now) }
 {
     let mut numbers = SmallVec::new(alloc);
     numbers.push(flag_number(stalls))?;
@@ -180,9 +153,9 @@ fn append_stages(
 pub(crate) fn append_stage(
     numbers: &mut Numbers,
     down: &InlineIds,
-    before: &Stage<InlineIds>,
+    before: &Stage,
     step: &Step,
-    after: &Stage<InlineIds>,
+    after: &Stage,
 ) -> Result<(), NoMemory>
     ensures { OnOk result (numbers.new.items
         ≡ numbers.old.items ++ stage_numbers down.now before.now step.now after.now) }

@@ -1,7 +1,7 @@
 //! The statuses: that a call is done, or why it is refused. Their codes never change, since callers are compiled with
 //! them; a new status gets the next code.
 ghost use Rattle.std.specs.Prelude.{◌≡◌, Ok, length};
-ghost use Rattle.confscript_c.specs.Status.{code_of, status_text, text_of_code};
+ghost use Rattle.confscript_c.specs.Status.{code_of, text_of_code};
 ghost use Rattle.confscript_c.specs.Written.{answer_to, buffer_after};
 
 use crate::answer::Answer;
@@ -82,57 +82,6 @@ impl Status {
     {
         self as u32
     }
-
-    /// What the status means. The text of a refused step is etcd's message.
-    pub fn text(self) -> &'static str
-        ensures { result.now ≡ status_text self }
-    {
-        match self {
-            Status::Done => "done",
-            Status::TooSmall => "the buffer is too small",
-            Status::NoMemory => "out of memory",
-            Status::BadConfState =>
-                "not a ConfState line: expected Voters:[1 2] VotersOutgoing:[] Learners:[3] LearnersNext:[] AutoLeave:false",
-            Status::RepeatedId => "an id is named twice",
-            Status::NotAConfiguration =>
-                "not a configuration: an id is 0 or listed twice, a learner is a voter, a next learner is not an outgoing voter alone, or auto-leave has no outgoing voters",
-            Status::NoVoter => "no incoming voter",
-            Status::BadLine =>
-                "not a step: expected simple l4 l5, enter-joint autoleave=false r1 v4, or leave-joint",
-            Status::NotAMember => "not a member",
-            Status::AlreadyJoint => "config is already joint",
-            Status::ZeroVoterJoint => "can't make a zero-voter config joint",
-            Status::NotJoint => "can't leave a non-joint config",
-            Status::SimpleInJoint => "can't apply simple config change in joint config",
-            Status::RemovedAllVoters => "removed all voters",
-            Status::MoreThanOneVoter => "more than one voter changed without entering joint config",
-            Status::ZeroId => "the id 0",
-            Status::NextNotOutgoing => "a next learner is not an outgoing voter",
-            Status::NextAndIncoming => "a next learner is an incoming voter",
-            Status::LearnerAndVoter => "a learner is a voter",
-            Status::AddedAgain =>
-                "removed and added again: a server that lost its log needs a new id",
-            Status::NotJointButAutoLeave => "auto-leave without outgoing voters",
-            Status::DifferentLengths => "the counts do not match the length",
-            Status::BadVote => "a vote is neither 0, 1 nor 2",
-            Status::NoQuorum => "the voters are no quorum",
-            Status::BadStrategy => "unknown strategy",
-            Status::JointTarget => "the target is joint",
-            Status::BadStep => "unknown step",
-            Status::BadChange => "unknown kind of change",
-            Status::BadOutput => "unknown output",
-            Status::UnknownForm =>
-                "no form of a configuration: expected voters=(1 2 3) learners=(4), a ConfState line, or JSON of a ConfState or of etcdctl member list",
-            Status::BadPrinted =>
-                "not a printed configuration: expected voters=(1 2)&&(1 2 3) learners=(4) learners_next=(3) autoleave, without what is empty, with spaces between ids",
-            Status::BadJson =>
-                "not the JSON of a configuration: expected voters, voters_outgoing, learners, learners_next and auto_leave, or etcdctl member list -w json, with decimal numbers as ids",
-            Status::BadChangeList =>
-                "not a list of changes: expected changes as r1 v4 l5, or a configuration as voters=(1 2 3), a ConfState line, or JSON",
-            Status::DownNotAMember => "down and not a member",
-            Status::StrategyMayStall => "by this strategy the cluster may stall",
-        }
-    }
 }
 
 /// Writes what the status of this code means, or `unknown status` for any other number. The number of the answer is the
@@ -145,46 +94,52 @@ pub extern "C" fn confscript_status_text(code: u32, out: &mut [u8]) -> Answer
     write_out(text_of_code(code).as_bytes(), out)
 }
 
-// What the status of this code means.
+// What the status of this code means. The text of a refused step is etcd's message.
 fn text_of_code(code: u32) -> &'static str
     ensures { result.now ≡ text_of_code code }
 {
     match code {
-        0 => Status::Done.text(),
-        1 => Status::TooSmall.text(),
-        2 => Status::NoMemory.text(),
-        3 => Status::BadConfState.text(),
-        4 => Status::RepeatedId.text(),
-        5 => Status::NotAConfiguration.text(),
-        6 => Status::NoVoter.text(),
-        7 => Status::BadLine.text(),
-        8 => Status::NotAMember.text(),
-        9 => Status::AlreadyJoint.text(),
-        10 => Status::ZeroVoterJoint.text(),
-        11 => Status::NotJoint.text(),
-        12 => Status::SimpleInJoint.text(),
-        13 => Status::RemovedAllVoters.text(),
-        14 => Status::MoreThanOneVoter.text(),
-        15 => Status::ZeroId.text(),
-        16 => Status::NextNotOutgoing.text(),
-        17 => Status::NextAndIncoming.text(),
-        18 => Status::LearnerAndVoter.text(),
-        19 => Status::AddedAgain.text(),
-        20 => Status::NotJointButAutoLeave.text(),
-        21 => Status::DifferentLengths.text(),
-        22 => Status::BadVote.text(),
-        23 => Status::NoQuorum.text(),
-        24 => Status::BadStrategy.text(),
-        25 => Status::JointTarget.text(),
-        26 => Status::BadStep.text(),
-        27 => Status::BadChange.text(),
-        28 => Status::BadOutput.text(),
-        29 => Status::UnknownForm.text(),
-        30 => Status::BadPrinted.text(),
-        31 => Status::BadJson.text(),
-        32 => Status::BadChangeList.text(),
-        33 => Status::DownNotAMember.text(),
-        34 => Status::StrategyMayStall.text(),
+        0 => "done",
+        1 => "the buffer is too small",
+        2 => "out of memory",
+        3 =>
+            "not a ConfState line: expected Voters:[1 2] VotersOutgoing:[] Learners:[3] LearnersNext:[] AutoLeave:false",
+        4 => "an id is named twice",
+        5 =>
+            "not a configuration: an id is 0 or listed twice, a learner is a voter, a next learner is not an outgoing voter alone, or auto-leave has no outgoing voters",
+        6 => "no incoming voter",
+        7 => "not a step: expected simple l4 l5, enter-joint autoleave=false r1 v4, or leave-joint",
+        8 => "not a member",
+        9 => "config is already joint",
+        10 => "can't make a zero-voter config joint",
+        11 => "can't leave a non-joint config",
+        12 => "can't apply simple config change in joint config",
+        13 => "removed all voters",
+        14 => "more than one voter changed without entering joint config",
+        15 => "the id 0",
+        16 => "a next learner is not an outgoing voter",
+        17 => "a next learner is an incoming voter",
+        18 => "a learner is a voter",
+        19 => "removed and added again: a server that lost its log needs a new id",
+        20 => "auto-leave without outgoing voters",
+        21 => "the counts do not match the length",
+        22 => "a vote is neither 0, 1 nor 2",
+        23 => "the voters are no quorum",
+        24 => "unknown strategy",
+        25 => "the target is joint",
+        26 => "unknown step",
+        27 => "unknown kind of change",
+        28 => "unknown output",
+        29 =>
+            "no form of a configuration: expected voters=(1 2 3) learners=(4), a ConfState line, or JSON of a ConfState or of etcdctl member list",
+        30 =>
+            "not a printed configuration: expected voters=(1 2)&&(1 2 3) learners=(4) learners_next=(3) autoleave, without what is empty, with spaces between ids",
+        31 =>
+            "not the JSON of a configuration: expected voters, voters_outgoing, learners, learners_next and auto_leave, or etcdctl member list -w json, with decimal numbers as ids",
+        32 =>
+            "not a list of changes: expected changes as r1 v4 l5, or a configuration as voters=(1 2 3), a ConfState line, or JSON",
+        33 => "down and not a member",
+        34 => "by this strategy the cluster may stall",
         _ => "unknown status",
     }
 }

@@ -5,12 +5,11 @@
 //! 0, 3, 3, 0, 0, 1,  2, 3, 4,  1, 2, 3,  4
 //! ```
 //!
-//! The last id, 4, begins afresh; the others keep their progress.
-ghost use Rattle.std.specs.Prelude.{◌≡◌, ◌⊎◌, [], ◌∷◌, ◌++◌, Ok, Err, IfOk, IfErr, OnOk};
-ghost use Rattle.confscript_c.specs.Answer.{no_memory};
-ghost use Rattle.conf_change.specs.Outcome.{outcome};
-ghost use Rattle.conf_change.specs.Transition.{step_of};
-ghost use Rattle.confscript_c.specs.Stepped.{array_after, changes_from, kind_of_number, step_kind_at, step_result};
+//! The last id, 4, is catching up; the others keep their progress.
+ghost use Rattle.std.specs.Prelude.{◌≡◌, [], ◌∷◌, ◌++◌, Ok, IfOk, IfErr, OnOk};
+ghost use Rattle.confscript_c.specs.Answer.{Refuses};
+ghost use Rattle.confscript_c.specs.Stepped as spec;
+ghost use Rattle.confscript_c.specs.Stepped.{changes_from, kind_of_number, step_kind_at, step_result};
 ghost use Rattle.confscript_c.specs.Written.{Writes};
 
 use crate::answer::Answer;
@@ -35,8 +34,8 @@ pub struct NumberedChange {
     pub id: u64,
 }
 
-/// Applies changes to a configuration by one step, and writes the configuration after it, with the members that begin
-/// afresh. The number is how many numbers are written. The step is one of the list of changes, by a transition (0 auto,
+/// Applies changes to a configuration by one step, and writes the configuration after it, with the members that catch
+/// up. The number is how many numbers are written. The step is one of the list of changes, by a transition (0 auto,
 /// 1 implicit, 2 explicit), a simple one (3), or leaving (4). The call is refused if the configuration is, as by
 /// `confscript_restore`, if the kind of a change or the step is unknown, or if the step is refused (etcd's `confchange`
 /// and `raftpb`).
@@ -63,9 +62,9 @@ fn stepped(
     step: u32,
     changes: &[NumberedChange],
 ) -> Result<Numbers, Answer>
-    ensures numbers { IfOk result (λ numbers. step_result configuration.now step changes.now ≡ Ok numbers.items) }
-    ensures refused { IfErr result (λ why. (why ≡ no_memory)
-        ⊎ (step_result configuration.now step changes.now ≡ Err why)) }
+    ensures numbers { IfOk result (λ numbers. step_result configuration.now step changes.now
+        ≡ Ok numbers.items) }
+    ensures refused { IfErr result (Refuses (step_result configuration.now step changes.now)) }
 {
     let config = configuration_of(alloc, configuration)?;
     let changes = read_changes(alloc, changes)?;
@@ -76,7 +75,7 @@ fn stepped(
 // The changes, or the answer for the first whose kind is unknown.
 fn read_changes(alloc: Global, numbered: &[NumberedChange]) -> Result<SmallVec<Change, 8>, Answer>
     ensures changes { IfOk result (λ changes. changes_from 1 numbered.now ≡ Ok changes.items) }
-    ensures refused { IfErr result (λ why. (why ≡ no_memory) ⊎ (changes_from 1 numbered.now ≡ Err why)) }
+    ensures refused { IfErr result (Refuses (changes_from 1 numbered.now)) }
 {
     let mut changes = SmallVec::new(alloc);
     for index in 0..numbered.len() {
@@ -131,17 +130,11 @@ fn array_after(
     kind: StepKind,
     changes: &[Change],
 ) -> Result<Numbers, Answer>
-    ensures numbers { IfOk result (λ numbers. array_after config.now (step_of kind changes.now)
-        (outcome config.now (step_of kind changes.now)) ≡ Ok numbers.items) }
-    ensures refused { IfErr result (λ why. (why ≡ no_memory)
-        ⊎ (array_after config.now (step_of kind changes.now) (outcome config.now (step_of kind changes.now))
-        ≡ Err why)) }
+    ensures numbers { IfOk result (λ numbers. spec.stepped config.now changes.now (Ok kind)
+        ≡ Ok numbers.items) }
+    ensures refused { IfErr result (Refuses (spec.stepped config.now changes.now (Ok kind))) }
 {
-    match next_config(config, kind, changes) {
-        Ok(after) => {
-            let fresh = catching_up_by(alloc, config, kind, changes, &after)?;
-            Ok(numbers_of(alloc, &after, &fresh)?)
-        }
-        Err(refused) => Err(refusal(refused, 0)),
-    }
+    let after = next_config(config, kind, changes).map_err(|refused| refusal(refused, 0))?;
+    let catching_up = catching_up_by(alloc, config, kind, changes, &after)?;
+    Ok(numbers_of(alloc, &after, &catching_up)?)
 }

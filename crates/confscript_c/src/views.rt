@@ -7,9 +7,9 @@
 //!
 //! The configuration is known at index 57, 1 leads, 60 is committed, no change is pending, and a member that has caught
 //! up lacks at most 8 entries. 1 and 2 have all entries and were heard from; 3 has 52, and was not. 1 to 3 run.
-ghost use Rattle.std.specs.Prelude.{◌≡◌, ◌⊎◌, ◌<◌, true, Ok, Err, IfOk, IfErr, nat_le};
+ghost use Rattle.std.specs.Prelude.{◌≡◌, ◌<◌, true, Ok, IfOk, IfErr, nat_le};
 ghost use Rattle.std.specs.List.{slice_index};
-ghost use Rattle.confscript_c.specs.Answer.{no_memory};
+ghost use Rattle.confscript_c.specs.Answer.{Refuses};
 ghost use Rattle.confscript_c.specs.Views as spec;
 
 use crate::answer::Answer;
@@ -28,7 +28,7 @@ pub(crate) fn view_in(
 ) -> Result<View, Answer>
     ensures view { IfOk result (λ view. spec.view_in now numbers.now ≡ Ok view) }
     ensures now { IfOk result (λ view. view.conf_state ≡ now) }
-    ensures refused { IfErr result (λ why. (why ≡ no_memory) ⊎ (spec.view_in now numbers.now ≡ Err why)) }
+    ensures refused { IfErr result (Refuses (spec.view_in now numbers.now)) }
 {
     if !has_view_form(numbers) {
         return Err(Answer::new(Status::DifferentLengths, 0));
@@ -113,7 +113,7 @@ fn member_in(numbers: &[u64], member: usize) -> MemberView
 // A set of ids. 0 is not an id.
 fn ids_in(alloc: Global, ids: &[u64]) -> Result<InlineIds, Answer>
     ensures ids { IfOk result (λ set. spec.ids_or_answer ids.now ≡ Ok set) }
-    ensures refused { IfErr result (λ why. (why ≡ no_memory) ⊎ (spec.ids_or_answer ids.now ≡ Err why)) }
+    ensures refused { IfErr result (Refuses (spec.ids_or_answer ids.now)) }
 {
     let set = InlineIds::of_list(alloc, ids)?;
     if set.contains(0) {

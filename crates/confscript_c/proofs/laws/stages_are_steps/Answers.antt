@@ -4,9 +4,9 @@ use Rattle.confscript_c.proofs.StagesStepped.{AreStepped-run, IsOneProposal-one_
 use Rattle.confscript_c.proofs.laws.stages_are_steps.Goals as goal
 
 pub returns-clause-one : goal.returns-clause-one
-returns-clause-one c before after step one valid voter gives fresh =
+returns-clause-one c before after step one valid voter gives catching_up =
     IsStepped-by_proposal c.proposed_step_leads_alike.ensures.enter before after step one
-    (c.written_arrays_are_taken.ensures.again before.config before.catching_up (is_restorable-valid before.config (record { valid = valid; voter = voter }))) gives fresh
+    (c.written_arrays_are_taken.ensures.again before.config before.catching_up (is_restorable-valid before.config (record { valid = valid; voter = voter }))) gives catching_up
 
 pub returns-clause-each : goal.returns-clause-each
 returns-clause-each c = IsOneProposal-one_change_each

@@ -22,10 +22,10 @@ returns-clause-restored c numbers d = (
 )
 
 pub returns-clause-again : goal.returns-clause-again
-returns-clause-again c d fresh ok =
+returns-clause-again c d catching_up ok =
     let saved = lists_of d in
     let is = (c.restored_is_described.ensures saved d).1 (c.conf_state_describes.ensures.own d, ok) in
-    (returns-clause-restored c (numbers_of d fresh) d).1 (has_form-array_of saved (ascending fresh), ap restored (lists_in-array_of saved (ascending fresh)) ∙ is)
+    (returns-clause-restored c (numbers_of d catching_up) d).1 (has_form-array_of saved (ascending catching_up), ap restored (lists_in-array_of saved (ascending catching_up)) ∙ is)
 
 pub returns-clause-after_restore : goal.returns-clause-after_restore
 returns-clause-after_restore c numbers out e =

@@ -8,4 +8,4 @@ pub returns : goal.returns
 returns c =
     c.count_answer.ensures
     ∙ (λ j. count_answer (c.may_be_down.ensures.counted j))
-    ∙ (λ j. count_answer (may_be_down (pair (c.in_ok-incoming.ensures.set j) (c.in_ok-outgoing.ensures.set j)) (c.in_ok-uncounted.ensures.set j)))
+    ∙ (λ j. count_answer (may_be_down (pair (c.in_ok-incoming.ensures.set j) (c.in_ok-outgoing.ensures.set j)) (c.in_ok-down.ensures.set j)))

@@ -1,4 +1,4 @@
-use Rattle.std.proofs.Common.{◌∷◌, ◌++◌, [], ap, sym, ◌∙◌, arith}
+use Rattle.std.proofs.Common.{◌∷◌, ◌++◌, [], ap, ◌∙◌, arith}
 use Rattle.confscript_c.proofs.MembersRead.{members_all, members_more}
 use Rattle.confscript_c.proofs.views.members_in.Goals as goal
 
