@@ -2,7 +2,7 @@
 
     arguments   the command line
     commands    replace, add, remove, carry-out: what their arguments ask for
-    wish        what is wanted of the members, and the task that fulfils it
+    request     what the operator asks for, and the task that carries it out
     servers     how a server is named: NAME=URL, and a member by its name or its id
     task        what one run does: steps, new servers, which servers fail
     plan        the JSON lines of a plan, and the call of etcd's server for each

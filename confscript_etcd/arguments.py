@@ -2,12 +2,12 @@
 import argparse
 import os
 import signal
-import subprocess
 
 from . import output, status
 from .cluster import Cluster
 from .commands import COMMANDS
-from .etcdctl import of_environment
+from .etcdctl import Etcdctl
+from .plan import run_program
 from .reasons import Stop, last_line
 from .running import Run
 from .servers import address
@@ -122,10 +122,7 @@ def endpoints(text):
 
 
 def version(program):
-    try:
-        run = subprocess.run([program, "--version"], stdin=subprocess.DEVNULL, capture_output=True, text=True, errors="replace", check=False)
-    except OSError as error:
-        raise Stop(f"{program} cannot be run: {error.strerror}") from None
+    run = run_program(program, "--version")
     if run.returncode:
         raise Stop(f"{program} cannot be run: {last_line(run.stderr) or f'status {run.returncode}'}")
     return f"confscript-etcd {run.stdout.split()[-1]}"
@@ -162,7 +159,7 @@ def run(options, program):
         output.say(version(program))
         return 0
     command = COMMANDS[options.command](options) if options.command in COMMANDS else None
-    cluster = Cluster(of_environment(options.etcdctl, options.limit), endpoints(options.endpoints), client_urls(options.client_url))
+    cluster = Cluster(Etcdctl(options.etcdctl, os.environ, options.limit), endpoints(options.endpoints), client_urls(options.client_url))
     if command:
         return Run(options, command, cluster, program).run()
     return (status.watch if options.watch else status.show)(cluster, options.output == "json")

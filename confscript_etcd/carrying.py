@@ -1,12 +1,11 @@
 """Taking the steps of a task: doing what is next, and saying what is waited for."""
 import os
 import subprocess
-from typing import NamedTuple, Optional
 
 from .deciding import Decider
 from .output import note, say
 from .plan import Call
-from .reasons import NotYet, Stop, listed, verb, wait
+from .reasons import NotYet, Stop, clause, listed, wait
 from .refusals import refuse_cut_off, refuse_up
 from .servers import NewServer, address, is_address, unreachable
 from .table import step_text
@@ -17,15 +16,6 @@ STUCK = {
     "stalls": "with {} down, nothing can be committed on the way",
     "reused": "an id never comes back without its log and its vote: {}",
 }
-
-
-class Options(NamedTuple):
-    """How the steps are taken: the command that starts a new server, how long to wait for one state, and whether something
-    listens at peer URLs even where no server runs."""
-
-    start: Optional[str]
-    limit: float
-    is_proxied: bool
 
 
 def words_of(step, etcd_id, new):
@@ -65,7 +55,7 @@ class Carrying:
 
     def __init__(self, cluster, task, options, lock, mode):
         self.cluster, self.task, self.options, self.lock = cluster, task, options, lock
-        self.decider = Decider(mode, task, options.is_proxied)
+        self.decider = Decider(mode, task, options.peer_proxy)
         self.starting, self.described = {}, set()
         # How many steps were announced, the command that was shown last, and the new server that is waited for.
         self.announced, self.shown, self.awaited = 0, None, None
@@ -167,7 +157,7 @@ class Carrying:
             if "unhealthy cluster" not in str(reason):
                 raise
             silent = [member.label for member in view.silent_voters()]
-            why = f"{listed(silent)} {verb(silent, 'does', 'do')} not answer" if silent else "it wants all voters to be connected for five seconds"
+            why = f"{clause(silent, 'does', 'do')} not answer" if silent else "it wants all voters to be connected for five seconds"
             raise NotYet(f"etcd changes no members now: {why}") from None
 
     def endpoints(self, view, member):
@@ -209,13 +199,13 @@ class Carrying:
             raise NotYet("there is no leader")
         if answer.waits_for("heard"):
             for member in members:
-                refuse_up(member, view, self.cluster, self.options.is_proxied)
-            raise NotYet(f"{listed(member.label for member in members)} {verb(members, 'was', 'were')} heard from just now")
+                refuse_up(member, view, self.cluster, self.options.peer_proxy)
+            raise NotYet(f"{clause((member.label for member in members), 'was', 'were')} heard from just now")
         silent = [member.label for member in members if not view.answers(member)]
         if silent:
-            raise NotYet(f"{listed(silent)} {verb(silent, 'does', 'do')} not answer")
+            raise NotYet(f"{clause(silent, 'does', 'do')} not answer")
         refuse_cut_off(view)
-        raise NotYet(f"{listed(member.label for member in members)} {verb(members, 'has', 'have')} not applied the last change yet")
+        raise NotYet(f"{clause((member.label for member in members), 'has', 'have')} not applied the last change yet")
 
     def bring_up(self, member, view):
         """Waits until a member that joins has started, answers, and has all that was committed before."""
@@ -242,9 +232,9 @@ class Carrying:
         # It asks any of the others for the members.
         behind = [voter for voter in view.answering_voters() if view.statuses[voter.id].applied < self.decider.committed]
         if behind:
-            raise NotYet(f"{listed(voter.label for voter in behind)} {verb(behind, 'has', 'have')} not applied the last change yet")
+            raise NotYet(f"{clause((voter.label for voter in behind), 'has', 'have')} not applied the last change yet")
         self.starting[member.id] = None
-        if not self.options.is_proxied and not all(unreachable(url) for url in member.peers):
+        if not self.options.peer_proxy and not all(unreachable(url) for url in member.peers):
             note(f"  something listens at {', '.join(member.peers)} already, so {new.name} is not started again")
         elif self.options.start is None:
             self.show_settings(new, view.members)

@@ -5,12 +5,18 @@ from concurrent.futures import ThreadPoolExecutor
 
 from .etcdctl import without_user
 from .metrics import active_peers, context_of
-from .reasons import Leaderless, NotYet, Settling, Stop, listed, verb
+from .reasons import Leaderless, NotYet, Settling, Stop, clause
 from .servers import Member, unreachable
 from .view import Status, View
 
 
 ALARMS = {1: "NOSPACE", 2: "CORRUPT"}
+
+
+def at_once(ask, each):
+    """What is answered for each of these, which are asked at the same time."""
+    with ThreadPoolExecutor(max_workers=16) as pool:
+        return list(pool.map(ask, each))
 
 
 class Cluster:
@@ -62,8 +68,8 @@ class Cluster:
         if not leaders or any(leaders.values()):
             raise why
         silent = [url for url in answers if url not in leaders]
-        others = f", and {listed(silent)} {verb(silent, 'does', 'do')} not answer" if silent else ""
-        raise Leaderless(f"no list of members: {listed(leaders)} {verb(leaders, 'answers and has', 'answer and have')} no leader{others}. Name other "
+        others = f", and {clause(silent, 'does', 'do')} not answer" if silent else ""
+        raise Leaderless(f"no list of members: {clause(leaders, 'answers and has', 'answer and have')} no leader{others}. Name other "
                      "voters (--endpoints). If a majority of them is down, nothing can be written (ETCD.md, 'If quorum is lost')")
 
     def list_at_newest(self, url):
@@ -98,14 +104,10 @@ class Cluster:
         """The statuses of the servers that answer at the client URLs of these members or at these endpoints, by their ids. Who
         answers at a URL says so: it may be another member, or a server that was started anew."""
         own, found = {url: member.id for member in members for url in self.clients_of(member)}, {}
-        for id, status in self.answers_at(list(dict.fromkeys([*own, *endpoints])), beside):
+        for id, status in filter(None, at_once(lambda url: self.status_at(url, beside), dict.fromkeys([*own, *endpoints]))):
             if id not in found or (own.get(status.url) == id and own.get(found[id].url) != id):
                 found[id] = status
         return found
-
-    def answers_at(self, urls, beside):
-        with ThreadPoolExecutor(max_workers=16) as pool:
-            return [it for it in pool.map(lambda url: self.status_at(url, beside), urls) if it]
 
     def hearers(self, members, statuses):
         """For each member that has started and does not answer, the members that hear from it."""
@@ -113,8 +115,7 @@ class Cluster:
         if not silent:
             return {}
         here = [member for member in members if member.id in statuses]
-        with ThreadPoolExecutor(max_workers=16) as pool:
-            peers = list(pool.map(lambda member: active_peers(statuses[member.id].url, self.context), here))
+        peers = at_once(lambda member: active_peers(statuses[member.id].url, self.context), here)
         self.metrics_read = any(it is not None for it in peers)
         return {it.id: tuple(member for member, heard in zip(here, peers) if statuses[member.id].leader == it.id or it.id in (heard or ()))
                 for it in silent}

@@ -4,9 +4,9 @@ import sys
 from .plan import Call, read_plan, steps_of
 from .reasons import Stop, Usage, listed
 from .refusals import refuse_shared, refuse_unfit, refuse_up
+from .request import Request
 from .servers import NewServer, address, find, new_servers, server_names
 from .task import Task
-from .wish import Wish
 
 # Each command reads its arguments and its file when it is made, before the cluster is asked. Its `task` is asked twice:
 # before the operator is, and before the first change. It returns the task, and by which words the operator named which
@@ -25,7 +25,7 @@ class Replace:
         self.text = f"replace {','.join(names)} --with {','.join(map(str, self.new))}"
 
     def task(self, cluster, view, record, options, program):
-        wish = Wish(cluster, view, options)
+        request = Request(cluster, view, options)
         for words, (name, new) in zip(self.words, self.pairs):
             member, removed = find(name, view.members), record.removed(words, view, self.new)
             if member and is_successor(member, new, removed, view):
@@ -39,10 +39,10 @@ class Replace:
                 raise Stop(f"{name} is not a member, and {new.name} is none either, so there is nothing to carry on: "
                            f"{members_text(view)}. To add {new.name}: {cluster.suggestion('add', str(new))}")
             if member:
-                wish.leaves(member, words, new)
+                request.leaves(member, words, new)
             else:
-                wish.joins(new)
-        return wish.task(program), wish.kept
+                request.joins(new)
+        return request.task(program), request.kept
 
 
 def is_successor(member, new, removed, view):
@@ -63,10 +63,10 @@ class Add:
         self.text = f"add {','.join(map(str, self.new))}"
 
     def task(self, cluster, view, record, options, program):
-        wish = Wish(cluster, view, options)
+        request = Request(cluster, view, options)
         for new in self.new:
-            wish.joins(new)
-        return wish.task(program), {}
+            request.joins(new)
+        return request.task(program), {}
 
 
 class Remove:
@@ -75,14 +75,14 @@ class Remove:
         self.text = f"remove {','.join(self.words)}"
 
     def task(self, cluster, view, record, options, program):
-        wish = Wish(cluster, view, options)
+        request = Request(cluster, view, options)
         for name in self.words:
             member = find(name, view.members)
             if member:
-                wish.leaves(member, name)
+                request.leaves(member, name)
             elif record.removed(name, view) is None:
                 raise Stop(f"{name} is not a member: {members_text(view)}")
-        return wish.task(program), wish.kept
+        return request.task(program), request.kept
 
 
 class CarryOut:

@@ -29,10 +29,7 @@ def calls(task, cluster):
                                     [url for number in up for url in clients(number)])
         if step.call.adds():
             new = task.new[step.id]
-            there = [members.get(number) or as_member(task.new[number]) for number in sorted(step.before.voters | step.before.learners, key=task.name)]
+            # Another new one is listed by then as a member that has started.
+            there = [members.get(number) or Member(0, task.new[number].name, task.new[number].peers, (), False)
+                     for number in sorted(step.before.members(), key=task.name)]
             yield f"# start {new.name}: {' '.join(f'{name}={shlex.quote(value)}' for name, value in settings(new, there).items())}"
-
-
-def as_member(new):
-    """A new server as etcd will list it when it has started."""
-    return Member(0, new.name, new.peers, (), False)

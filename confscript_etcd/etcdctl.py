@@ -1,6 +1,5 @@
 """Running etcdctl."""
 import json
-import os
 import shlex
 import subprocess
 
@@ -141,7 +140,3 @@ def without_user(words):
 def last_error(text):
     """The reason that etcdctl gives for a failure, without its log."""
     return last_line(text).removeprefix("Error: ") or "etcdctl failed without a reason"
-
-
-def of_environment(command, limit):
-    return Etcdctl(command, os.environ, limit)

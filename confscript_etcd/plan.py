@@ -8,6 +8,10 @@ from typing import NamedTuple, Optional, Tuple
 from .reasons import Stop, last_line
 
 
+def majority(voters):
+    return len(voters) // 2 + 1
+
+
 class Configuration(NamedTuple):
     """The voters and the learners, by their numbers in the plan."""
 
@@ -22,7 +26,7 @@ class Configuration(NamedTuple):
 
     def spare(self, down):
         """How many may be down besides these. Negative if nothing commits."""
-        return len(self.voters - down) - (len(self.voters) // 2 + 1)
+        return len(self.voters - down) - majority(self.voters)
 
     def named(self, name):
         """The text of the configuration, with a name for each number."""
@@ -56,7 +60,7 @@ class Step(NamedTuple):
     before: Configuration
     after: Configuration
     may_be_down: Optional[int]
-    besides: Optional[int]
+    may_be_down_besides: Optional[int]
 
     def promotes(self):
         return self.call is Call.PROMOTE
@@ -67,7 +71,7 @@ class Step(NamedTuple):
             return [self]
         call = call_for("ConfChangeAddLearnerNode", self.id, self.before)
         between = after_call(call, self.id, self.before)
-        besides = None if self.besides is None else between.spare(down)
+        besides = None if self.may_be_down_besides is None else between.spare(down)
         return [Step(call, self.id, self.before, between, between.spare(frozenset()), besides), self._replace(call=Call.PROMOTE, before=between)]
 
 
@@ -139,15 +143,19 @@ def check_lines(plan):
             raise Stop(f"step {line['step']}: this is not a step of `confscript plan --output json`") from None
 
 
-def made_by(program, configuration, changes, down):
-    """The plan that the program makes from a configuration to what changes such as `r3 v4` make of it."""
-    words = [program, "plan", "--strategy", "one-at-a-time", "--output", "json", "--from", str(configuration), "--to", changes]
-    if down:
-        words += ["--down", ",".join(map(str, sorted(down)))]
+def run_program(program, *words):
     try:
-        run = subprocess.run(words, stdin=subprocess.DEVNULL, capture_output=True, text=True, encoding="utf-8", errors="replace", check=False)
+        return subprocess.run([program, *words], stdin=subprocess.DEVNULL, capture_output=True, text=True, encoding="utf-8", errors="replace", check=False)
     except OSError as error:
         raise Stop(f"{program} cannot be run: {error.strerror}") from None
+
+
+def made_by(program, configuration, changes, down):
+    """The plan that the program makes from a configuration to what changes such as `r3 v4` make of it."""
+    words = ["plan", "--strategy", "one-at-a-time", "--output", "json", "--from", str(configuration), "--to", changes]
+    if down:
+        words += ["--down", ",".join(map(str, sorted(down)))]
+    run = run_program(program, *words)
     if run.returncode not in (0, 1) or not run.stdout:
         raise Stop(f"{program} makes no plan: {last_line(run.stderr) or f'status {run.returncode}'}")
     return read_plan(run.stdout.splitlines())

@@ -69,6 +69,12 @@ def verb(names, singular, plural):
     return singular if len(names) == 1 else plural
 
 
+def clause(names, singular, plural):
+    """Names and what is said of them: `n1 and n2 do not answer`."""
+    names = list(names)
+    return f"{listed(names)} {verb(names, singular, plural)}"
+
+
 def last_line(text):
     """The last line of a text that is not empty, or nothing."""
     return next((line.strip() for line in reversed(text.splitlines()) if line.strip()), "")

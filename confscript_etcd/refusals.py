@@ -1,7 +1,7 @@
 """What is refused before a change, since the change would do harm. Nothing here changes the cluster."""
 import socket
 
-from .reasons import Settling, Stop, listed, verb
+from .reasons import Settling, Stop, clause, listed, verb
 from .servers import address, unreachable
 
 
@@ -13,7 +13,7 @@ def refuse_up(member, view, cluster, is_proxied):
     silent = f"{member.label} does not answer at {' or '.join(cluster.clients_of(member)) or 'a client URL'}"
     hearers = view.heard_by(member)
     if hearers:
-        raise Settling(f"{silent}, but {listed(hearers)} {verb(hearers, 'hears', 'hear')} from it, so it has not failed. "
+        raise Settling(f"{silent}, but {clause(hearers, 'hears', 'hear')} from it, so it has not failed. "
                        f"If it is reached elsewhere: {cluster.client_hint(member)}")
     urls = [url for url in member.peers if not unreachable(url)]
     if urls and not is_proxied:
@@ -25,25 +25,25 @@ def refuse_silent(silent):
     """Refuses a change while these voters are silent, and not named as failed."""
     names = [member.label for member in silent]
     if names:
-        raise Stop(f"{listed(names)} {verb(names, 'does', 'do')} not answer and {verb(names, 'is', 'are')} not named, so nothing is changed. "
+        raise Stop(f"{clause(names, 'does', 'do')} not answer and {verb(names, 'is', 'are')} not named, so nothing is changed. "
                    "Name each server that failed, or bring it back (--client-url NAME=URL if one is reached elsewhere)")
 
 
 def refuse_cut_off(view):
     names = [member.label for member in view.voters if view.is_cut_off(member)]
     if names:
-        raise Settling(f"{listed(names)} {verb(names, 'answers and has', 'answer and have')} no leader: {verb(names, 'it is', 'they are')} "
+        raise Settling(f"{clause(names, 'answers and has', 'answer and have')} no leader: {verb(names, 'it is', 'they are')} "
                        "cut off from the others, or all are electing one")
 
 
 def refuse_without_quorum(view, cluster):
     voters, up = view.voters, view.answering_voters()
-    if view.has_quorum():
+    if len(up) >= view.majority():
         return
     heard = [member for member in view.silent_voters() if view.heard_by(member)]
     if len(up) + len(heard) >= view.majority():
         names, urls = [member.label for member in heard], dict.fromkeys(url for member in heard for url in cluster.clients_of(member))
-        raise Settling(f"{listed(names)} {verb(names, 'does', 'do')} not answer at {' or '.join(urls)}, but others hear from {verb(names, 'it', 'them')}, "
+        raise Settling(f"{clause(names, 'does', 'do')} not answer at {' or '.join(urls)}, but others hear from {verb(names, 'it', 'them')}, "
                        f"so a majority is up. Give the URLs at which {verb(names, 'it answers', 'they answer')} (--client-url NAME=URL, or --endpoints)")
     raise Stop(f"{len(up)} of {len(voters)} voters answer, and {view.majority()} are a majority, so no change of members "
                "can be made. Bring servers back, or restore a snapshot (ETCD.md, 'If quorum is lost'; --client-url NAME=URL if one is reached elsewhere)")

@@ -2,12 +2,12 @@
 import sys
 
 from . import output, table
-from .carrying import Carrying, Options
+from .carrying import Carrying
 from .deciding import Mode
 from .dry_run import calls
 from .lock import Lock
 from .output import note, paragraph, say
-from .reasons import Halted, Settling, Stop, listed, verb, wait
+from .reasons import Halted, Settling, Stop, clause, listed, wait
 from .record import Record
 from .refusals import refuse_alarms, refuse_cut_off, refuse_silent, refuse_without_quorum
 
@@ -78,7 +78,7 @@ class Run:
             self.record.keep(kept, task.view)
         mode = Mode(self.program)
         try:
-            Carrying(self.cluster, task, Options(self.options.start, self.options.limit, self.options.peer_proxy), lock, mode).take_all()
+            Carrying(self.cluster, task, self.options, lock, mode).take_all()
             self.show_end(task, wait(self.options.limit, self.cluster.look))
         except Stop as reason:
             raise Halted(str(reason)) from None
@@ -114,7 +114,7 @@ class Run:
         note(f"done: the voters are {listed(member.label for member in view.voters)}")
         silent = [member.label for member in view.silent_voters()]
         if silent:
-            note(f"{listed(silent)} {verb(silent, 'does', 'do')} not answer: {table.tolerance(view)}")
+            note(f"{clause(silent, 'does', 'do')} not answer: {table.tolerance(view)}")
         before, after = ([url for member in it.members for url in self.cluster.clients_of(member)] for it in (task.view, view))
         if sorted(before) != sorted(after):
             say(f"Give your clients the new endpoints: {','.join(after)}")

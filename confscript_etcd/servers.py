@@ -109,9 +109,5 @@ def find(text, members):
             continue
     found = [member for member in members if member.name == text or member.id in ids]
     if len(found) > 1:
-        raise Stop(f"{text} may be {listed_ids(found)}: name it by an id that is only its own")
+        raise Stop(f"{text} may be {' or '.join(f'{member.id:x}' for member in found)}: name it by an id that is only its own")
     return found[0] if found else None
-
-
-def listed_ids(members):
-    return " or ".join(f"{member.id:x}" for member in members)

@@ -5,7 +5,7 @@ import time
 
 from . import table
 from .output import complain, now, paragraph, say
-from .reasons import Leaderless, NotYet, listed, verb
+from .reasons import Leaderless, NotYet, clause, listed, verb
 
 # The exit statuses beside 0 and those of all commands: writes are taken and something is amiss, and writes are not taken.
 DEGRADED, WITHOUT_QUORUM = 4, 5
@@ -97,7 +97,7 @@ class Report:
                 paragraph(f"{member.label} answers and has no leader: it is cut off from the others.")
             elif hearers:
                 urls = " or ".join(self.cluster.clients_of(member))
-                paragraph(f"{member.label} does not answer at {urls}, but {listed(hearers)} {verb(hearers, 'hears', 'hear')} from it: it is up. "
+                paragraph(f"{member.label} does not answer at {urls}, but {clause(hearers, 'hears', 'hear')} from it: it is up. "
                           f"If it is reached elsewhere: {self.cluster.client_hint(member)}")
             elif not view.answers(member) and member.has_started and not member.is_learner:
                 failed.append(member.label)

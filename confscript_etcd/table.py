@@ -1,6 +1,7 @@
 """How a plan and the members of a cluster are shown."""
 from .output import paragraph
-from .reasons import listed, verb
+from .plan import majority
+from .reasons import clause, listed, verb
 
 
 def lines_of(rows):
@@ -12,11 +13,6 @@ def lines_of(rows):
 
 def mark(id, configuration):
     return "V" if id in configuration.voters else "L" if id in configuration.learners else "."
-
-
-def majority(configuration):
-    count = len(configuration.voters)
-    return f"{count // 2 + 1} of {count}"
 
 
 def number(count):
@@ -32,11 +28,11 @@ def plan_lines(task):
 
     def row(label, configuration, may_be_down, besides):
         marks = " ".join(mark(id, configuration).rjust(len(name)) for id, name in columns.items())
-        return [label, marks, majority(configuration), number(may_be_down), *([number(besides)] if down else [])]
+        return [label, marks, f"{majority(configuration.voters)} of {len(configuration.voters)}", number(may_be_down), *([number(besides)] if down else [])]
 
     rows = [["step", " ".join(columns.values()), "majority", "may be down", *([f"besides {','.join(task.names(down))}"] if down else [])],
             row("now", now, now.spare(frozenset()), now.spare(down))]
-    rows += [row(f"{at} {step_text(task, step)}", step.after, step.may_be_down, step.besides) for at, step in enumerate(task.steps, 1)]
+    rows += [row(f"{at} {step_text(task, step)}", step.after, step.may_be_down, step.may_be_down_besides) for at, step in enumerate(task.steps, 1)]
     return lines_of(rows)
 
 
@@ -54,7 +50,7 @@ def notes(task):
     for at, step in enumerate(task.steps, 1):
         if step.call.adds():
             yield f"Start {task.new[step.id].name} after step {at}, not before, with an empty data directory."
-    lowest = min((step.besides if step.besides is not None else step.may_be_down for step in task.steps), default=None)
+    lowest = min((step.may_be_down_besides if step.may_be_down_besides is not None else step.may_be_down for step in task.steps), default=None)
     if task.steps and not lowest:
         yield "Where the last column is 0, one more failure stops all writes until a server is back."
 
@@ -83,7 +79,7 @@ def count(view):
     """How many voters are up."""
     answering, up = view.answering_voters(), view.voters_up()
     others = [member.label for member in up if member not in answering]
-    heard = f", and {listed(others)} {verb(others, 'is', 'are')} heard from by others" if others else ""
+    heard = f", and {clause(others, 'is', 'are')} heard from by others" if others else ""
     return f"{len(answering)} of {len(view.voters)} {verb(view.voters, 'voter answers', 'voters answer')} (majority: {view.majority()}){heard}."
 
 

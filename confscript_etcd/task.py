@@ -29,9 +29,7 @@ class Task(NamedTuple):
 
     def configuration(self, members):
         """The voters and learners of a list of members, by their numbers."""
-        return Configuration(
-            frozenset(self.number_of(member) for member in members if not member.is_learner),
-            frozenset(self.number_of(member) for member in members if member.is_learner))
+        return configuration_of(members, self.number_of)
 
     def name(self, number):
         """How a server is shown. One that has the name of a member is the new one."""
@@ -66,8 +64,6 @@ class Task(NamedTuple):
         return [member for member in view.silent_voters() if member.id not in self.failed and not self.is_pending(member)]
 
 
-def configuration_of(members):
-    """The voters and the learners by the ids that etcd gave them."""
-    return Configuration(
-        frozenset(member.id for member in members if not member.is_learner),
-        frozenset(member.id for member in members if member.is_learner))
+def configuration_of(members, number_of=lambda member: member.id):
+    """The voters and the learners of a list of members, by the ids that etcd gave them or by other numbers."""
+    return Configuration(*(frozenset(number_of(member) for member in members if member.is_learner == role) for role in (False, True)))

@@ -1,6 +1,7 @@
 """A cluster as it is seen at one moment: its members, who answers, who leads, and who hears from whom."""
 from typing import Dict, NamedTuple, Optional, Tuple
 
+from .plan import majority
 from .servers import Member
 
 
@@ -65,7 +66,4 @@ class View(NamedTuple):
         return sorted({status.version for status in self.statuses.values() if not status.version.startswith(TESTED_VERSIONS)})
 
     def majority(self):
-        return len(self.voters) // 2 + 1
-
-    def has_quorum(self):
-        return len(self.answering_voters()) >= self.majority()
+        return majority(self.voters)

@@ -52,8 +52,8 @@ func isSameAnswer(a, b answer) bool {
 
 // isSameStage says whether a stage of the library has what a line of a plan has.
 func isSameStage(a, b planLine) bool {
-	return fmt.Sprint(a.ConfChange, a.CatchUp, a.MayBeDown) == fmt.Sprint(b.ConfChange, b.CatchUp, b.MayBeDown) && isSame(a.ConfState, b.ConfState) &&
-		reflect.DeepEqual(a.UntilThen, b.UntilThen) && (len(b.Down) == 0 || reflect.DeepEqual(a.Besides, b.Besides))
+	return fmt.Sprint(a.ConfChange, a.CatchingUp, a.MayBeDown) == fmt.Sprint(b.ConfChange, b.CatchingUp, b.MayBeDown) && isSame(a.ConfState, b.ConfState) &&
+		reflect.DeepEqual(a.WhileCatchingUp, b.WhileCatchingUp) && (len(b.Down) == 0 || reflect.DeepEqual(a.MayBeDownBesides, b.MayBeDownBesides))
 }
 
 // nextOfLibrary asks the library what to do next.
@@ -111,7 +111,7 @@ func toLine(stage library.Stage) planLine {
 			Voters: stage.ConfState.Voters, VotersOutgoing: stage.ConfState.VotersOutgoing, Learners: stage.ConfState.Learners,
 			LearnersNext: stage.ConfState.LearnersNext, AutoLeave: stage.ConfState.AutoLeave,
 		},
-		CatchUp: stage.CatchUp, MayBeDown: int(*stage.MayBeDown), UntilThen: number(stage.UntilThen), Besides: number(stage.MayBeDownBesides),
+		CatchingUp: stage.CatchingUp, MayBeDown: int(*stage.MayBeDown), WhileCatchingUp: number(stage.WhileCatchingUp), MayBeDownBesides: number(stage.MayBeDownBesides),
 	}
 	line.ConfChange.Transition = pb.ConfChangeTransition(stage.ConfChange.Transition)
 	for _, single := range stage.ConfChange.Changes {

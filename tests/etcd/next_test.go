@@ -191,7 +191,7 @@ func brokenProposal(t *testing.T, planner *planner, s *situation, stage planLine
 		return "those that are up are no quorum"
 	case tolerance(after, s.up) < tolerance(s.ConfState, s.up) && tolerance(after, s.up) < tolerance(s.Target, without(voterIDs(s.Target), s.Down)):
 		return "fewer may fail"
-	case len(without(after.Voters, s.voters, s.ConfState.Learners)) > 0 || len(both(s.votersAfter, stage.CatchUp)) > 0:
+	case len(without(after.Voters, s.voters, s.ConfState.Learners)) > 0 || len(both(s.votersAfter, stage.CatchingUp)) > 0:
 		return "a new voter was no learner"
 	case !holds(s.leaderAfter, s.Lead) && len(without(both(s.voters, s.leaderAfter), s.Down)) > 0:
 		return "the leader leaves"

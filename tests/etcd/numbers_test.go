@@ -27,15 +27,15 @@ func TestNumbers(t *testing.T) {
 			t.Run(fmt.Sprint(strategy, " ", i), func(t *testing.T) {
 				stalls := !commits(t, p.now, down)
 				for _, line := range p.lines {
-					away := append(append([]uint64(nil), down...), line.CatchUp...)
-					does := commits(t, line.ConfState, away)
+					late := append(append([]uint64(nil), down...), line.CatchingUp...)
+					does := commits(t, line.ConfState, late)
 					stalls = stalls || !does
 					compareNumbers(t, line, down)
 					if len(without(down, line.Down)) != 0 || len(without(line.Down, down)) != 0 || !ascend(line.Down) {
 						t.Errorf("%v are down, and the line has %v", down, line.Down)
 					}
-					if (line.Besides != nil) != does {
-						t.Errorf("without %v this commits: %v\n%s", away, does, describe(line.ConfState))
+					if (line.MayBeDownBesides != nil) != does {
+						t.Errorf("without %v this commits: %v\n%s", late, does, describe(line.ConfState))
 					}
 				}
 				if stalls {
@@ -65,20 +65,20 @@ func list(ids []uint64) string {
 // those that are down, with what trying each set of voters gives.
 func compareNumbers(t *testing.T, line planLine, down []uint64) {
 	for _, number := range []struct {
-		name      string
-		value     *int
-		uncounted []uint64
+		name  string
+		value *int
+		down  []uint64
 	}{
 		{"may_be_down", &line.MayBeDown, nil},
-		{"until_then", line.UntilThen, line.CatchUp},
-		{"may_be_down_besides", line.Besides, append(append([]uint64(nil), down...), line.CatchUp...)},
+		{"until_then", line.WhileCatchingUp, line.CatchingUp},
+		{"may_be_down_besides", line.MayBeDownBesides, append(append([]uint64(nil), down...), line.CatchingUp...)},
 	} {
 		value := -1
 		if number.value != nil {
 			value = *number.value
 		}
-		if k := mayBeDown(line.ConfState, number.uncounted); k != value {
-			t.Errorf("%s is %d instead of %d without %v in\n%s", number.name, value, k, number.uncounted, describe(line.ConfState))
+		if k := mayBeDown(line.ConfState, number.down); k != value {
+			t.Errorf("%s is %d instead of %d without %v in\n%s", number.name, value, k, number.down, describe(line.ConfState))
 		}
 	}
 }
@@ -95,9 +95,9 @@ func voters(state pb.ConfState) quorum.JointConfig {
 	return pair
 }
 
-// mayBeDown returns the greatest k such that, whichever k voters are down beside those that do not count, the others
+// mayBeDown returns the greatest k such that, whichever k voters are down beside these, the others
 // win a vote; -1 if they do not even with none down.
-func mayBeDown(state pb.ConfState, uncounted []uint64) int {
+func mayBeDown(state pb.ConfState, down []uint64) int {
 	pair := voters(state)
 	ids := pair.IDs()
 	var all []uint64
@@ -108,7 +108,7 @@ func mayBeDown(state pb.ConfState, uncounted []uint64) int {
 	for set := uint(0); set < 1<<len(all); set++ {
 		yes := map[uint64]bool{}
 		for i, id := range all {
-			yes[id] = set&(1<<i) == 0 && !holds(uncounted, id)
+			yes[id] = set&(1<<i) == 0 && !holds(down, id)
 		}
 		if pair.VoteResult(yes) != quorum.VoteWon && bits.OnesCount(set) < least {
 			least = bits.OnesCount(set)
@@ -118,20 +118,20 @@ func mayBeDown(state pb.ConfState, uncounted []uint64) int {
 }
 
 // commits says whether a cluster with this configuration commits an entry once some members are cut off.
-func commits(t *testing.T, state pb.ConfState, away []uint64) bool {
+func commits(t *testing.T, state pb.ConfState, down []uint64) bool {
 	for _, id := range append(append([]uint64(nil), state.Voters...), state.VotersOutgoing...) {
-		if !holds(away, id) {
-			return commitsUnder(t, state, id, away)
+		if !holds(down, id) {
+			return commitsUnder(t, state, id, down)
 		}
 	}
 	return false // no voter is left to lead
 }
 
 // commitsUnder makes a member leader, cuts the others off, and proposes an entry.
-func commitsUnder(t *testing.T, state pb.ConfState, leader uint64, away []uint64) bool {
+func commitsUnder(t *testing.T, state pb.ConfState, leader uint64, down []uint64) bool {
 	state.AutoLeave = false // else etcd leaves the configuration at once
 	c := newCluster(t, state, leader)
-	for _, id := range away {
+	for _, id := range down {
 		delete(c.members, id)
 	}
 	if err := c.leading().raw.Propose([]byte("entry")); err != nil {

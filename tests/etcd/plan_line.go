@@ -15,18 +15,18 @@ var strategies = []string{"shortest", "learners-first", "one-at-a-time"}
 
 // A planLine is a line of `plan --output json`: a step, an empty plan, or a pair without a plan.
 type planLine struct {
-	CatchUp    []uint64        `json:"catch_up"`
-	ConfChange pb.ConfChangeV2 `json:"conf_change"`
-	ConfState  pb.ConfState    `json:"conf_state"`
-	Down       []uint64        `json:"down"` // of --down, ascending
-	MayBeDown  int             `json:"may_be_down"`
-	Besides    *int            `json:"may_be_down_besides"` // with --down; null if it stalls
-	NoPlan     string          `json:"no_plan"`
-	Plan       int             `json:"plan"`
-	Stalls     bool            `json:"stalls"` // with --down
-	Step       int             `json:"step"`
-	Steps      int             `json:"steps"`
-	UntilThen  *int            `json:"until_then"` // null if it stalls
+	CatchingUp       []uint64        `json:"catch_up"`
+	ConfChange       pb.ConfChangeV2 `json:"conf_change"`
+	ConfState        pb.ConfState    `json:"conf_state"`
+	Down             []uint64        `json:"down"` // of --down, ascending
+	MayBeDown        int             `json:"may_be_down"`
+	MayBeDownBesides *int            `json:"may_be_down_besides"` // with --down; null if it stalls
+	NoPlan           string          `json:"no_plan"`
+	Plan             int             `json:"plan"`
+	Stalls           bool            `json:"stalls"` // with --down
+	Step             int             `json:"step"`
+	Steps            int             `json:"steps"`
+	WhileCatchingUp  *int            `json:"until_then"` // null if it stalls
 }
 
 // A plan leads from one configuration to another.

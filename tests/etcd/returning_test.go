@@ -51,7 +51,7 @@ func replaceOne(t *testing.T, strategy string) (serving, cutOff *cluster) {
 	delete(serving.members, 3)
 	serving.elect(2)
 	for _, line := range p.lines {
-		serving.startMissing(pb.ConfState{Learners: line.CatchUp})
+		serving.startMissing(pb.ConfState{Learners: line.CatchingUp})
 		serving.propose(line.ConfChange)
 	}
 	if state := serving.leading().state; !isSame(state, p.target) {

@@ -91,12 +91,12 @@ func (p *plan) serve(t *testing.T, down []uint64, seed int64, seen map[string]in
 	before, allowedBefore := p.now, mayBeDown(p.now, down)
 	for _, line := range p.lines {
 		after := line.settled()
-		untilThen, allowed := line.mayBeDown(down != nil)
+		whileCatchingUp, allowed := line.mayBeDown(down != nil)
 		s.run(without(members(before), down))
 		s.catchUp(s.ids())
-		s.letBeDown(without(voterIDs(before, line.ConfState), down, line.CatchUp), least(allowedBefore, orZero(untilThen)))
-		if untilThen == nil {
-			s.start(without(line.CatchUp, down))
+		s.letBeDown(without(voterIDs(before, line.ConfState), down, line.CatchingUp), least(allowedBefore, orZero(whileCatchingUp)))
+		if whileCatchingUp == nil {
+			s.start(without(line.CatchingUp, down))
 		}
 		s.carryOut(line, before, seen)
 		s.stop(without(s.ids(), members(after)))
@@ -113,13 +113,13 @@ func (p *plan) serve(t *testing.T, down []uint64, seed int64, seen map[string]in
 	return s
 }
 
-// mayBeDown returns how many members may be down after the line's step, besides given ones if there are any: until
-// those that have to catch up have done so, or nil if the configuration stalls till then, and from then on.
-func (line planLine) mayBeDown(besides bool) (untilThen *int, then int) {
-	if besides {
-		return line.Besides, orZero(line.Besides)
+// mayBeDown returns how many members may be down after the line's step, besides given ones if there are any: while
+// members are catching up, or nil if the configuration stalls then, and from then on.
+func (line planLine) mayBeDown(areDown bool) (whileCatchingUp *int, then int) {
+	if areDown {
+		return line.MayBeDownBesides, orZero(line.MayBeDownBesides)
 	}
-	return line.UntilThen, line.MayBeDown
+	return line.WhileCatchingUp, line.MayBeDown
 }
 
 func orZero(number *int) int {
@@ -141,8 +141,8 @@ func least(a, b int) int {
 // proposed, since etcd 3.4 may panic then.
 func (s *service) carryOut(line planLine, before pb.ConfState, seen map[string]int) {
 	after := line.settled()
-	if fresh := without(members(line.ConfState), members(before)); len(without(fresh, line.CatchUp)) > 0 {
-		s.t.Fatalf("%v have to catch up too in\n%s", fresh, describe(line.ConfState))
+	if catchingUp := without(members(line.ConfState), members(before)); len(without(catchingUp, line.CatchingUp)) > 0 {
+		s.t.Fatalf("%v have to catch up too in\n%s", catchingUp, describe(line.ConfState))
 	}
 	if (before.AutoLeave || line.ConfState.AutoLeave) && !isMended {
 		s.pause()
@@ -159,7 +159,7 @@ func (s *service) carryOut(line planLine, before pb.ConfState, seen map[string]i
 		s.t.Fatalf("%v led from\n%s\nto\n%s\ninstead of\n%s", line.ConfChange, describe(before), describe(states...), describe(passed...))
 	}
 	s.compareStates(after)
-	if len(line.CatchUp) > 0 {
+	if len(line.CatchingUp) > 0 {
 		seen["members had to catch up"]++
 	}
 }

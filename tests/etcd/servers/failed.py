@@ -152,6 +152,7 @@ def learner_of_others():
         leader = wait_for("a server leads", cluster.leader)
         wait_for("a learner is added", lambda: cluster.etcdctl_at(leader, "member", "add", "n4", "--learner", f"--peer-urls={new.peer}"))
         cluster["n3"].kill()
+        cluster.wait_until_missed(cluster["n3"])
         output = succeeds(cluster, "remove", "n3", "--yes", "--limit", "60")
         holds(f"the learner is not waited for:\n{output}", "waiting" not in output and "starting" not in output)
         cluster.check_end("n1 n2 +n4")

@@ -1,4 +1,4 @@
-"""What the operator wants of the members, and the task that fulfils it."""
+"""What the operator asks for, and the task that carries it out."""
 from typing import NamedTuple, Optional
 
 from .plan import made_by, steps_of
@@ -17,7 +17,7 @@ class Pair(NamedTuple):
     known: Optional[Member]
 
 
-class Wish:
+class Request:
     """Which members leave, and which servers are voters then. It is filled server by server. `kept` has the ids of those
     that leave by the words that named them, for the record."""
 
@@ -82,7 +82,7 @@ class Wish:
         return [group for group in (first, *rest) if group]
 
     def task(self, program):
-        """The task that fulfils it, by the plans that the program makes."""
+        """The task that carries it out, by the plans that the program makes."""
         self.find_known()
         configuration, ids = configuration_of(self.view.members), {member.id for member in self.view.members}
         free = unused_numbers(ids, sum(pair.new is not None and pair.known is None for pair in self.pairs))
