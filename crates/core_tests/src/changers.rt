@@ -1,14 +1,14 @@
 //! Changes of a configuration.
-use crate::equal::{has_ids, is_same};
 use crate::sets::ids;
-use crate::shown::{Shown, is_shown};
-use crate::{appends, twice};
 use conf_change::{
     Change, Changer, Changes, Refused, Step, StepKind, TokenFault, Transition, read_changes, taken,
     union, write_refused, write_token_fault,
 };
 use quorum_sets::{InlineIds, MemberSet, NoMemory, TreeIds};
 use std::alloc::Global;
+use test_support::equal::{has_ids, is_same};
+use test_support::shown::{Shown, is_shown};
+use test_support::{appends, twice};
 
 // A call that changes a changer.
 #[derive(Clone, Copy)]

@@ -1,8 +1,4 @@
 //! Saved configurations, and copies of configurations and changers.
-use crate::equal::is_same;
-use crate::restoring::{read, restored};
-use crate::shown::{Shown, TEN, is_shown};
-use crate::{appends, twice};
 use conf_change::{
     AckFault, Changer, ConfState, ConfStateFault, Config, ConfigurationFault, Floor, Progress,
     RestoreFault, Violation, check, conf_state, described, read_configuration, valid_configuration,
@@ -10,6 +6,10 @@ use conf_change::{
 };
 use quorum_sets::{InlineIds, MemberSet, NoMemory, TreeIds};
 use std::alloc::Global;
+use test_support::equal::{is_same, is_same_state};
+use test_support::restoring::{read, restored};
+use test_support::shown::{Shown, TEN, is_shown};
+use test_support::{appends, twice};
 
 // A line, and what is printed of the changer that it restores.
 static RESTORED: [(&str, Shown); 3] = [
@@ -47,7 +47,7 @@ fn is_cloned<S: MemberSet>(config: &Config<S>) -> bool {
 // Whether a configuration is copied and saved again as it was.
 fn is_saved<S: MemberSet>(alloc: Global, config: &Config<S>, state: &ConfState) -> bool {
     let saves = match twice!(NoMemory, conf_state(alloc, config)) {
-        Ok(saved) => saved == *state,
+        Ok(saved) => is_same_state(&saved, state),
         Err(_) => false,
     };
     saves & is_cloned(config) & check(config).is_ok()
@@ -201,7 +201,7 @@ fn refuses_lines_of_no_configuration(rt: HostRuntime) {
 fn acknowledges<S: MemberSet>(changer: &mut Changer<S>) -> bool {
     let acked = changer.ack(3, 7);
     let again = changer.ack(3, 6);
-    let stranger = changer.ack(9, u64::MAX);
+    let not_a_member = changer.ack(9, u64::MAX);
     let greatest = changer.ack(3, u64::MAX);
     let progress = Progress {
         matched: 7,
@@ -210,7 +210,7 @@ fn acknowledges<S: MemberSet>(changer: &mut Changer<S>) -> bool {
     };
     (acked == Ok(progress))
         & (again == Ok(progress))
-        & (stranger == Err(AckFault::NotMember))
+        & (not_a_member == Err(AckFault::NotMember))
         & (greatest == Err(AckFault::IndexTooLarge))
         & (changer.tracker().progress(3) == Some(progress))
         & (changer.floor() == Floor::Zero)

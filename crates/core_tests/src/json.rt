@@ -1,10 +1,11 @@
 //! The JSON of saved configurations and of proposed changes.
-use crate::restoring::{FIVE, changer_at, read};
-use crate::twice;
 use conf_change::{Change, Changes, ConfState, Config, Kind, Step};
 use quorum_sets::{InlineIds, MemberSet, NoMemory, TreeIds};
-use raft_json::{JsonFault, conf_change_value, conf_state_value, read_saved_json};
+use raft_json::{JsonFault, conf_change_value, conf_state_value, json_in, saved_of};
 use std::alloc::Global;
+use test_support::equal::is_same_state;
+use test_support::restoring::{FIVE, changer_at, read};
+use test_support::twice;
 
 const JOINT: &str =
     "Voters:[2 3 4] VotersOutgoing:[1 2 3] Learners:[5] LearnersNext:[1] AutoLeave:true";
@@ -107,12 +108,16 @@ static PROPOSED: [(&[Change], &str); 2] = [
 ];
 
 fn read_json(alloc: Global, json: &[u8]) -> Result<ConfState, JsonFault> {
-    twice!(JsonFault::NoMemory, read_saved_json(alloc, json))
+    match twice!(NoMemory, json_in(alloc, json)) {
+        Ok(Some(value)) => twice!(JsonFault::NoMemory, saved_of(alloc, &value)),
+        Ok(None) => Err(JsonFault::BadJson),
+        Err(_) => Err(JsonFault::NoMemory),
+    }
 }
 
 fn is_read(alloc: Global, json: &str, line: &str) -> bool {
     match (read_json(alloc, json.as_bytes()), read(alloc, line)) {
-        (Ok(actual), Ok(state)) => actual == state,
+        (Ok(actual), Ok(state)) => is_same_state(&actual, &state),
         _ => false,
     }
 }

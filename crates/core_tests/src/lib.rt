@@ -8,24 +8,18 @@
 //! its arguments as its contract states, and then a second call returns the right result. The tests in `ample` are run
 //! once: those of calls that do not allocate, and those that stop if memory runs out.
 //!
-//! What the tests of these crates share is in `appending`, `equal`, `restoring`, `runtime`, `shown` and `twice`.
+//! What the tests of these crates share is in the crate `test_support`.
 #![tactic(auto)]
 
 #[cfg(test)]
 mod ample;
-pub mod appending;
 #[cfg(test)]
 mod changers;
 #[cfg(test)]
 mod conf_states;
-pub mod equal;
 #[cfg(test)]
 mod json;
-pub mod restoring;
-pub mod runtime;
 #[cfg(test)]
 mod sets;
-pub mod shown;
 #[cfg(test)]
 mod texts;
-mod twice;

@@ -1,6 +1,4 @@
 //! Sets of ids, and the committed indexes and votes of sets of voters.
-use crate::equal::has_ids;
-use crate::{appends, twice};
 use quorum_sets::{
     InlineIds, MemberSet, NoMemory, TreeIds, VoteResult, add_ids, chart, committed, common_member,
     is_quorum, joint_chart, joint_committed, joint_vote, list_of, symdiff, vote,
@@ -8,6 +6,8 @@ use quorum_sets::{
 use smallvec::SmallVec;
 use std::alloc::Global;
 use std::collections::BTreeMap;
+use test_support::equal::has_ids;
+use test_support::{appends, twice};
 
 fn with_ids<S: MemberSet>(alloc: Global, ids: &[u64]) -> Result<S, NoMemory> {
     let mut set = S::empty(alloc);

@@ -1,10 +1,10 @@
 //! Appending to texts, and reading changes.
-use crate::{appends, twice};
 use ascii_text::append::append_number;
 use conf_change::Kind::{Learner, Remove, Update, Voter};
 use conf_change::{Change, TokenFault, read_changes, read_changes_into};
 use quorum_sets::NoMemory;
 use std::alloc::Global;
+use test_support::{appends, twice};
 
 static NUMBERS: [(u64, &str); 4] = [
     (0, "0"),

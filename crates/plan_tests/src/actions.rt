@@ -5,11 +5,11 @@ ghost use Rattle.conf_change.specs.Configuration.{is_valid};
 use conf_change::{Config, Step, check};
 use conf_driver::{Action, MemberView, NextFault, StuckReason, View, WaitReason, next};
 use conf_plan::{Strategy, changes_text, command_text};
-use core_tests::equal::has_ids;
-use core_tests::restoring::changer_at;
-use core_tests::twice;
 use quorum_sets::{InlineIds, MemberSet, NoMemory};
 use std::alloc::Global;
+use test_support::equal::has_ids;
+use test_support::restoring::changer_at;
+use test_support::twice;
 
 // What is expected.
 #[derive(Clone, Copy)]

@@ -4,11 +4,11 @@ ghost use Rattle.conf_change.specs.Configuration.{is_valid};
 
 use conf_change::{Changer, Config, Refused, Step, check};
 use conf_plan::{NoPath, Path, Strategy, catching_up, plan_by, print_path};
-use core_tests::equal::has_ids;
-use core_tests::restoring::{FIVE, changer_at};
-use core_tests::{appends, twice};
 use quorum_sets::{InlineIds, MemberSet, NoMemory, TreeIds};
 use std::alloc::Global;
+use test_support::equal::has_ids;
+use test_support::restoring::{FIVE, changer_at};
+use test_support::{appends, twice};
 
 // A path by a strategy: its text, and the ids that have to catch up after each step.
 type Expected = (Strategy, &'static str, &'static [&'static [u64]]);

@@ -3,12 +3,10 @@ ghost use Rattle.std.specs.Prelude.{◌≡◌, true, IfOk};
 ghost use Rattle.conf_change.specs.Configuration.{is_valid};
 
 use conf_change::{Config, Violation};
-use core_tests::twice;
-use plan_input::{
-    IdHint, ShortToken, TextFault, is_member_list, read_current, read_target, stranger_of,
-};
-use quorum_sets::{InlineIds, MemberSet, NoMemory, TreeIds};
+use plan_input::{IdHint, ShortToken, TextFault, first_nonmember, read_current, read_target};
+use quorum_sets::{InlineIds, MemberSet, NoMemory};
 use std::alloc::Global;
+use test_support::twice;
 
 // A configuration in its forms.
 static SIMPLE: [&str; 6] = [
@@ -173,13 +171,17 @@ static BARE: [(&str, &str); 2] = [
     ("r1 18446744073709551616", "18446744073709551616"),
 ];
 
-fn current<S: MemberSet>(alloc: Global, text: &str) -> Result<Config<S>, TextFault>
+fn current(alloc: Global, text: &str) -> Result<Config<InlineIds>, TextFault>
     ensures { IfOk result (λ c. is_valid c ≡ true) }
 {
-    twice!(TextFault::NoMemory, read_current(alloc, text.as_bytes()))
+    Ok(twice!(TextFault::NoMemory, read_current(alloc, text.as_bytes()))?.config)
 }
 
-fn target<S: MemberSet>(alloc: Global, now: &Config<S>, text: &str) -> Result<Config<S>, TextFault>
+fn target(
+    alloc: Global,
+    now: &Config<InlineIds>,
+    text: &str,
+) -> Result<Config<InlineIds>, TextFault>
     requires { is_valid now.now ≡ true }
 {
     twice!(
@@ -189,7 +191,12 @@ fn target<S: MemberSet>(alloc: Global, now: &Config<S>, text: &str) -> Result<Co
 }
 
 // Whether the target that a text denotes is this configuration.
-fn is_target<S: MemberSet>(alloc: Global, now: &Config<S>, text: &str, expected: &Config<S>) -> bool
+fn is_target(
+    alloc: Global,
+    now: &Config<InlineIds>,
+    text: &str,
+    expected: &Config<InlineIds>,
+) -> bool
     requires { is_valid now.now ≡ true }
 {
     match target(alloc, now, text) {
@@ -199,8 +206,8 @@ fn is_target<S: MemberSet>(alloc: Global, now: &Config<S>, text: &str, expected:
 }
 
 // Whether two texts denote the same configuration, as the current one and as the target.
-fn is_same<S: MemberSet>(alloc: Global, text: &str, other: &str) -> bool {
-    match (current::<S>(alloc, text), current::<S>(alloc, other)) {
+fn is_same(alloc: Global, text: &str, other: &str) -> bool {
+    match (current(alloc, text), current(alloc, other)) {
         (Ok(config), Ok(others)) => {
             config.same(&others) & is_target(alloc, &config, other, &config)
         }
@@ -209,16 +216,16 @@ fn is_same<S: MemberSet>(alloc: Global, text: &str, other: &str) -> bool {
 }
 
 // Whether changes make this target of the current configuration.
-fn changes_to<S: MemberSet>(alloc: Global, now: &str, changes: &str, expected: &str) -> bool {
-    match (current::<S>(alloc, now), current::<S>(alloc, expected)) {
+fn changes_to(alloc: Global, now: &str, changes: &str, expected: &str) -> bool {
+    match (current(alloc, now), current(alloc, expected)) {
         (Ok(now), Ok(expected)) => is_target(alloc, &now, changes, &expected),
         _ => false,
     }
 }
 
 // Whether a text is refused as the target of this configuration.
-fn is_no_target_of<S: MemberSet>(alloc: Global, now: &str, text: &str, fault: TextFault) -> bool {
-    match current::<S>(alloc, now) {
+fn is_no_target_of(alloc: Global, now: &str, text: &str, fault: TextFault) -> bool {
+    match current(alloc, now) {
         Ok(now) => target(alloc, &now, text).err() == Some(fault),
         Err(_) => false,
     }
@@ -226,12 +233,12 @@ fn is_no_target_of<S: MemberSet>(alloc: Global, now: &str, text: &str, fault: Te
 
 // Whether a text is refused as the target of a single voter.
 fn is_no_target(alloc: Global, text: &str, fault: TextFault) -> bool {
-    is_no_target_of::<InlineIds>(alloc, "voters=(1)", text, fault)
+    is_no_target_of(alloc, "voters=(1)", text, fault)
 }
 
 // Whether a text is refused as the current configuration.
 fn is_no_current(alloc: Global, text: &str, fault: TextFault) -> bool {
-    current::<InlineIds>(alloc, text).err() == Some(fault)
+    current(alloc, text).err() == Some(fault)
 }
 
 #[test]
@@ -239,8 +246,7 @@ fn reads_each_form(rt: HostRuntime) {
     for texts in [&SIMPLE[..], &JOINT[..], &EMPTY[..]] {
         for text in texts {
             assert!(rt;
-                is_same::<InlineIds>(rt.alloc(), texts[0], *text)
-                    & is_same::<TreeIds>(rt.alloc(), *text, texts[0]),
+                is_same(rt.alloc(), texts[0], *text) & is_same(rt.alloc(), *text, texts[0]),
                 "{}",
                 *text
             );
@@ -252,8 +258,7 @@ fn reads_each_form(rt: HostRuntime) {
 fn reads_changes_as_the_target(rt: HostRuntime) {
     for (now, changes, expected) in &CHANGED {
         assert!(rt;
-            changes_to::<InlineIds>(rt.alloc(), *now, *changes, *expected)
-                & changes_to::<TreeIds>(rt.alloc(), *now, *changes, *expected),
+            changes_to(rt.alloc(), *now, *changes, *expected),
             "{}",
             *changes
         );
@@ -264,8 +269,7 @@ fn reads_changes_as_the_target(rt: HostRuntime) {
 fn refuses_changes(rt: HostRuntime) {
     for (now, changes, fault) in &REFUSED_CHANGES {
         assert!(rt;
-            is_no_target_of::<InlineIds>(rt.alloc(), *now, *changes, *fault)
-                & is_no_target_of::<TreeIds>(rt.alloc(), *now, *changes, *fault),
+            is_no_target_of(rt.alloc(), *now, *changes, *fault),
             "{}",
             *changes
         );
@@ -302,28 +306,35 @@ fn refuses_other_texts(rt: HostRuntime) {
 }
 
 // Texts, and whether they are lists of members.
-static LISTS: [(&str, bool); 9] = [
+static LISTS: [(&str, bool); 6] = [
     ("{\"members\":[{\"ID\":1}]}", true),
-    (" {\"header\":{},\"members\":null}\n", true),
-    ("{\"voters\":[1],\"members\":1}", true),
+    (" {\"header\":{},\"members\":[]}\n", true),
+    ("{\"voters\":[1],\"members\":[]}", true),
     ("{\"voters\":[1]}", false),
-    ("{\"header\":{\"members\":[]}}", false),
-    ("{\"members\":[]", false),
-    ("[\"members\"]", false),
+    (
+        "Voters:[1] VotersOutgoing:[] Learners:[] LearnersNext:[] AutoLeave:false",
+        false,
+    ),
     ("voters=(1)", false),
-    ("", false),
 ];
 
 #[test]
 fn finds_lists_of_members(rt: HostRuntime) {
     for (text, expected) in &LISTS {
-        let is = twice!(NoMemory, is_member_list(rt.alloc(), text.as_bytes()));
-        assert!(rt; is == Ok(*expected), "{}", *text);
+        let current = twice!(
+            TextFault::NoMemory,
+            read_current(rt.alloc(), text.as_bytes())
+        );
+        assert!(rt;
+            current.is_ok_and(|current| current.is_member_list == *expected),
+            "{}",
+            *text
+        );
     }
 }
 
 // The ids that are down, two configurations, and the least of the ids that is a member of neither.
-static STRANGERS: [(&[u64], &str, &str, Option<u64>); 6] = [
+static NONMEMBERS: [(&[u64], &str, &str, Option<u64>); 6] = [
     (&[], "voters=(1)", "voters=(2)", None),
     (&[2, 1], "voters=(1)", "voters=(2)", None),
     (&[9, 7, 1], "voters=(1)", "voters=(2)", Some(7)),
@@ -342,17 +353,17 @@ static STRANGERS: [(&[u64], &str, &str, Option<u64>); 6] = [
     ),
 ];
 
-// Whether this is the stranger among the ids that are down.
-fn is_stranger<S: MemberSet>(
+// Whether this is the least of the ids that are down and members of neither configuration.
+fn has_nonmember(
     alloc: Global,
     down: &[u64],
     now: &str,
     target: &str,
     expected: Option<u64>,
 ) -> bool {
-    match (current::<S>(alloc, now), current::<S>(alloc, target)) {
-        (Ok(now), Ok(target)) => match twice!(NoMemory, S::of_list(alloc, down)) {
-            Ok(down) => stranger_of(Some(&down), &now, &target) == expected,
+    match (current(alloc, now), current(alloc, target)) {
+        (Ok(now), Ok(target)) => match twice!(NoMemory, InlineIds::of_list(alloc, down)) {
+            Ok(down) => first_nonmember(Some(&down), &now, &target) == expected,
             Err(_) => false,
         },
         _ => false,
@@ -360,11 +371,10 @@ fn is_stranger<S: MemberSet>(
 }
 
 #[test]
-fn finds_strangers(rt: HostRuntime) {
-    for (down, now, target, expected) in &STRANGERS {
+fn finds_nonmembers(rt: HostRuntime) {
+    for (down, now, target, expected) in &NONMEMBERS {
         assert!(rt;
-            is_stranger::<InlineIds>(rt.alloc(), *down, *now, *target, *expected)
-                & is_stranger::<TreeIds>(rt.alloc(), *down, *now, *target, *expected),
+            has_nonmember(rt.alloc(), *down, *now, *target, *expected),
             "{}",
             *target
         );

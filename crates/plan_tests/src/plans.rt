@@ -8,11 +8,12 @@ use conf_plan::{
     Path, Plan, PlanFault, PlanTextFault, StepRefused, Strategy, apply_plan, changes_text,
     command_text, plan, print_path, print_plan, read_path, read_plan,
 };
-use core_tests::restoring::changer_at;
-use core_tests::shown::{Shown, TEN, is_shown};
-use core_tests::{appends, twice};
 use quorum_sets::{InlineIds, MemberSet, NoMemory, TreeIds};
 use std::alloc::Global;
+use test_support::equal::has_steps;
+use test_support::restoring::changer_at;
+use test_support::shown::{Shown, TEN, is_shown};
+use test_support::{appends, twice};
 
 // A changer's configuration, the indexes that its members acknowledge, the target, the plan's text, and what is printed
 // before its first step and after each.
@@ -172,15 +173,6 @@ fn plan_of(alloc: Global, text: &str) -> Result<Plan, PlanTextFault> {
     twice!(PlanTextFault::NoMemory, read_plan(alloc, text.as_bytes()))
 }
 
-// Whether a path has the steps of a plan.
-fn has_steps(path: &Path, expected: &Plan) -> bool {
-    let mut is_so = path.len() == expected.len();
-    for index in 0..path.len() {
-        is_so &= path.step(index) == expected.step(index);
-    }
-    is_so
-}
-
 // Whether this is the plan from one configuration to another, and the shortest path has its steps.
 fn is_planned<S: MemberSet>(
     alloc: Global,
@@ -195,7 +187,10 @@ fn is_planned<S: MemberSet>(
     let none_down = S::empty(alloc);
     let path = path_of(alloc, Strategy::Shortest, now, target, &none_down);
     match (answer, path) {
-        (Ok(plan), Ok(path)) => (plan == *expected) & has_steps(&path, expected),
+        (Ok(plan), Ok(path)) => {
+            has_steps(plan.as_slice(), expected.as_slice())
+                & has_steps(path.as_slice(), expected.as_slice())
+        }
         _ => false,
     }
 }

@@ -5,11 +5,11 @@ ghost use Rattle.conf_change.specs.Configuration.{is_restorable};
 use crate::paths::{TWO_OF_FIVE, path_between};
 use conf_change::Config;
 use conf_plan::{Path, Strategy};
-use core_tests::restoring::{FIVE, changer_at};
-use core_tests::{appends, twice};
 use plan_output::{Output, add_no_plan_line, add_path, stalls};
-use quorum_sets::{InlineIds, MemberSet, NoMemory, TreeIds};
+use quorum_sets::{InlineIds, MemberSet, NoMemory};
 use std::alloc::Global;
+use test_support::restoring::{FIVE, changer_at};
+use test_support::{appends, twice};
 
 // The current configuration, the target, the strategy of the path, the ids that are down if there are any, the output
 // and its text, and whether the path stalls with these ids down.
@@ -287,12 +287,12 @@ static ROWS: [Row; 19] = [
 ];
 
 // Whether a path is printed as in its row, and stalls as in its row.
-fn is_printed<S: MemberSet>(
+fn is_printed(
     alloc: Global,
     row: &Row,
-    now: &Config<S>,
+    now: &Config<InlineIds>,
     path: &Path,
-    down: &S,
+    down: &InlineIds,
 ) -> bool
     requires { is_restorable now.now ≡ true }
 {
@@ -309,12 +309,12 @@ fn is_printed<S: MemberSet>(
     prints & (twice!(NoMemory, stalls(alloc, now, path, down)) == Ok(row.stalls))
 }
 
-fn is_row<S: MemberSet>(
+fn is_row(
     alloc: Global,
     row: &Row,
-    now: &Config<S>,
-    target: &Config<S>,
-    down: &S,
+    now: &Config<InlineIds>,
+    target: &Config<InlineIds>,
+    down: &InlineIds,
 ) -> bool
     requires { is_restorable now.now ≡ true }
 {
@@ -324,10 +324,10 @@ fn is_row<S: MemberSet>(
     }
 }
 
-fn is_row_over<S: MemberSet>(alloc: Global, row: &Row) -> bool {
-    let now = changer_at::<S>(alloc, row.now);
-    let target = changer_at::<S>(alloc, row.target);
-    match twice!(NoMemory, S::of_list(alloc, row.down)) {
+fn is_row_over(alloc: Global, row: &Row) -> bool {
+    let now = changer_at::<InlineIds>(alloc, row.now);
+    let target = changer_at::<InlineIds>(alloc, row.target);
+    match twice!(NoMemory, InlineIds::of_list(alloc, row.down)) {
         Ok(down) => is_row(
             alloc,
             row,
@@ -350,10 +350,7 @@ fn is_no_plan_line(alloc: Global, number: u64, why: &str, expected: &str) -> boo
 #[test]
 fn prints_paths(rt: HostRuntime) {
     for (index, row) in ROWS.iter().enumerate() {
-        assert!(rt;
-            is_row_over::<TreeIds>(rt.alloc(), row) & is_row_over::<InlineIds>(rt.alloc(), row),
-            "row {index}"
-        );
+        assert!(rt; is_row_over(rt.alloc(), row), "row {index}");
     }
 }
 

@@ -1,11 +1,11 @@
 //! The notes that paths stall.
 use crate::paths::{TWO_OF_FIVE, path_between};
 use conf_plan::Strategy;
-use core_tests::restoring::{FIVE, changer_at};
-use core_tests::twice;
 use plan_output::stall_note;
-use quorum_sets::{InlineIds, MemberSet, NoMemory, TreeIds};
+use quorum_sets::{InlineIds, MemberSet, NoMemory};
 use std::alloc::Global;
+use test_support::restoring::{FIVE, changer_at};
+use test_support::twice;
 
 // The current configuration, the target, the ids that are down, and the note of the shortest path, if it stalls.
 type Row = (
@@ -61,13 +61,13 @@ fn is_note(note: Option<&Vec<u8>>, expected: Option<&str>) -> bool {
     }
 }
 
-fn has_note<S: MemberSet>(alloc: Global, row: &Row) -> bool {
+fn has_note(alloc: Global, row: &Row) -> bool {
     let (now, target, down, expected) = row;
-    let current = changer_at::<S>(alloc, now);
-    let wanted = changer_at::<S>(alloc, target);
+    let current = changer_at::<InlineIds>(alloc, now);
+    let wanted = changer_at::<InlineIds>(alloc, target);
     let now = current.tracker().config();
     let target = wanted.tracker().config();
-    let Ok(down) = twice!(NoMemory, S::of_list(alloc, down)) else {
+    let Ok(down) = twice!(NoMemory, InlineIds::of_list(alloc, down)) else {
         return false;
     };
     let Some(path) = path_between(alloc, Strategy::Shortest, now, target, &down) else {
@@ -82,9 +82,6 @@ fn has_note<S: MemberSet>(alloc: Global, row: &Row) -> bool {
 #[test]
 fn notes_that_paths_stall(rt: HostRuntime) {
     for (index, row) in ROWS.iter().enumerate() {
-        assert!(rt;
-            has_note::<TreeIds>(rt.alloc(), row) & has_note::<InlineIds>(rt.alloc(), row),
-            "row {index}"
-        );
+        assert!(rt; has_note(rt.alloc(), row), "row {index}");
     }
 }

@@ -1,7 +1,6 @@
 //! Script files: their lines and items, and items that are rewritten.
 use crate::matching::Matching;
-use core_tests::twice;
-use dd_file::device::{FromRead, Source, ToWrite};
+use dd_file::device::{FromRead, ToWrite};
 use dd_file::fault::FileFault;
 use dd_file::item::Item;
 use dd_file::line::Line;
@@ -9,6 +8,7 @@ use dd_file::lines::Lines;
 use dd_file::reader::Reader;
 use dd_file::rewriter::Rewriter;
 use std::alloc::{AllocError, Global};
+use test_support::twice;
 
 // A script; each line of this literal is an item.
 const SCRIPT: &[u8] = b"# c\n\
@@ -29,22 +29,6 @@ static ITEMS: [(&[u8], &[u8]); 5] = [
     (b"simple\nv2\n----\na\n", b""),
 ];
 
-// The next item: a buffered one, or one that is read.
-fn next_item<R: Source>(reader: &mut Reader, source: &mut R) -> Result<Option<Item>, FileFault> {
-    match reader.next_buffered(source) {
-        Some(answer) => answer,
-        None => reader.next(source),
-    }
-}
-
-// The next line: a buffered one, or one that is read.
-fn next_line<R: Source>(lines: &mut Lines, source: &mut R) -> Result<Option<Line>, FileFault> {
-    match lines.next_buffered(source) {
-        Some(answer) => answer,
-        None => lines.next(source),
-    }
-}
-
 // Whether an item is rewritten as this text. The actual output is `a`, followed by a blank line if `is_double`. This
 // does not allocate.
 fn is_written(item: &Item, is_double: bool, text: &'static [u8]) -> bool {
@@ -52,12 +36,12 @@ fn is_written(item: &Item, is_double: bool, text: &'static [u8]) -> bool {
     let mut rewriter = Rewriter::new();
     let mut is_kept = rewriter.keep(&mut writer, item).is_ok();
     if let Item::Directive(_) = item {
-        let written = if is_double {
-            rewriter.found(&mut writer, b"a\n\n")
+        let actual = if is_double {
+            b"a\n\n".as_slice()
         } else {
-            rewriter.found_without_blanks(&mut writer, b"a\n")
+            b"a\n"
         };
-        is_kept &= written.is_ok();
+        is_kept &= rewriter.found(&mut writer, actual).is_ok();
     }
     is_kept & rewriter.end(&mut writer).is_ok() & writer.into_inner().is_whole()
 }
@@ -77,7 +61,7 @@ fn gives_items(reader: &mut Reader) -> (bool, bool) {
     let mut is_so = true;
     let mut has_memory = true;
     for (text, expected) in &ITEMS {
-        match next_item(reader, &mut source) {
+        match reader.next(&mut source) {
             Ok(Some(item)) => {
                 is_so &= has_memory & is_item(&item, *text, *expected);
                 reader.reuse(item);
@@ -86,7 +70,7 @@ fn gives_items(reader: &mut Reader) -> (bool, bool) {
             _ => is_so = false,
         }
     }
-    match next_item(reader, &mut source) {
+    match reader.next(&mut source) {
         Ok(None) => is_so &= has_memory,
         Err(FileFault::NoMemory) => has_memory = false,
         _ => is_so = false,
@@ -120,13 +104,13 @@ fn gives_lines(lines: &mut Lines) -> (bool, bool) {
     let mut is_so = true;
     let mut has_memory = true;
     for text in &LINES {
-        match next_line(lines, &mut source) {
+        match lines.next(&mut source) {
             Ok(Some(line)) => is_so &= has_memory & (line.as_slice() == *text),
             Err(FileFault::NoMemory) => has_memory = false,
             _ => is_so = false,
         }
     }
-    match next_line(lines, &mut source) {
+    match lines.next(&mut source) {
         Ok(None) => is_so &= has_memory,
         Err(FileFault::NoMemory) => has_memory = false,
         _ => is_so = false,

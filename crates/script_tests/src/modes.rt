@@ -12,12 +12,12 @@ use conf_tool::{
     Mode, Options, Origin, Output, PairArguments, PlanInputFault, PlanOptions, PlanOutput, Status,
     ToolFault,
 };
-use core_tests::twice;
 use dd_file::blocks::Blocks;
 use dd_file::device::{FromRead, Sink, Source, ToWrite};
 use plan_input::{IdHint, TextFault};
 use quorum_sets::{MemberSet, NoMemory};
 use std::alloc::{AllocError, Global};
+use test_support::twice;
 
 const CHANGES: &[u8] = b"v1\nv2\nl3\nr1\nr2\n";
 

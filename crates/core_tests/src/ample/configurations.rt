@@ -1,8 +1,8 @@
 //! Configurations, valid and broken ones.
 use crate::ample::sets_and_quorums::set_of;
-use crate::runtime::Runtime;
 use conf_change::{Config, Invariant, Violation, check, first_violation};
 use quorum_sets::TreeIds;
+use test_support::runtime::Runtime;
 
 /// The incoming voters, the outgoing voters, the learners and the next learners.
 pub(crate) type Sets = [&'static [u64]; 4];

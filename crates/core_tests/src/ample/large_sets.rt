@@ -1,9 +1,9 @@
 //! Sets of 8, 9 and 10,000 ids, in both representations, and lists of 10,000 changes.
 ghost use Rattle.std.specs.Prelude.{◌≤◌, ◌<◌};
 
-use crate::runtime::Runtime;
 use conf_change::{Change, Changer, Kind, Progress, Refused};
 use quorum_sets::{InlineIds, MemberSet, TreeIds, symdiff};
+use test_support::runtime::Runtime;
 
 // The even numbers from 2 to twice the count, inserted out of order: no count that is used has the factor 7919.
 fn evens<S: MemberSet>(rt: &impl Runtime, count: u64) -> S

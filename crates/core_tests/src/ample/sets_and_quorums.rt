@@ -1,11 +1,11 @@
 //! Sets of ids, and test vectors of majorities, quorums and lookups.
-use crate::runtime::Runtime;
 use crate::sets::with_acks;
 use quorum_sets::{
     AckSource, MemberSet, TreeIds, commits_without, common_member, contains_from, is_quorum,
     may_be_down, quorum,
 };
 use std::collections::BTreeMap;
+use test_support::runtime::Runtime;
 
 pub(crate) fn set_of(rt: &impl Runtime, ids: &[u64]) -> TreeIds {
     TreeIds::of_list(rt.alloc(), ids).expect(rt, "a set")

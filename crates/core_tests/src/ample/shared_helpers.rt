@@ -1,12 +1,12 @@
 //! The helpers that tests share answer no where things differ.
 use crate::ample::sets_and_quorums::set_of;
-use crate::appending::{begun, is_appended, is_begun};
-use crate::equal::{has_ids, is_same};
-use crate::restoring::{FIVE, changer_at, read, restored};
-use crate::runtime::Runtime;
-use crate::shown::{Shown, is_shown};
-use conf_change::{Changer, Floor};
+use conf_change::{Change, Changer, Changes, Floor, Kind, Step};
 use quorum_sets::TreeIds;
+use test_support::appending::{begun, is_appended, is_begun};
+use test_support::equal::{has_ids, has_steps, is_same};
+use test_support::restoring::{FIVE, changer_at, read, restored};
+use test_support::runtime::Runtime;
+use test_support::shown::{Shown, is_shown};
 
 #[test]
 fn texts_differ(rt: HostRuntime) {
@@ -88,5 +88,23 @@ fn printed_changers_differ(rt: HostRuntime) {
     assert!(rt; is_shown(rt.alloc(), &changer, ("voters=(1 2 3 4 5)", MEMBERS)));
     for (index, other) in OTHERS.iter().enumerate() {
         assert!(rt; !is_shown(rt.alloc(), &changer, *other), "{index}");
+    }
+}
+
+fn simple(rt: &impl Runtime, kind: Kind, id: u64) -> Step {
+    let changes = [Change { kind, id }].to_vec(rt.alloc());
+    Step::Simple(Changes::from(changes.expect(rt, "a list")))
+}
+
+#[test]
+fn lists_of_steps_differ(rt: HostRuntime) {
+    let steps = [simple(&rt, Kind::Voter, 1), Step::LeaveJoint];
+    let equal = [simple(&rt, Kind::Voter, 1), Step::LeaveJoint];
+    let others = [simple(&rt, Kind::Voter, 2), Step::LeaveJoint];
+    let kinds = [simple(&rt, Kind::Learner, 1), Step::LeaveJoint];
+    let order = [Step::LeaveJoint, simple(&rt, Kind::Voter, 1)];
+    assert!(rt; has_steps(&steps, &equal) && has_steps(&[], &[]));
+    for other in [&others[..], &kinds, &order, &equal[..1], &[]] {
+        assert!(rt; !has_steps(&steps, other));
     }
 }

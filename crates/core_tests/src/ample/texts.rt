@@ -1,7 +1,7 @@
 //! Changes that are parsed from tokens.
-use crate::runtime::Runtime;
 use conf_change::Kind::Learner;
 use conf_change::{Change, TokenFault, read_change, read_changes_into};
+use test_support::runtime::Runtime;
 
 // Whether a text is refused for this reason, and leaves a list empty that had two changes.
 fn is_left_empty(rt: &impl Runtime, text: &'static [u8], fault: TokenFault<'_>) -> bool {

@@ -6,8 +6,8 @@ ghost use Rattle.conf_change.specs.Configuration.{is_valid};
 use crate::ample::configurations::config_of;
 use conf_change::{Change, Changer, Config, Kind, Step, StepKind, check, conf_state};
 use conf_plan::{NoPath, Path, Strategy, plan_by};
-use core_tests::runtime::Runtime;
 use quorum_sets::{MemberSet, TreeIds};
+use test_support::runtime::Runtime;
 
 // Each configuration has a code below this: a digit for the roles of each id.
 const CODES: usize = 216;

@@ -5,8 +5,8 @@ ghost use Rattle.conf_change.specs.Configuration.{is_valid};
 use crate::ample::configurations::{Sets, config_of, set_of};
 use conf_change::{Config, check};
 use conf_plan::{Path, Strategy, plan_by, print_path};
-use core_tests::runtime::Runtime;
 use quorum_sets::TreeIds;
+use test_support::runtime::Runtime;
 
 // A strategy, a configuration, a target, the ids that are down, the lines of the path, and those of one change each.
 type Row = (

@@ -1,10 +1,10 @@
 //! The stages of a path.
 use crate::ample::configurations::{Sets, config_of, set_of};
-use conf_change::{Changer, conf_state};
+use conf_change::{Changer, Config, conf_state};
 use conf_plan::{Strategy, plan_by};
-use core_tests::runtime::Runtime;
 use plan_output::{Stage, stages};
-use quorum_sets::{TreeIds, symdiff};
+use quorum_sets::{InlineIds, symdiff};
+use test_support::runtime::Runtime;
 
 // The configuration of a stage, who has to catch up, how many ids may be down, how many until then, and how many besides
 // 3.
@@ -29,7 +29,7 @@ static ROWS: [Row; 3] = [
     (TARGET, &[], Some(1), Some(1), Some(0)),
 ];
 
-fn is_stage(rt: &impl Runtime, stage: &Stage<TreeIds>, row: &Row) -> bool {
+fn is_stage(rt: &impl Runtime, stage: &Stage, row: &Row) -> bool {
     let (sets, catching_up, may_be_down, while_catching_up, besides) = row;
     stage.config().same(&config_of(rt, *sets, false))
         & (symdiff(stage.catching_up(), &set_of(rt, *catching_up)) == 0)
@@ -38,8 +38,9 @@ fn is_stage(rt: &impl Runtime, stage: &Stage<TreeIds>, row: &Row) -> bool {
         & (stage.may_be_down_besides(&set_of(rt, &[3])) == Ok(*besides))
 }
 
-fn changer_at(rt: &impl Runtime, sets: Sets) -> Changer<TreeIds> {
-    let state = conf_state(rt.alloc(), &config_of(rt, sets, false)).expect(rt, "a ConfState");
+fn changer_at(rt: &impl Runtime, sets: Sets) -> Changer<InlineIds> {
+    let config: Config<InlineIds> = config_of(rt, sets, false);
+    let state = conf_state(rt.alloc(), &config).expect(rt, "a ConfState");
     Changer::restore(rt.alloc(), &state, 0).expect(rt, "a changer")
 }
 

@@ -3,10 +3,10 @@ ghost use Rattle.std.specs.Prelude.{◌≡◌, true, IfSome};
 ghost use Rattle.conf_change.specs.Configuration.{is_valid};
 
 use conf_change::Config;
-use core_tests::runtime::Runtime;
 use plan_input::{IdHint, read_current, read_target};
 use quorum_sets::InlineIds;
 use std::alloc::Global;
+use test_support::runtime::Runtime;
 
 const CHANGES: &str =
     "expected changes as r1 v4 l5, or a configuration as voters=(1 2 3), a ConfState line, or JSON";
@@ -130,7 +130,7 @@ static MESSAGES: [(&str, &str, &str, &str); 24] = [
 fn three(alloc: Global) -> Option<Config<InlineIds>>
     ensures { IfSome result (λ c. is_valid c ≡ true) }
 {
-    read_current(alloc, b"voters=(1 2 3)").ok()
+    Some(read_current(alloc, b"voters=(1 2 3)").ok()?.config)
 }
 
 // What is printed of the text as a target.

@@ -1,9 +1,9 @@
 //! Writing whole texts and whole blocks.
 use crate::ample::devices::{Stop, limited};
-use core_tests::runtime::Runtime;
 use dd_file::blocks::Blocks;
 use dd_file::device::Sink;
 use dd_file::writing::write_all;
+use test_support::runtime::Runtime;
 
 // Writes 42,000 bytes in parts, and returns whether an error was reported.
 fn write_parts<W: Sink>(writer: &mut W) -> bool {

@@ -4,8 +4,8 @@ use conf_plan::Strategy;
 use conf_session::SessionIds;
 use conf_tool::command_line::command_line;
 use conf_tool::{ArgumentFault, Mode, Output, PlanOutput};
-use core_tests::equal::has_ids;
-use core_tests::runtime::Runtime;
+use test_support::equal::has_ids;
+use test_support::runtime::Runtime;
 
 // Arguments that are accepted, and their mode, file and history.
 static ACCEPTED: [(&[&str], Mode, Option<&str>, usize); 12] = [

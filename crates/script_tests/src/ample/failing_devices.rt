@@ -2,10 +2,10 @@
 use crate::ample::devices::{Stop, byte_by_byte, limited};
 use crate::modes::{Case, MODES, PLANNED, run_and_flush_command, run_command};
 use conf_tool::{Status, ToolFault};
-use core_tests::runtime::Runtime;
 use dd_file::blocks::Blocks;
 use dd_file::device::{FromRead, Sink, Source, ToWrite};
 use std::alloc::Global;
+use test_support::runtime::Runtime;
 
 // The result of a run that fails, or that of its row.
 fn expected(case: Case, fails: bool, fault: ToolFault) -> Result<Status, ToolFault> {

@@ -6,11 +6,11 @@ use conf_change::{
 use conf_plan::{NoPath, PlanFault, PlanTextFault, StepRefused};
 use conf_session::UndoFault;
 use conf_tool::{Origin, PlanInputFault, ToolFault};
-use core_tests::runtime::Runtime;
 use dd_file::fault::{DeviceFault, FileFault, SyntaxFault, WriteFault};
 use plan_input::{IdHint, TextFault};
 use quorum_sets::NoMemory;
 use std::fmt::Display;
+use test_support::runtime::Runtime;
 
 fn shows<T: Display>(rt: &impl Runtime, value: &T, message: &str) -> bool {
     let shown = format!(in rt.alloc(); "{value}").expect(rt, "a message");
@@ -109,7 +109,7 @@ static ACKNOWLEDGED: [(AckFault, &str); 2] = [
     (AckFault::IndexTooLarge, "index too large"),
 ];
 
-static VIOLATIONS: [(Violation, &str); 7] = [
+static VIOLATIONS: [(Violation, &str); 6] = [
     (Violation::ListedTwice(3), "3 is listed twice"),
     (Violation::ZeroId, "0 is not an id"),
     (
@@ -123,10 +123,6 @@ static VIOLATIONS: [(Violation, &str); 7] = [
     (
         Violation::LearnerAndVoter(18446744073709551615),
         "18446744073709551615 is a voter and a learner",
-    ),
-    (
-        Violation::NotJointButNext(3),
-        "3 is a next learner without outgoing voters",
     ),
     (
         Violation::NotJointButAutoLeave,

@@ -1,11 +1,12 @@
 //! Lines that are read from inputs, items that are read from scripts, and items that are made.
 use crate::ample::devices::byte_by_byte;
-use core_tests::runtime::Runtime;
-use dd_file::device::{FromRead, Source};
+use dd_file::blocks::Blocks;
+use dd_file::device::{FromRead, Sink, Source, ToWrite};
 use dd_file::fault::FileFault;
 use dd_file::item::{Argument, Directive, Item};
 use dd_file::lines::Lines;
 use dd_file::reader::Reader;
+use test_support::runtime::Runtime;
 
 fn show(rt: &impl Runtime, shown: &mut Vec<u8>, bytes: &[u8]) {
     shown.extend_from_slice(bytes).expect(rt, "room");
@@ -17,6 +18,21 @@ fn show_line(rt: &impl Runtime, shown: &mut Vec<u8>, line: &[u8]) {
     show(rt, shown, b">");
 }
 
+// A writer that has a byte which is not flushed.
+fn unflushed(rt: &impl Runtime) -> Blocks<ToWrite<Vec<u8>>> {
+    let writer = ToWrite::new(Vec::new(rt.alloc()));
+    let mut blocks = Blocks::new(rt.alloc(), writer).expect(rt, "blocks");
+    blocks.write(b"r").expect(rt, "a byte");
+    blocks
+}
+
+// An h if the writer was not flushed.
+fn show_unflushed(rt: &impl Runtime, shown: &mut Vec<u8>, blocks: Blocks<ToWrite<Vec<u8>>>) {
+    if blocks.into_inner().into_inner().is_empty() {
+        show(rt, shown, b"h");
+    }
+}
+
 // The next line, with an h before it if it was buffered; nothing at the end.
 fn show_next_line<R: Source>(
     rt: &impl Runtime,
@@ -24,15 +40,12 @@ fn show_next_line<R: Source>(
     lines: &mut Lines,
     source: &mut R,
 ) {
-    let buffered = lines.next_buffered(source);
-    if buffered.is_some() {
-        show(rt, shown, b"h");
-    }
-    let answer = match buffered {
-        Some(answer) => answer,
-        None => lines.next(source),
-    };
+    let mut writer = unflushed(rt);
+    let answer = lines
+        .next_after_flush(source, &mut writer)
+        .expect(rt, "a flush");
     if let Some(line) = answer.expect(rt, "a line or the end") {
+        show_unflushed(rt, shown, writer);
         show_line(rt, shown, line.as_slice());
     }
 }
@@ -315,15 +328,12 @@ fn show_buffered_item<R: Source>(
     reader: &mut Reader,
     source: &mut R,
 ) -> Option<Item> {
-    let buffered = reader.next_buffered(source);
-    if buffered.is_some() {
-        show(rt, shown, b"h");
-    }
-    let answer = match buffered {
-        Some(answer) => answer,
-        None => reader.next(source),
-    };
+    let mut writer = unflushed(rt);
+    let answer = reader
+        .next_after_flush(source, &mut writer)
+        .expect(rt, "a flush");
     let item = answer.expect(rt, "an item or the end")?;
+    show_unflushed(rt, shown, writer);
     show_item(rt, shown, &item);
     Some(item)
 }

@@ -1,4 +1,6 @@
 //! Texts to which a call appends.
+ghost use Rattle.std.specs.Prelude.{◌≡◌, ◌++◌, codes, true};
+
 use crate::twice;
 use std::alloc::Global;
 
@@ -14,12 +16,16 @@ pub fn begun(alloc: Global) -> Vec<u8> {
 }
 
 /// Whether nothing has been appended to a text.
-pub fn is_begun(text: &[u8]) -> bool {
+pub fn is_begun(text: &[u8]) -> bool
+    ensures { result ≡ true → text.now ≡ codes "front " }
+{
     text == PREFIX
 }
 
 /// Whether this has been appended to a text.
-pub fn is_appended(text: &[u8], expected: &str) -> bool {
+pub fn is_appended(text: &[u8], expected: &str) -> bool
+    ensures { result ≡ true → text.now ≡ codes "front " ++ expected.now }
+{
     text.strip_prefix(PREFIX) == Some(expected.as_bytes())
 }
 
