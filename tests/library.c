@@ -569,7 +569,7 @@ static void restores(void) {
     GIVEN(0, 0, 0, 0, 0, 0);
     WRITES("restore: no members", restore, 0, 0, 0, 0, 0, 0);
     GIVEN(0, 1, 0, 0, 0, 2, UINT64_MAX, 9, 9);
-    WRITES("restore: the greatest id, and ids that began afresh before", restore, 0, 1, 0, 0, 0, 1, UINT64_MAX, UINT64_MAX);
+    WRITES("restore: the greatest id, and ids that were catching up before", restore, 0, 1, 0, 0, 0, 1, UINT64_MAX, UINT64_MAX);
     configuration_len = 0;
     REFUSED("restore: no numbers", restore, CONFSCRIPT_STATUS_DIFFERENT_LENGTHS, 0);
     GIVEN(0, 0, 0, 0, 0);
@@ -937,7 +937,7 @@ static void stage_rounds(void) {
         if (strategy == CONFSCRIPT_STRATEGY_ONE_AT_A_TIME && is_joint && i != k) { report(name, got.status == CONFSCRIPT_STATUS_JOINT_TARGET, got); continue; }
         memcpy(planned, numbers, sizeof planned);
         int do_lead = got.status == CONFSCRIPT_STATUS_DONE && stages_lead(planned);
-        configuration[CONFSCRIPT_PART_FRESH] = 0;
+        configuration[CONFSCRIPT_PART_CATCHING_UP] = 0;
         report(name, do_lead && memcmp(configuration, target, target_len * sizeof *target) == 0, got);
     }
     strategy = CONFSCRIPT_STRATEGY_SHORTEST;
@@ -1043,7 +1043,7 @@ static struct confscript_answer null_room_of_stages(void) {
     return confscript_stages(configuration, configuration_len, configuration, configuration_len, strategy, NULL, 0, NULL, 0);
 }
 static struct confscript_answer null_may_be_down(void) { return confscript_may_be_down(NULL, 0, NULL, 0, NULL, 0); }
-static struct confscript_answer null_uncounted(void) { return confscript_may_be_down(incoming, incoming_len, NULL, 0, NULL, 0); }
+static struct confscript_answer null_outgoing_and_down(void) { return confscript_may_be_down(incoming, incoming_len, NULL, 0, NULL, 0); }
 static struct confscript_answer null_status_text(void) { return confscript_status_text(code, NULL, 0); }
 
 static void null_pointers(void) {
@@ -1065,7 +1065,7 @@ static void null_pointers(void) {
     expect_numbers("NULL: stages with no ids down and no room", null_room_of_stages, ALWAYS, CONFSCRIPT_STATUS_TOO_SMALL, 2, NULL, 0);
     expect("NULL: may be down", null_may_be_down, CONFSCRIPT_STATUS_NO_QUORUM, 0, "");
     SET(incoming, 1, 2, 3);
-    expect("NULL: may be down with no outgoing voters", null_uncounted, CONFSCRIPT_STATUS_DONE, 1, "");
+    expect("NULL: may be down with no outgoing voters", null_outgoing_and_down, CONFSCRIPT_STATUS_DONE, 1, "");
     code = CONFSCRIPT_STATUS_DONE;
     expect("NULL: text of a status", null_status_text, CONFSCRIPT_STATUS_TOO_SMALL, 4, "");
 }

@@ -43,8 +43,8 @@ static confscript_answer stages(const numbers &configuration, const numbers &tar
                              down.data(), down.size(), out.data(), out.size());
 }
 
-static confscript_answer may_be_down(const numbers &incoming, const numbers &outgoing, const numbers &uncounted) {
-    return confscript_may_be_down(incoming.data(), incoming.size(), outgoing.data(), outgoing.size(), uncounted.data(), uncounted.size());
+static confscript_answer may_be_down(const numbers &incoming, const numbers &outgoing, const numbers &down) {
+    return confscript_may_be_down(incoming.data(), incoming.size(), outgoing.data(), outgoing.size(), down.data(), down.size());
 }
 
 int main() {
