@@ -164,10 +164,10 @@ enum confscript_vote_result {
 /*
  * A configuration in numbers is an array of uint64_t that begins with these six and continues with the ids that they
  * count, in the same order. The configuration (1 2)&&(1 2 3) learners_next=(3), left automatically, in which no member
- * begins afresh, is
+ * is catching up, is
  *     1, 2, 3, 0, 1, 0,  1, 2,  1, 2, 3,  3
- * A call accepts the ids of a list in any order, and writes them in ascending order. The ids that begin afresh belong to
- * the step that led to the configuration: a call that is passed it ignores them.
+ * A call accepts the ids of a list in any order, and writes them in ascending order. The ids that are catching up belong
+ * to the step that led to the configuration: a call that is passed it ignores them.
  */
 enum confscript_part {
     CONFSCRIPT_PART_AUTO_LEAVE = 0,    /* 1 if the joint configuration is left automatically, else 0 */
@@ -175,7 +175,7 @@ enum confscript_part {
     CONFSCRIPT_PART_OUTGOING = 2,      /* how many outgoing voters */
     CONFSCRIPT_PART_LEARNERS = 3,      /* how many learners */
     CONFSCRIPT_PART_LEARNERS_NEXT = 4, /* how many outgoing voters that become learners when it is left */
-    CONFSCRIPT_PART_FRESH = 5,         /* how many members that begin afresh: with match 0, and next at the last index */
+    CONFSCRIPT_PART_CATCHING_UP = 5,   /* how many members are catching up: with match 0, and next at the last index */
     CONFSCRIPT_PART_IDS = 6            /* the first id, if there is one */
 };
 
@@ -221,12 +221,12 @@ enum confscript_stages_part {
  * of each change, and the configuration as an array of enum confscript_part.
  */
 enum confscript_stage_part {
-    CONFSCRIPT_STAGE_TRANSITION = 0,        /* of the proposal: one of the first three of enum confscript_step_kind */
-    CONFSCRIPT_STAGE_MAY_BE_DOWN = 1,       /* how many ids may be down in the configuration, whichever they are */
-    CONFSCRIPT_STAGE_WHILE_CATCHING_UP = 2, /* how many until the members that begin afresh have caught up */
-    CONFSCRIPT_STAGE_BESIDES = 3,           /* how many besides those that are down, until then */
-    CONFSCRIPT_STAGE_CHANGES = 4,           /* how many changes the proposal has */
-    CONFSCRIPT_STAGE_FIRST_CHANGE = 5       /* an enum confscript_change_kind, and the id after it, if there is one */
+    CONFSCRIPT_STAGE_TRANSITION = 0,          /* of the proposal: one of the first three of enum confscript_step_kind */
+    CONFSCRIPT_STAGE_MAY_BE_DOWN = 1,         /* how many ids may be down in the configuration, whichever they are */
+    CONFSCRIPT_STAGE_WHILE_CATCHING_UP = 2,   /* how many while members are catching up */
+    CONFSCRIPT_STAGE_MAY_BE_DOWN_BESIDES = 3, /* how many besides those that are down, while members are catching up */
+    CONFSCRIPT_STAGE_CHANGES = 4,             /* how many changes the proposal has */
+    CONFSCRIPT_STAGE_FIRST_CHANGE = 5         /* an enum confscript_change_kind, and the id after it, if there is one */
 };
 
 /* In place of how many ids may be down: the voters that count are not a quorum even when all are up. */
@@ -304,15 +304,14 @@ struct confscript_answer {
 
 /*
  * What else a program asks of a configuration, and the call that answers it:
- * - Is the quorum lost? confscript_may_be_down returns CONFSCRIPT_STATUS_NO_QUORUM, with the ids that are down as
- *   `uncounted`.
+ * - Is the quorum lost? confscript_may_be_down returns CONFSCRIPT_STATUS_NO_QUORUM, with the ids that are down.
  * - Must a voter still acknowledge an index, or can that commit without it? It must if confscript_vote is
  *   CONFSCRIPT_VOTE_LOST, with CONFSCRIPT_BALLOT_YES for each other voter that has acknowledged it or can still do so,
  *   and CONFSCRIPT_BALLOT_NO for the rest.
  * - Does raft leave a joint configuration by itself? Then the number CONFSCRIPT_PART_AUTO_LEAVE of its array is 1.
  * - May an id be removed now? If confscript_step with CONFSCRIPT_CHANGE_REMOVE is done, and confscript_may_be_down too,
- *   for the configuration and for the one that the step wrote, with the ids that are down as `uncounted`. Its second
- *   number is how many more may be down afterwards. If one of the two has no quorum, nothing commits there.
+ *   for the configuration and for the one that the step wrote, with the ids that are down. Its second number is
+ *   how many more may be down afterwards. If one of the two has no quorum, nothing commits there.
  */
 
 /* The version of the library: 10,000 for each major one, 100 for each minor one, and the patch. */
@@ -401,15 +400,15 @@ struct confscript_answer confscript_vote(const uint8_t *incoming, size_t incomin
 
 /*
  * Checks a saved configuration in numbers (etcd's ConfState), and writes it to `out` with its ids in ascending order and
- * all members beginning afresh, as when a server restarts (etcd's confchange.Restore). The number is how many numbers
- * are written, at most CONFSCRIPT_RESTORE_ROOM(configuration_len).
+ * all members catching up, as when a server restarts (etcd's confchange.Restore). The number is how many numbers are
+ * written, at most CONFSCRIPT_RESTORE_ROOM(configuration_len).
  */
 struct confscript_answer confscript_restore(const uint64_t *configuration, size_t configuration_len, uint64_t *out,
                                             size_t out_len);
 
 /*
  * Applies changes to a configuration in numbers, as an enum confscript_step_kind says, and writes the configuration
- * after them to `out`. A member begins afresh if it was none before, or if a change removes it and it is added again,
+ * after them to `out`. A member is catching up if it was none before, or if a change removes it and it is added again,
  * unless it is an outgoing voter; the others keep their progress. The number is how many numbers are written, at most
  * CONFSCRIPT_STEP_ROOM(configuration_len, changes_len). The configuration is checked first, as by confscript_restore.
  */
@@ -422,9 +421,9 @@ struct confscript_answer confscript_step(const uint64_t *configuration, size_t c
  * of a step `simple` is a stage of its own. Both configurations are checked first, as by confscript_restore, and must
  * have an incoming voter. `down` is that of confscript_plan. The number is how many numbers are written.
  *
- * Propose a stage once the one before it is applied and its members that begin afresh have caught up. A joint
- * configuration that is left automatically is left by raft itself: the stage that leaves it is not proposed, but waited
- * for. With the transition and the changes of a stage, confscript_step writes the configuration of the stage.
+ * Propose a stage once the one before it is applied and its members have caught up. A joint configuration that is left
+ * automatically is left by raft itself: the stage that leaves it is not proposed, but waited for. With the transition
+ * and the changes of a stage, confscript_step writes the configuration of the stage.
  */
 struct confscript_answer confscript_stages(const uint64_t *configuration, size_t configuration_len,
                                            const uint64_t *target, size_t target_len, uint32_t strategy,
@@ -448,12 +447,12 @@ struct confscript_answer confscript_next(const uint64_t *configuration, size_t c
 
 /*
  * Returns how many ids may be down, whichever they are, while the other voters in `incoming`, and in `outgoing` if
- * there are any, are a quorum. The ids in `uncounted`, such as members whose logs are still empty, do not count for a
- * quorum, whether they are down or not. The number is the greatest such count. If there are no voters,
- * there is no quorum. An id that is listed twice counts once.
+ * there are any, are a quorum. The ids in `down`, which may also be members whose logs are still empty, do not count
+ * for a quorum. The number is the greatest such count. If there are no voters, there is no quorum. An id that is listed
+ * twice counts once.
  */
 struct confscript_answer confscript_may_be_down(const uint64_t *incoming, size_t incoming_len, const uint64_t *outgoing,
-                                                size_t outgoing_len, const uint64_t *uncounted, size_t uncounted_len);
+                                                size_t outgoing_len, const uint64_t *down, size_t down_len);
 
 #ifdef __cplusplus
 }

@@ -245,13 +245,13 @@ class Stage(NamedTuple):
 
     conf_change: ConfChangeV2
     conf_state: Configuration
-    # The members that begin afresh there, and have to catch up.
+    # The members that have to catch up there.
     catching_up: Tuple[int, ...]
     # How many ids may be down there, whichever they are.
     may_be_down: Optional[int]
-    # How many until the members have caught up; None if nothing commits until then.
-    until_then: Optional[int]
-    # How many besides those that are down already, until the members have caught up; None also if none are.
+    # How many while members are catching up; None if nothing commits then.
+    while_catching_up: Optional[int]
+    # How many besides those that are down already, while members are catching up; None also if none are.
     may_be_down_besides: Optional[int]
 
 
@@ -523,7 +523,7 @@ def _array(configuration: Configuration) -> List[SupportsIndex]:
 
 
 def _configuration(numbers: Iterator[int]) -> Tuple[Configuration, Tuple[int, ...]]:
-    """The configuration of an array that a call wrote, and the members that begin afresh in it."""
+    """The configuration of an array that a call wrote, and the members that are catching up in it."""
     auto_leave, *counts = _next(numbers, 6)
     voters, outgoing, learners, learners_next, catching_up = (_next(numbers, count) for count in counts)
     return Configuration(voters, outgoing, learners, learners_next, bool(auto_leave)), catching_up
@@ -535,7 +535,7 @@ def _next(numbers: Iterator[int], count: int) -> Tuple[int, ...]:
 
 
 def _configured(call: Callable[..., _Answer], configuration: Configuration, changes: int, *arguments: Any) -> Tuple[Configuration, Tuple[int, ...]]:
-    """The configuration that a call writes, for this number of changes, and the members that begin afresh in it.
+    """The configuration that a call writes, for this number of changes, and the members that are catching up in it.
 
     The buffer has the length of the macro CONFSCRIPT_STEP_ROOM of confscript.h.
     """
@@ -583,10 +583,10 @@ def stages(configuration: Configuration, target: Configuration, strategy: Strate
 def _stage(numbers: Iterator[int], are_down: bool) -> Stage:
     """The stage that comes next (enum confscript_stage_part)."""
     transition, *counts, change_count = _next(numbers, 5)
-    may_be_down, until_then, besides = (None if count == NO_QUORUM else count for count in counts)
+    may_be_down, while_catching_up, may_be_down_besides = (None if count == NO_QUORUM else count for count in counts)
     changes = tuple(ConfChangeSingle(ConfChangeType(next(numbers)), next(numbers)) for _ in range(change_count))
     change = ConfChangeV2(ConfChangeTransition(transition), changes)
-    return Stage(change, *_configuration(numbers), may_be_down, until_then, besides if are_down else None)
+    return Stage(change, *_configuration(numbers), may_be_down, while_catching_up, may_be_down_besides if are_down else None)
 
 
 def next_action(target: Configuration, view: View, strategy: Strategy, *, down: Iterable[int] = (), max_lag: int = 0) -> Action:
@@ -639,7 +639,7 @@ def _wait(reason: WaitReason, ids: Tuple[int, ...], view: View, max_lag: int) ->
 
 
 def apply_conf_change(configuration: Configuration, change: ConfChangeV2) -> Tuple[Configuration, Tuple[int, ...]]:
-    """Returns the configuration after a proposal, as raft applies it, and the members that begin afresh in it, as `step`."""
+    """Returns the configuration after a proposal, as raft applies it, and the members that are catching up in it, as `step`."""
     kind = StepKind(ConfChangeTransition(change.transition))
     return step(configuration, kind, [(ChangeKind(single.type), single.node_id) for single in change.changes])
 
@@ -698,7 +698,7 @@ def tally_votes(incoming: Iterable[Optional[bool]], outgoing: Iterable[Optional[
 
 
 def restore(configuration: Configuration) -> Tuple[Configuration, Tuple[int, ...]]:
-    """Checks a saved configuration, and returns it and all its members, which begin afresh.
+    """Checks a saved configuration, and returns it and all its members, which are catching up.
 
     So a server restores it when it restarts (etcd's confchange.Restore).
     """
@@ -708,7 +708,7 @@ def restore(configuration: Configuration) -> Tuple[Configuration, Tuple[int, ...
 def step(
     configuration: Configuration, kind: StepKind, changes: Iterable[Tuple[ChangeKind, int]] = ()
 ) -> Tuple[Configuration, Tuple[int, ...]]:
-    """Returns the configuration after one step, and the members that begin afresh in it; the others keep their progress.
+    """Returns the configuration after one step, and the members that are catching up in it; the others keep their progress.
 
     Each of `changes` is a pair of a ChangeKind and an id.
 
@@ -720,11 +720,11 @@ def step(
     return _configured(_library.confscript_step, configuration, len(checked), _uint(kind, 32), array, len(checked))
 
 
-def may_be_down(incoming: Iterable[int], outgoing: Iterable[int], uncounted: Iterable[int] = ()) -> Optional[int]:
+def may_be_down(incoming: Iterable[int], outgoing: Iterable[int], down: Iterable[int] = ()) -> Optional[int]:
     """Returns how many ids may be down, whichever they are, while the other voters are a quorum.
 
-    The uncounted ids do not count for the quorum. A voter that is named twice counts once. Returns None if the voters
+    Those in `down` do not count for the quorum. A voter that is named twice counts once. Returns None if the voters
     that count are not a quorum even when all are up, as if there are none.
     """
-    answer = _library.confscript_may_be_down(*_numbers(incoming), *_numbers(outgoing), *_numbers(uncounted))
+    answer = _library.confscript_may_be_down(*_numbers(incoming), *_numbers(outgoing), *_numbers(down))
     return None if answer.status == Status.NO_QUORUM else _number(answer)

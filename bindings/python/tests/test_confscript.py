@@ -141,7 +141,7 @@ class Calls(unittest.TestCase):
         plan = confscript.stages(Configuration([1]), Configuration([1, 2]), down=iter([2]))
         self.assertEqual((plan.stages[0].may_be_down, plan.stages[0].may_be_down_besides, plan.stalls), (0, None, True))
         stage = confscript.stages(Configuration([1]), Configuration([1, 2])).stages[0]
-        self.assertEqual((stage.may_be_down, stage.until_then, stage.catching_up), (0, None, (2,)))
+        self.assertEqual((stage.may_be_down, stage.while_catching_up, stage.catching_up), (0, None, (2,)))
 
     def test_stages_of_more_numbers_than_the_first_room(self):
         from confscript import Configuration

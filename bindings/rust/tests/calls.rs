@@ -253,7 +253,7 @@ fn stages_with_ids_down() {
     let plan = stages(options(&[2]), &voters(&[1]), &voters(&[1, 2])).unwrap();
     assert_eq!((plan.stages[0].may_be_down, plan.stages[0].may_be_down_besides, plan.stalls), (Some(0), None, true));
     let plan = stages(Options::default(), &voters(&[1]), &voters(&[1, 2])).unwrap();
-    assert_eq!((plan.stages[0].may_be_down, plan.stages[0].until_then, &plan.stages[0].catching_up), (Some(0), None, &vec![2]));
+    assert_eq!((plan.stages[0].may_be_down, plan.stages[0].while_catching_up, &plan.stages[0].catching_up), (Some(0), None, &vec![2]));
 }
 
 // A view in which the members have these indexes, those that are silent are not heard from, and 9 is committed.

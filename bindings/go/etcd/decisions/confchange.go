@@ -37,7 +37,7 @@ func (c Changer) LeaveJoint() (tracker.Config, tracker.ProgressMap, error) {
 	return c.after(confscript.LeaveJoint(stateByConfscript(c.Tracker.Config)))
 }
 
-// Restore returns the configuration of a ConfState, in which each member begins afresh. The changer must have an empty
+// Restore returns the configuration of a ConfState, in which each member is catching up. The changer must have an empty
 // configuration.
 func Restore(chg Changer, cs pb.ConfState) (tracker.Config, tracker.ProgressMap, error) {
 	return chg.after(confscript.Restore(confscript.ConfState{
@@ -45,15 +45,15 @@ func Restore(chg Changer, cs pb.ConfState) (tracker.Config, tracker.ProgressMap,
 	}))
 }
 
-// after returns the configuration and the progress after a change: the fresh members begin afresh, and the others keep
-// their progress.
-func (c Changer) after(next confscript.ConfState, fresh []uint64, err error) (tracker.Config, tracker.ProgressMap, error) {
+// after returns the configuration and the progress after a change: of the members that are catching up it is
+// new, and the others keep theirs.
+func (c Changer) after(next confscript.ConfState, catchingUp []uint64, err error) (tracker.Config, tracker.ProgressMap, error) {
 	if err != nil {
 		return tracker.Config{}, nil, err
 	}
 	cfg := configOf(next)
 	prs := tracker.ProgressMap{}
-	for _, id := range fresh {
+	for _, id := range catchingUp {
 		prs[id] = &tracker.Progress{
 			Next:      c.LastIndex,
 			Inflights: tracker.NewInflights(c.Tracker.MaxInflight),
