@@ -66,7 +66,6 @@ impl<D: Draft + Drop> Parts<D> {
 
     /// Does what `next` does for a program that replies to each part. If the part is not buffered, the writer is flushed
     /// before more is read, since the other side may wait for the replies. If that fails, nothing is read.
-    #[inline(always)]
     pub fn next_after_flush<R: Source, W: Sink>(
         &mut self,
         reader: &mut R,
@@ -106,6 +105,7 @@ impl<D: Draft + Drop> Parts<D> {
 /// The next part, which is read into a draft that has no line yet; `None` at the end and from then on. An error is
 /// permanent: later calls return it again, and read nothing. If the part is not buffered, the writer is flushed before
 /// more is read.
+#[inline(always)]
 fn next<D: Draft + Drop, R: Source, W: Sink>(
     draft: D,
     input: &mut Input,

@@ -80,6 +80,7 @@ pub(super) trait Handler<P> {
 }
 
 // Makes the reply to a part, and writes it.
+#[inline(always)]
 fn reply<P, M: Handler<P>, W: Sink>(
     mode: &mut M,
     part: &P,
