@@ -158,6 +158,7 @@ pub(crate) fn run(
         next,
         input,
         values,
+        ..
     } = buffers;
     run_command(text, session, next, row.command, input, values)
 }

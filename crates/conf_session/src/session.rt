@@ -25,9 +25,6 @@ use quorum_sets::NoMemory;
 use std::alloc::Global;
 use std::marker::Model;
 
-// How many bytes an output usually has at most.
-const USUAL_OUTPUT: usize = 512;
-
 /// A configuration with the progress of its members, on which directives act, and the configurations from before its
 /// last accepted changes. A session runs one script, as etcd's tests make one `Changer` for each script file.
 #[derive(Drop)]
@@ -127,7 +124,7 @@ impl Session {
         self.state.is_session();
         answer_keeps_session();
         actual_output_is_valid();
-        let mut actual = Vec::with_capacity(self.alloc, USUAL_OUTPUT)?;
+        let mut actual = self.buffers.take_output(self.alloc)?;
         let row = row_of(directive.command());
         let input = directive.input();
         let arguments = directive.arguments();
@@ -141,5 +138,12 @@ impl Session {
         )?;
         self.state.apply(update, &mut self.buffers.next);
         Ok(actual)
+    }
+
+    /// Takes back an output that is no longer used, so that a later one has its memory.
+    pub fn reuse(&mut self, output: Vec<u8>)
+        ensures { self.new ≡ self.old }
+    {
+        self.buffers.output = output;
     }
 }
