@@ -9,7 +9,7 @@ use Rattle.dd_file.specs.declared.fault.FileFault.{FileFault}
 use Rattle.dd_file.proofs.Offered.{appends-append, part-part, append-part, part-append}
 use Rattle.conf_tool.specs.Answered.{script, prepended, with_prefix, WrotePrefix}
 use Rattle.conf_tool.specs.Outputs.{Output, ends, output}
-use Rattle.conf_tool.specs.Run.{Answers, Wrote, Means, CanAnswer, IsStop, is_read_failure, is_write_failure, is_whole_output}
+use Rattle.conf_tool.specs.Run.{Wrote, Means, CanAnswer, IsStop, is_read_failure, is_write_failure, is_whole_output}
 use Rattle.conf_tool.specs.declared.mode.Mode.{Mode}
 use Rattle.conf_tool.specs.declared.tool_fault.ToolFault.{ToolFault}
 use Rattle.conf_tool.specs.declared.tool_fault.ToolFault.TheVariants.{Script as ScriptFault, Configurations, Read, Write, NoMemory}

@@ -1,7 +1,6 @@
 -- The mode `rewrite` between two items.
 use Rattle.std.proofs.Common.{◌≡◌, ℕ, ◌-◌, List, [], ◌∷◌, ◌++◌, length, take, drop, sym, ◌∙◌, ap, refl, arith, length-append}
 use Rattle.std.proofs.Math.Seq.{drop-append_seam}
-use Rattle.std.specs.Prelude.{Option}
 use Rattle.std.proofs.lemmas.List.{append-nil, take_all}
 use Rattle.ascii_text.specs.Lines.{without_last}
 use Rattle.dd_file.specs.Grammar.{Script}

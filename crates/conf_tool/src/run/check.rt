@@ -55,6 +55,7 @@ impl Checking {
         if differs {
             append_difference(text, directive, actual.as_slice())?;
         }
+        self.session.reuse(actual);
         self.counts.add(differs);
         Ok(())
     }
@@ -83,6 +84,7 @@ impl Handler<Item> for Checking {
     }
 
     // Replies with the report on the item, if its output differs.
+    #[inline(always)]
     fn answer(&mut self, item: &Item, text: &mut Vec<u8>) -> Result<(), ToolFault> {
         self.check_item(item, text)?;
         Ok(())

@@ -53,6 +53,7 @@ impl Handler<Line> for LineByLine {
     }
 
     // Replies to a line with the configuration after its change, or with the reason why the change is refused.
+    #[inline(always)]
     fn answer(&mut self, line: &Line, text: &mut Vec<u8>) -> Result<(), ToolFault> {
         answer_line(&mut self.config, &mut self.spare, line.as_slice(), text)?;
         Ok(())

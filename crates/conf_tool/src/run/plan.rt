@@ -170,6 +170,7 @@ impl Handler<Line> for Planning {
 
     // Keeps the current configuration, which is the first line of a pair, and replies to the second. Blank lines and
     // comments are skipped. A line with an error ends the run.
+    #[inline(always)]
     fn answer(&mut self, line: &Line, text: &mut Vec<u8>) -> Result<(), ToolFault> {
         self.lines += 1;
         if is_skipped(line.as_slice()) {

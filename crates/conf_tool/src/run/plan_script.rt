@@ -39,7 +39,7 @@ pub(crate) fn script_text(
     let mut text = Vec::new(alloc);
     let restore = restore_directive(alloc, now)?;
     append_note(alloc, session, note, &mut text)?;
-    rewrite_item(alloc, session, &restore, &mut text)?;
+    rewrite_item(session, &restore, &mut text)?;
     append_steps(alloc, session, path.as_slice(), &mut text)?;
     end_script(&mut text);
     Ok(text)

@@ -10,9 +10,8 @@
 //! ```
 //!
 //! A script with an error is printed up to the error.
-ghost use Rattle.std.specs.Prelude.{◌≡◌, ◌++◌, [], ◌∷◌, IfOk, OnOk, OnErr, false};
-ghost use Rattle.dd_file.specs.Rewritten.{has_blank_line};
-ghost use Rattle.conf_tool.specs.Reports.{actual_for, answered_text, session_after};
+ghost use Rattle.std.specs.Prelude.{◌≡◌, ◌++◌, [], ◌∷◌, OnOk};
+ghost use Rattle.conf_tool.specs.Reports.{answered_text, session_after};
 
 use super::clean_unless::clean_unless;
 use super::handler::{Handler, Outcome};
@@ -27,26 +26,8 @@ use dd_file::rewriter::{
 use quorum_sets::NoMemory;
 use std::alloc::Global;
 
-/// Runs an item if it is a directive, and returns its actual output. That of other items is empty, and they change
-/// nothing.
-pub(super) fn run_item(
-    alloc: Global,
-    session: &mut Session,
-    item: &Item,
-) -> Result<Vec<u8>, NoMemory>
-    ensures actual { IfOk result (λ actual. actual.items ≡ actual_for session.old item.now) }
-    ensures full { IfOk result (λ actual. has_blank_line actual.items ≡ false) }
-    ensures session { OnOk result (session.new ≡ session_after session.old item.now) }
-{
-    match item {
-        Item::Directive(directive) => session.step(directive),
-        _ => Ok(Vec::new(alloc)),
-    }
-}
-
-/// Runs an item, and appends it with its actual output.
+/// Runs an item if it is a directive, and appends it with its actual output. Other items have none, and change nothing.
 pub(super) fn rewrite_item(
-    alloc: Global,
     session: &mut Session,
     item: &Item,
     text: &mut Vec<u8>,
@@ -55,15 +36,19 @@ pub(super) fn rewrite_item(
     ensures text { OnOk result (text.new.items ≡ text.old.items
         ++ answered_text session.old (item.now ∷ [])) }
 {
-    let actual = run_item(alloc, session, item)?;
-    append_entry(text, item, actual.as_slice())
+    let Item::Directive(directive) = item else {
+        return append_entry(text, item, b"");
+    };
+    let actual = session.step(directive)?;
+    append_entry(text, item, actual.as_slice())?;
+    session.reuse(actual);
+    Ok(())
 }
 
 /// The state of the mode: the session that runs the directives, and how many newlines the text so far ends in, the last
 /// of which is pending.
 #[derive(Drop)]
 pub(super) struct Rewriting {
-    alloc: Global,
     session: Session,
     newlines: u8,
 }
@@ -86,7 +71,6 @@ impl Handler<Item> for Rewriting {
     // The mode begins with a new session.
     fn new(alloc: Global, options: Options) -> Result<Rewriting, ToolFault> {
         Ok(Rewriting {
-            alloc,
             session: Session::with_floor(alloc, options.history, options.floor)?,
             newlines: 0,
         })
@@ -94,10 +78,11 @@ impl Handler<Item> for Rewriting {
 
     // Replies with the item and its actual output. A newline at its end is dropped if the script ends in two newlines
     // there, so it is left to the next reply.
+    #[inline(always)]
     fn answer(&mut self, item: &Item, text: &mut Vec<u8>) -> Result<(), ToolFault> {
         text.extend_from_slice(pending_newline(self.newlines))?;
         let start = text.len();
-        rewrite_item(self.alloc, &mut self.session, item, text)?;
+        rewrite_item(&mut self.session, item, text)?;
         self.newlines = count_newlines(self.newlines, &text.as_slice()[start..]);
         hold_newline(text);
         Ok(())

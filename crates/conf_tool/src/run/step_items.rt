@@ -45,7 +45,7 @@ fn append_step(
         ≡ text.old.items ++ answered_text session.old (spec.step_directive step.now ∷ [])) }
 {
     let directive = step_directive(alloc, step)?;
-    rewrite_item(alloc, session, &directive, text)
+    rewrite_item(session, &directive, text)
 }
 
 /// Appends a comment with a text.
@@ -60,5 +60,5 @@ pub(super) fn append_comment(
         ≡ text.old.items ++ answered_text session.old (spec.comment why.now ∷ [])) }
 {
     let item = comment(alloc, why)?;
-    rewrite_item(alloc, session, &item, text)
+    rewrite_item(session, &item, text)
 }

@@ -21,7 +21,6 @@ ghost use Rattle.conf_tool.specs.Reports.{answered_text};
 ghost use Rattle.conf_tool.specs.UndoScript.{undo_items};
 
 use super::handler::{Handler, Outcome};
-use super::rewrite::run_item;
 use super::step_items::{append_comment, append_steps};
 use crate::options::Options;
 use crate::status::Status;
@@ -93,9 +92,13 @@ impl Handler<Item> for Undoing {
     }
 
     // Runs the item. Nothing of the first script is printed, and its expected outputs are ignored.
+    #[inline(always)]
     fn answer(&mut self, item: &Item, text: &mut Vec<u8>) -> Result<(), ToolFault> {
         let _ = &*text;
-        run_item(self.alloc, &mut self.session, item)?;
+        if let Item::Directive(directive) = item {
+            let actual = self.session.step(directive)?;
+            self.session.reuse(actual);
+        }
         Ok(())
     }
 

@@ -1,4 +1,4 @@
-use Rattle.std.proofs.Common.{◌≡◌, ◌∷◌, [], ◌++◌, List, ℕ, sym, ap, ◌∙◌, subst, arith}
+use Rattle.std.proofs.Common.{◌≡◌, ◌∷◌, [], ◌++◌, List, ℕ, sym, ap, ◌∙◌, arith}
 use Rattle.std.specs.Prelude.{Option, option_map}
 use Rattle.std.proofs.lemmas.List.{append_assoc}
 use Rattle.dd_file.specs.Rewritten.{without_double_end}
@@ -6,7 +6,7 @@ use Rattle.conf_session.specs.SessionState.{SessionState}
 use Rattle.conf_tool.specs.PlanScript.{note_items, script_items, restore_directive, script_text}
 use Rattle.conf_tool.specs.Reports.{session_after_all, answered_text}
 use Rattle.conf_tool.specs.UndoScript.{step_items}
-use Rattle.conf_tool.proofs.ModeOutput.AppendedItems.{Appended, appended-nothing, appended-more}
+use Rattle.conf_tool.proofs.ModeOutput.AppendedItems.{appended-nothing, appended-more}
 use Rattle.conf_tool.proofs.run.plan_script.script_text.Goals as goal
 
 -- a note changes no session
