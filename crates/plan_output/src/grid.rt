@@ -6,8 +6,7 @@
 //! ["1 simple v4", ""]            1 simple v4
 //! ```
 ghost use Rattle.std.specs.Prelude.{◌≡◌, ℕ, ◌<◌, ◌≤◌, ◌^◌, [], ◌∷◌, ◌++◌, length, flat_map, slice_index, IfOk, OnOk};
-ghost use Rattle.plan_output.specs.Grid as grid;
-ghost use Rattle.plan_output.specs.Grid.{cell, width, line_of_row, grid_text};
+ghost use Rattle.plan_output.specs.Grid.{cell, width, cells_text, line_of_row, grid_text};
 
 use ascii_text::append::{append, append_times};
 use ascii_text::white_space::without_trailing_space;
@@ -65,13 +64,13 @@ impl Row {
     }
 }
 
-/// Rows as lines. Each column is as wide as its widest cell, columns are two spaces apart, and no line has white space
-/// at its end (own).
-pub(crate) fn grid_text(alloc: Global, rows: &[Row]) -> Result<Vec<u8>, NoMemory>
-    ensures { IfOk result (λ text. text.items ≡ grid_text rows.now) }
+/// Appends rows as lines. Each column is as wide as its widest cell, columns are two spaces apart, and no line has white
+/// space at its end (own).
+pub(crate) fn append_grid(alloc: Global, text: &mut Vec<u8>, rows: &[Row]) -> Result<(), NoMemory>
+    ensures { OnOk result (text.new.items ≡ text.old.items ++ grid_text rows.now) }
 {
     let widths = widths(alloc, rows)?;
-    lines_text(alloc, rows, widths.as_slice())
+    append_lines(text, rows, widths.as_slice())
 }
 
 // The width of each column: that of its widest cell.
@@ -111,35 +110,43 @@ fn width(rows: &[Row], column: usize) -> usize
     width
 }
 
-// A line for each row, by the widths of the columns.
-fn lines_text(alloc: Global, rows: &[Row], widths: &[usize]) -> Result<Vec<u8>, NoMemory>
+// Appends a line for each row, by the widths of the columns.
+fn append_lines(text: &mut Vec<u8>, rows: &[Row], widths: &[usize]) -> Result<(), NoMemory>
     requires { (column : ℕ) → slice_index widths.now column < 2 ^ 63 }
-    ensures { IfOk result (λ text. text.items ≡ flat_map (line_of_row (slice_index widths.now))
-        rows.now) }
+    ensures { OnOk result (text.new.items
+        ≡ text.old.items ++ flat_map (line_of_row (slice_index widths.now)) rows.now) }
 {
-    let mut text = Vec::new(alloc);
     for row in rows {
-        let cells = cells_text(alloc, row, widths)?;
-        append(&mut text, without_trailing_space(cells.as_slice()))?;
-        append(&mut text, b"\n")?;
+        append_line(text, row, widths)?;
     }
-    Ok(text)
+    Ok(())
 }
 
-// The cells of a row, each padded with spaces to the width of its column and followed by two spaces. The caller cuts
-// off the spaces at the end.
-fn cells_text(alloc: Global, row: &Row, widths: &[usize]) -> Result<Vec<u8>, NoMemory>
+// Appends the line of a row: its cells, without the spaces at the end.
+fn append_line(text: &mut Vec<u8>, row: &Row, widths: &[usize]) -> Result<(), NoMemory>
     requires { (column : ℕ) → slice_index widths.now column < 2 ^ 63 }
-    ensures { IfOk result (λ text. text.items ≡ grid.cells_text (slice_index widths.now) 0
-        row.now) }
+    ensures { OnOk result (text.new.items
+        ≡ text.old.items ++ line_of_row (slice_index widths.now) row.now) }
 {
-    let mut text = Vec::new(alloc);
+    let start = text.len();
+    append_cells(text, row, widths)?;
+    let len = without_trailing_space(&text.as_slice()[start..]).len();
+    text.truncate(start + len);
+    append(text, b"\n")
+}
+
+// Appends the cells of a row, each padded with spaces to the width of its column and followed by two spaces.
+fn append_cells(text: &mut Vec<u8>, row: &Row, widths: &[usize]) -> Result<(), NoMemory>
+    requires { (column : ℕ) → slice_index widths.now column < 2 ^ 63 }
+    ensures { OnOk result (text.new.items
+        ≡ text.old.items ++ cells_text (slice_index widths.now) 0 row.now) }
+{
     for column in 0..row.len() {
         let cell = row.cell(column);
         let width = widths.get(column).copied().unwrap_or(0);
-        append(&mut text, cell)?;
-        append_times(&mut text, b' ', width.saturating_sub(cell.len()))?;
-        append(&mut text, b"  ")?;
+        append(text, cell)?;
+        append_times(text, b' ', width.saturating_sub(cell.len()))?;
+        append(text, b"  ")?;
     }
-    Ok(text)
+    Ok(())
 }

@@ -10,9 +10,9 @@ ghost use Rattle.std.specs.Prelude.{◌≡◌, ◌<◌, ◌≤◌, ◌^◌, ◌+
 ghost use Rattle.std.specs.List.{list_any};
 ghost use Rattle.quorum_sets.specs.AscendingLists.{IsAscending};
 ghost use Rattle.plan_output.specs.Names as spec;
-ghost use Rattle.plan_output.specs.Names.{denoted_row, is_long, name_by, numbered_of};
+ghost use Rattle.plan_output.specs.Names.{denoted_row, denoted_text, is_long, name_by, numbered_of};
 
-use crate::grid::{Row, grid_text};
+use crate::grid::{Row, append_grid};
 use ascii_text::append::{append, append_number};
 use itoa::Buffer;
 use quorum_sets::NoMemory;
@@ -127,18 +127,21 @@ fn some_is_long(ids: &[u64]) -> bool
     false
 }
 
-/// What follows the rows of a table: an empty line, and a line for each id that is called by a number, with the number,
-/// the decimal digits and the hexadecimal ones, as etcdctl's tables and etcd's logs show them. Nothing if no id is.
-pub(crate) fn denoted_text(alloc: Global, names: &Names) -> Result<Vec<u8>, NoMemory>
-    ensures { IfOk result (λ text. text.items ≡ spec.denoted_text names.now) }
+/// Appends what follows the rows of a table: an empty line, and a line for each id that is called by a number, with the
+/// number, the decimal digits and the hexadecimal ones, as etcdctl's tables and etcd's logs show them. Nothing if no id is.
+pub(crate) fn append_denoted(
+    alloc: Global,
+    text: &mut Vec<u8>,
+    names: &Names,
+) -> Result<(), NoMemory>
+    ensures { OnOk result (text.new.items ≡ text.old.items ++ denoted_text names.now) }
 {
     if names.numbered().is_empty() {
-        return Ok(Vec::new(alloc));
+        return Ok(());
     }
     let rows = denoted_rows(alloc, names)?;
-    let mut text = Vec::from_slice(alloc, b"\n")?;
-    append(&mut text, grid_text(alloc, rows.as_slice())?.as_slice())?;
-    Ok(text)
+    append(text, b"\n")?;
+    append_grid(alloc, text, rows.as_slice())
 }
 
 // A row for each id that is called by a number.

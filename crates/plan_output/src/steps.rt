@@ -8,6 +8,7 @@
 //!
 //! What names no source here is own.
 ghost use Rattle.std.specs.Prelude.{◌≡◌, ◌++◌, Ok, option_copied, option_map, IfOk, OnOk, OnErr};
+ghost use Rattle.ascii_text.specs.Append.{Extends};
 ghost use Rattle.conf_change.specs.Text.{spaced_numbers};
 ghost use Rattle.conf_plan.specs.PlanCode.{path_in};
 ghost use Rattle.conf_plan.specs.PlanText.{plan_text};
@@ -18,7 +19,7 @@ ghost use Rattle.plan_output.specs.Steps.{note_line, steps_text};
 use crate::cells::names_text;
 use crate::names::Names;
 use crate::stage::stalls;
-use ascii_text::append::append;
+use ascii_text::append::{append, undo_if_failed};
 use conf_change::Config;
 use conf_plan::{Path, print_path};
 use quorum_sets::{InlineIds, NoMemory, commits_without};
@@ -87,32 +88,33 @@ pub(crate) fn add_steps(
     ensures err { OnErr result (text.new.items ≡ text.old.items) }
 {
     let note = stall_note(alloc, now, path, down)?;
-    let lines = lines_of(alloc, note.as_ref(), path)?;
-    append(text, lines.as_slice())?;
+    let len = text.len();
+    let appended = append_lines(text, note.as_ref(), path);
+    undo_if_failed(text, len, appended)?;
     Ok(note.is_some())
 }
 
-// The lines of a path, and before them a note as a comment, if there is one.
-fn lines_of(alloc: Global, note: Option<&Vec<u8>>, path: &Path) -> Result<Vec<u8>, NoMemory>
-    ensures lines { IfOk result (λ lines. lines.items
-        ≡ note_line (option_map (λ note. note.now.items) note.entry) ++ plan_text path.now) }
+// Appends the lines of a path, and before them a note as a comment, if there is one.
+fn append_lines(text: &mut Vec<u8>, note: Option<&Vec<u8>>, path: &Path) -> Result<(), NoMemory>
+    ensures ok { OnOk result (text.new.items ≡ text.old.items
+        ++ note_line (option_map (λ note. note.now.items) note.entry) ++ plan_text path.now) }
     ensures reads_back { OnOk result (path_in (plan_text path.now) ≡ Ok path.now) }
+    ensures extends { Extends text.old.items text.new.items }
 {
-    let mut lines = Vec::new(alloc);
-    write_note(&mut lines, note)?;
-    print_path(&mut lines, path)?;
-    Ok(lines)
+    append_note(text, note)?;
+    print_path(text, path)
 }
 
 // Appends a note as a comment line, if there is one.
-fn write_note(text: &mut Vec<u8>, note: Option<&Vec<u8>>) -> Result<(), NoMemory>
-    ensures { OnOk result (text.new.items
+fn append_note(text: &mut Vec<u8>, note: Option<&Vec<u8>>) -> Result<(), NoMemory>
+    ensures ok { OnOk result (text.new.items
         ≡ text.old.items ++ note_line (option_map (λ note. note.now.items) note.entry)) }
+    ensures extends { Extends text.old.items text.new.items }
 {
     if let Some(note) = note {
-        text.extend_from_slice(b"# ")?;
-        text.extend_from_slice(note.as_slice())?;
-        text.push(b'\n')?;
+        append(text, b"# ")?;
+        append(text, note.as_slice())?;
+        append(text, b"\n")?;
     }
     Ok(())
 }

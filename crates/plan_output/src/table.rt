@@ -19,8 +19,8 @@ ghost use Rattle.plan_output.specs.Table.{table_text};
 use crate::cells::{
     besides_heading, down_text, majority_text, marks_text, names_text, step_name, until_text,
 };
-use crate::grid::{Row, grid_text};
-use crate::names::{Names, denoted_text};
+use crate::grid::{Row, append_grid};
+use crate::names::{Names, append_denoted};
 use crate::stage::{Stage, stages, stalls_at};
 use ascii_text::append::append;
 use conf_change::Config;
@@ -69,8 +69,9 @@ fn table_of(
     let ids = members.as_slice();
     let names = Names::of_columns(alloc, ids)?;
     let rows = rows(alloc, &names, ids, stages, path, down)?;
-    let mut table = grid_text(alloc, rows.as_slice())?;
-    append(&mut table, denoted_text(alloc, &names)?.as_slice())?;
+    let mut table = Vec::new(alloc);
+    append_grid(alloc, &mut table, rows.as_slice())?;
+    append_denoted(alloc, &mut table, &names)?;
     Ok(table)
 }
 

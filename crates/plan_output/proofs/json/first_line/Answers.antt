@@ -2,7 +2,7 @@ use Rattle.std.proofs.Common.{sym, ap, ◌∙◌}
 use Rattle.std.specs.Prelude.{option_copied}
 use Rattle.std.proofs.lemmas.Result.{IfOk-weaker}
 use Rattle.serde_json.specs.Written.{has_float}
-use Rattle.plan_output.proofs.JsonLines.{first_line-none, first_line-step, has_float-no_steps_json, has_float-step_json}
+use Rattle.plan_output.proofs.JsonLines.{first_line-step, has_float-no_steps_json, has_float-step_json}
 use Rattle.plan_output.proofs.json.first_line.Goals as goal
 
 pub returns-in-Some-clause-line : goal.returns-in-Some-clause-line

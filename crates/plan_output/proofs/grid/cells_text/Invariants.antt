@@ -1,7 +1,0 @@
-use Rattle.std.proofs.Common.{◌≡◌, take}
-use Rattle.std.specs.Prelude.{slice_index}
-use Rattle.plan_output.specs.Grid as grid
-use Rattle.plan_output.proofs.grid.cells_text.Given as goal
-
-abbrev pub invariant-loop-column : goal.invariant-loop-column
-invariant-loop-column l = l.text.items ≡ grid.cells_text (slice_index l.widths) 0 (take l.column l.row)
