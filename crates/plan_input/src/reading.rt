@@ -1,5 +1,5 @@
 //! Reading the current configuration and the target.
-ghost use Rattle.std.specs.Prelude.{◌≡◌, true, Ok, Some, IfOk, IfErr};
+ghost use Rattle.std.specs.Prelude.{◌≡◌, true, false, Ok, Some, IfOk, IfErr};
 ghost use Rattle.conf_change.specs.ChangeList.{changes_in};
 ghost use Rattle.conf_change.specs.Configuration.{is_valid};
 ghost use Rattle.conf_change.specs.PrintedConfig.{config_in};
@@ -59,7 +59,7 @@ pub fn read_target(
 {
     match form_of(text) {
         Form::Other => read_changed(alloc, now, text),
-        form => Ok(read_as(alloc, form, text)?.config),
+        form => read_as(alloc, form, text).map(|read| read.config),
     }
 }
 
@@ -72,16 +72,12 @@ fn read_as(alloc: Global, form: Form, text: &[u8]) -> Result<Current, TextFault>
         ≡ is_member_list_as form text.now) }
     ensures fault { IfErr result (IsFaultOf (configuration_as form text.now)) }
 {
-    let config = match form {
-        Form::Json => return read_json(alloc, text),
-        Form::ConfStateLine => read_line(alloc, text)?,
-        Form::Printed => read_printed(alloc, text)?,
-        Form::Other => return Err(TextFault::UnknownForm),
-    };
-    Ok(Current {
-        config,
-        is_member_list: false,
-    })
+    match form {
+        Form::Json => read_json(alloc, text),
+        Form::ConfStateLine => read_line(alloc, text),
+        Form::Printed => read_printed(alloc, text),
+        Form::Other => Err(TextFault::UnknownForm),
+    }
 }
 
 // The valid configuration in JSON.
@@ -108,48 +104,62 @@ fn read_value(alloc: Global, text: &[u8], value: &Value) -> Result<Current, Text
     ensures fault { IfErr result (IsFaultOf (configuration_as Form.Json text.now)) }
 {
     match saved_of(alloc, value) {
-        Ok(state) => Ok(Current {
-            config: valid(alloc, text, &state)?,
-            is_member_list: value.get("members").is_some(),
-        }),
+        Ok(state) => valid(alloc, text, &state, value.get("members").is_some()),
         Err(JsonFault::BadJson) => Err(TextFault::of_json(text, has_text_ids(value))),
         Err(JsonFault::NoMemory) => Err(TextFault::NoMemory),
     }
 }
 
 // The valid configuration of a ConfState line.
-fn read_line(alloc: Global, text: &[u8]) -> Result<Config<InlineIds>, TextFault>
-    ensures configuration { IfOk result (λ c. as_text text.now (configuration_in text.now) ≡ Ok c) }
-    ensures valid { IfOk result (λ c. is_valid c ≡ true) }
+fn read_line(alloc: Global, text: &[u8]) -> Result<Current, TextFault>
+    ensures configuration { IfOk result (λ current.
+        as_text text.now (configuration_in text.now) ≡ Ok current.config) }
+    ensures valid { IfOk result (λ current. is_valid current.config ≡ true) }
+    ensures list { IfOk result (λ current. current.is_member_list ≡ false) }
     ensures fault { IfErr result (IsFaultOf (as_text text.now (configuration_in text.now))) }
 {
     match read_configuration(alloc, text) {
-        Ok(config) => Ok(config),
+        Ok(config) => Ok(Current {
+            config,
+            is_member_list: false,
+        }),
         Err(fault) => Err(TextFault::of_configuration(text, fault)),
     }
 }
 
 // The valid configuration of a printed one.
-fn read_printed(alloc: Global, text: &[u8]) -> Result<Config<InlineIds>, TextFault>
-    ensures configuration { IfOk result (λ c. valid_or text.now (bad_printed text.now) (config_in text.now) ≡ Ok c) }
-    ensures valid { IfOk result (λ c. is_valid c ≡ true) }
+fn read_printed(alloc: Global, text: &[u8]) -> Result<Current, TextFault>
+    ensures configuration { IfOk result (λ current.
+        valid_or text.now (bad_printed text.now) (config_in text.now) ≡ Ok current.config) }
+    ensures valid { IfOk result (λ current. is_valid current.config ≡ true) }
+    ensures list { IfOk result (λ current. current.is_member_list ≡ false) }
     ensures fault { IfErr result
         (IsFaultOf (valid_or text.now (bad_printed text.now) (config_in text.now))) }
 {
     match read_config(alloc, text) {
-        Ok(state) => valid(alloc, text, &state),
+        Ok(state) => valid(alloc, text, &state, false),
         Err(fault) => Err(TextFault::of_printed(text, fault)),
     }
 }
 
 // The valid configuration that the saved one of a text describes.
-fn valid(alloc: Global, text: &[u8], state: &ConfState) -> Result<Config<InlineIds>, TextFault>
-    ensures configuration { IfOk result (λ c. as_text text.now (valid_of state.now) ≡ Ok c) }
-    ensures valid { IfOk result (λ c. is_valid c ≡ true) }
+fn valid(
+    alloc: Global,
+    text: &[u8],
+    state: &ConfState,
+    is_member_list: bool,
+) -> Result<Current, TextFault>
+    ensures configuration { IfOk result (λ current.
+        as_text text.now (valid_of state.now) ≡ Ok current.config) }
+    ensures valid { IfOk result (λ current. is_valid current.config ≡ true) }
+    ensures list { IfOk result (λ current. current.is_member_list ≡ is_member_list) }
     ensures fault { IfErr result (IsFaultOf (as_text text.now (valid_of state.now))) }
 {
     match valid_configuration(alloc, state) {
-        Ok(config) => Ok(config),
+        Ok(config) => Ok(Current {
+            config,
+            is_member_list,
+        }),
         Err(fault) => Err(TextFault::of_configuration(text, fault)),
     }
 }
