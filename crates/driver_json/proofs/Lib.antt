@@ -2,5 +2,6 @@ mod Actions
 mod Lines
 mod MemberItems
 mod NoFloats
+mod ProposedSteps
 mod Questions
 mod WorkedExamples

@@ -24,6 +24,7 @@
 #![tactic(auto)]
 
 pub mod answer;
+pub mod laws;
 pub mod line_fault;
 mod members;
 pub mod place;
