@@ -5,8 +5,7 @@ ghost use Rattle.conf_driver.specs.View as spec;
 
 use crate::sets::{common, without};
 use conf_change::Config;
-use quorum_sets::{InlineIds, MemberSet, NoMemory};
-use smallvec::SmallVec;
+use quorum_sets::{IdList, InlineIds, MemberSet, NoMemory};
 use std::alloc::Global;
 use std::marker::Model;
 
@@ -69,7 +68,7 @@ impl Model for View {
 pub(crate) fn heard_from(alloc: Global, view: &View) -> Result<InlineIds, NoMemory>
     ensures { IfOk result (λ ids. ids ≡ spec.heard_from view.now) }
 {
-    let mut ids = SmallVec::new(alloc);
+    let mut ids = IdList::new(alloc);
     for member in view.progress.as_slice() {
         add_if_heard(&mut ids, *member)?;
     }
@@ -77,7 +76,7 @@ pub(crate) fn heard_from(alloc: Global, view: &View) -> Result<InlineIds, NoMemo
 }
 
 // Appends the id of a member, if it is heard from.
-fn add_if_heard(ids: &mut SmallVec<u64, 16>, member: MemberView) -> Result<(), NoMemory>
+fn add_if_heard(ids: &mut IdList, member: MemberView) -> Result<(), NoMemory>
     ensures { OnOk result (ids.new.items ≡ ids.old.items ++ spec.heard member) }
 {
     if member.recent_active {
