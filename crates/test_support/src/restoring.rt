@@ -1,4 +1,10 @@
 //! Saved configurations of lines, and changers that are restored from them.
+ghost use Rattle.std.specs.Prelude.{◌≡◌, Some, true, IfOk};
+ghost use Rattle.conf_change.specs.Changer.{begun_with};
+ghost use Rattle.conf_change.specs.ConfStateLine.{conf_state_in};
+ghost use Rattle.conf_change.specs.ConfState.{Describes};
+ghost use Rattle.conf_change.specs.Configuration.{Configuration, is_restorable};
+
 use crate::twice;
 use conf_change::{Changer, ConfState, ConfStateFault, Floor, RestoreFault, read_conf_state};
 use quorum_sets::MemberSet;
@@ -9,7 +15,9 @@ pub const FIVE: &str =
     "Voters:[1 2 3 4 5] VotersOutgoing:[] Learners:[] LearnersNext:[] AutoLeave:false";
 
 /// The saved configuration of a line.
-pub fn read(alloc: Global, line: &str) -> Result<ConfState, ConfStateFault> {
+pub fn read(alloc: Global, line: &str) -> Result<ConfState, ConfStateFault>
+    ensures { IfOk result (λ state. conf_state_in line.now ≡ Some state) }
+{
     twice!(
         ConfStateFault::NoMemory,
         read_conf_state(alloc, line.as_bytes())
@@ -21,7 +29,10 @@ pub fn restored<S: MemberSet>(
     alloc: Global,
     state: &ConfState,
     floor: Floor,
-) -> Result<Changer<S>, RestoreFault> {
+) -> Result<Changer<S>, RestoreFault>
+    ensures { (c : Configuration) → Describes state.now c → is_restorable c ≡ true →
+        IfOk result (λ changer. changer ≡ begun_with floor 0 c) }
+{
     twice!(
         RestoreFault::NoMemory,
         Changer::restore_with_floor(alloc, state, 0, floor)
