@@ -196,6 +196,16 @@ const BAD_JSON: &[u8] = b"{\"voters\":[1,2]}\n{\"voters\":[1,2]}\n\n{\"voters\":
 const TWICE: &[u8] = b"{\"voters\":[1,2]}\n\
     Voters:[1 1] VotersOutgoing:[] Learners:[] LearnersNext:[] AutoLeave:false";
 
+// A cluster whose member 3 is to be started, and a line that is not an object.
+const VIEWS: &[u8] =
+    b"{\"conf_state\":{\"voters\":[1,2]},\"target\":{\"voters\":[1,2,3]},\"strategy\":\"learners-first\",\
+    \"conf_index\":57,\"lead\":1,\"commit\":60,\"running\":[1,2],\
+    \"progress\":[{\"id\":1,\"match\":60,\"recent_active\":true},{\"id\":2,\"match\":60,\"recent_active\":true}]}\n\
+    [1]\n";
+
+const ACTIONS: &[u8] =
+    b"{\"action\":\"start\",\"ids\":[3]}\n{\"error\":\"not the JSON of an object\"}\n";
+
 /// What is run: a mode with its default options, or `plan` with a strategy, if there is one, an output and the ids that
 /// are down.
 #[derive(Clone, Copy)]
@@ -204,6 +214,7 @@ pub(crate) enum Command {
     Check,
     Rewrite,
     Undo,
+    Next,
     Plan(Option<Strategy>, PlanOutput, &'static [u64]),
 }
 
@@ -228,7 +239,7 @@ const CLEAN: Result<Status, ToolFault> = Ok(Status::Clean);
 const DIFFERENT: Result<Status, ToolFault> = Ok(Status::Different);
 
 /// The modes with their default options.
-pub(crate) static MODES: [Case; 14] = [
+pub(crate) static MODES: [Case; 15] = [
     (Command::Lines, CHANGES, ANSWERS, CLEAN),
     (Command::Check, UNFINISHED, NONE_DIFFERS, CLEAN),
     (Command::Check, BARE, BARE_REPORT, DIFFERENT),
@@ -248,6 +259,7 @@ pub(crate) static MODES: [Case; 14] = [
     (SHORTEST, TWO, PLAN, CLEAN),
     (SHORTEST, TO_EMPTY, NO_TARGET, DIFFERENT),
     (SHORTEST, PAIRS, PLANS, DIFFERENT),
+    (Command::Next, VIEWS, ACTIONS, DIFFERENT),
 ];
 
 /// `plan` with its options, and inputs with an error.
@@ -390,6 +402,7 @@ fn mode_of(command: Command) -> Mode {
         Command::Check => Mode::Check,
         Command::Rewrite => Mode::Rewrite,
         Command::Undo => Mode::Undo,
+        Command::Next => Mode::Next,
         Command::Plan(_, _, _) => Mode::Plan,
     }
 }

@@ -197,14 +197,18 @@ fn has_output(
     }
 }
 
-// Whether the directive has this output in the copy too.
+// Whether the directive has this output in the copy too, which gets each output back.
 fn follows(copy: &mut Session, directive: &Directive, expected: &[u8]) -> bool {
     let mut answer = copy.step(directive);
     if answer.is_err() {
         answer = copy.step(directive);
     }
     match answer {
-        Ok(actual) => actual.as_slice() == expected,
+        Ok(actual) => {
+            let is_so = actual.as_slice() == expected;
+            copy.reuse(actual);
+            is_so
+        }
         Err(_) => false,
     }
 }
