@@ -3,7 +3,7 @@ use Rattle.std.specs.Prelude.{◌≡◌, ℕ, ◌<◌, ◌≤◌, Bool, true, fa
 use Rattle.ascii_text.specs.Lines.{full_lines, lines_of}
 use Rattle.dd_file.specs.Position.{Position, longest_input}
 use Rattle.dd_file.specs.Script.{FirstItem, NoItem, Ended, Open, first_line_of}
-use Rattle.dd_file.specs.Grammar.{Next, Over, Parsed, Faulty, fault_between, next_of}
+use Rattle.dd_file.specs.Grammar.{Next, Over, Parsed, Faulty, fault_between}
 use Rattle.dd_file.specs.Answer.{is_read_fault}
 use Rattle.dd_file.specs.Buffered.{HasNoNewline, IsInterruption, is_whole_text}
 use Rattle.dd_file.specs.declared.scan.Scan.{Scan}
@@ -83,10 +83,7 @@ pub record IsGrammar {A : Type 0} (next : Position → List ℕ → Next A) (IsF
   pub over : (position : Position) → position.bytes ≤ longest_input → next position [] ≡ Over
   pub interrupted : (position : Position) (fault : FileFault) → IsInterruption fault → IsFault position fault
 
--- A draft that has no line yet, of items or lines that can be read: they are those of a grammar, and a draft of them is
--- ended or open.
-pub record IsNew {A D : Type 0} (first : List (List ℕ) → FirstItem A) (numbered : ℕ → A → A) (IsFault : Position → FileFault → Type 0) (begun : D → BegunItem A) (Fits : D → Type 0) (draft : D) : Type 0 where
+-- a draft that has no line yet
+pub record IsNew {A D : Type 0} (first : List (List ℕ) → FirstItem A) (begun : D → BegunItem A) (Fits : D → Type 0) (draft : D) : Type 0 where
   pub fits : Fits draft
   pub none : begun draft ≡ no_lines first
-  pub grammar : IsGrammar (next_of first numbered longest_input) IsFault
-  pub known : (other : D) → Fits other → IsBegun (begun other)

@@ -1,8 +1,9 @@
 //! A part of an input, an item or a line, while its lines are read.
 ghost use Rattle.std.specs.Prelude.{◌≡◌, ℕ, List, false, IfOk, OnOk};
-ghost use Rattle.dd_file.specs.Position.{Position};
+ghost use Rattle.dd_file.specs.Position.{Position, longest_input};
 ghost use Rattle.dd_file.specs.Script.{FirstItem};
-ghost use Rattle.dd_file.specs.Draft.{BegunItem, IsNew, Adds, item_result};
+ghost use Rattle.dd_file.specs.Grammar.{next_of};
+ghost use Rattle.dd_file.specs.Draft.{BegunItem, IsBegun, IsGrammar, IsNew, Adds, item_result};
 ghost use Rattle.dd_file.specs.declared.fault.FileFault.{FileFault as ReadFault};
 
 use crate::fault::FileFault;
@@ -35,6 +36,11 @@ pub trait Draft {
     /// Whether there is nothing in the buffers.
     ghost AreEmpty: { Self.Buffers → Type 0 };
 
+    /// A law: the parts are those of a grammar, and a draft that fits is ended or open.
+    fn parts_are_of_a_grammar()
+        ensures grammar { IsGrammar (next_of first_item numbered longest_input) IsFault }
+        ensures begun { (draft : Self) → Fits draft → IsBegun (begun draft) };
+
     /// Buffers without memory.
     fn no_buffers(alloc: Global) -> Self::Buffers
         ensures { AreEmpty result };
@@ -46,7 +52,7 @@ pub trait Draft {
     /// A draft without lines, in empty buffers.
     fn new(alloc: Global, buffers: Self::Buffers) -> Self
         requires { AreEmpty buffers }
-        ensures { IsNew first_item numbered IsFault begun Fits result };
+        ensures { IsNew first_item begun Fits result };
 
     /// Adds the next line, and returns whether the part ends with it. If memory runs out, the draft is no longer usable.
     fn add(&mut self, line: &[u8]) -> Result<bool, AllocError>

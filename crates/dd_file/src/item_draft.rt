@@ -262,6 +262,8 @@ impl Draft for ItemDraft {
 
     ghost AreEmpty = { λ buffers. (buffers.0 ≡ []) × (buffers.1 ≡ []) };
 
+    fn parts_are_of_a_grammar() {}
+
     fn no_buffers(alloc: Global) -> (RawLines, RawLines) {
         (RawLines::new(alloc), RawLines::new(alloc))
     }

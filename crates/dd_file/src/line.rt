@@ -67,6 +67,8 @@ impl Draft for LineDraft {
 
     ghost AreEmpty = { λ buffers. ⊤ };
 
+    fn parts_are_of_a_grammar() {}
+
     fn no_buffers(alloc: Global) {
         let _ = alloc;
     }

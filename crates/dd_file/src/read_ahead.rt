@@ -6,7 +6,7 @@ ghost use Rattle.dd_file.specs.Grammar.{next_of};
 ghost use Rattle.dd_file.specs.ReaderState.{IsBounded, fresh};
 ghost use Rattle.dd_file.specs.Buffered.{IsFirstBuffered, within_limit};
 ghost use Rattle.dd_file.specs.Answer.{ReadsOn, fault_of};
-ghost use Rattle.dd_file.specs.Draft.{DraftOf, IsBegun, IsGrammar, IsNew};
+ghost use Rattle.dd_file.specs.Draft.{DraftOf, IsNew};
 
 use crate::device::{Nowhere, Sink, Source};
 use crate::draft::Draft;
@@ -80,13 +80,25 @@ impl<D: Draft + Drop> Parts<D> {
         ensures kept { Keeps (W.contents writer.old) (W.contents writer.new) }
         ensures write { W.has_failed writer.new ≡ (W.has_failed writer.old || is_err result) }
     {
-        next(self.draft(), &mut self.input, reader, writer)
+        // The early returns leave both as they are, which is known only of what the body reads.
+        let _ = &*reader;
+        let _ = &*writer;
+        if let Some(fault) = self.input.fault() {
+            return Ok(Err(fault));
+        }
+        if self.input.is_over() {
+            D::parts_are_of_a_grammar();
+            return Ok(Ok(None));
+        }
+        let answer = read(self.draft(), &mut self.input, reader, writer)?;
+        self.input.set_fault(fault_in(&answer));
+        Ok(answer)
     }
 
     /// A part without lines, in the buffers that are reused.
     #[inline(always)]
     fn draft(&mut self) -> D
-        ensures draft { IsNew D.first_item D.numbered D.IsFault D.begun D.Fits result }
+        ensures draft { IsNew D.first_item D.begun D.Fits result }
         ensures same { self.new ≡ self.old }
     {
         let empty = D::no_buffers(self.alloc);
@@ -102,41 +114,6 @@ impl<D: Draft + Drop> Parts<D> {
     }
 }
 
-/// The next part, which is read into a draft that has no line yet; `None` at the end and from then on. An error is
-/// permanent: later calls return it again, and read nothing. If the part is not buffered, the writer is flushed before
-/// more is read.
-#[inline(always)]
-fn next<D: Draft + Drop, R: Source, W: Sink>(
-    draft: D,
-    input: &mut Input,
-    reader: &mut R,
-    writer: &mut W,
-) -> Result<Result<Option<D::Part>, FileFault>, WriteFault>
-    requires none { IsNew D.first_item D.numbered D.IsFault D.begun D.Fits draft }
-    requires bounded { IsBounded input.old }
-    ensures reads { IfOk result
-        (ReadsOn R.remaining R.has_failed (next_of D.first_item D.numbered longest_input)
-        D.IsFault input.old input.new reader.old reader.new) }
-    ensures buffered { IsFirstBuffered D.first_item input.old → (reader.new ≡ reader.old)
-        × (writer.new ≡ writer.old) }
-    ensures unread { OnErr result ((input.new ≡ input.old) × (reader.new ≡ reader.old)) }
-    ensures kept { Keeps (W.contents writer.old) (W.contents writer.new) }
-    ensures write { W.has_failed writer.new ≡ (W.has_failed writer.old || is_err result) }
-{
-    // The early returns leave both as they are, which is known only of what the body reads.
-    let _ = &*reader;
-    let _ = &*writer;
-    if let Some(fault) = input.fault() {
-        return Ok(Err(fault));
-    }
-    if input.is_over() {
-        return Ok(Ok(None));
-    }
-    let answer = read(draft, input, reader, writer)?;
-    input.set_fault(fault_in(&answer));
-    Ok(answer)
-}
-
 /// The next part. If it is not buffered, the writer is flushed, and then the rest of the part is read.
 #[inline(always)]
 fn read<D: Draft + Drop, R: Source, W: Sink>(
@@ -145,7 +122,7 @@ fn read<D: Draft + Drop, R: Source, W: Sink>(
     reader: &mut R,
     writer: &mut W,
 ) -> Result<Result<Option<D::Part>, FileFault>, WriteFault>
-    requires none { IsNew D.first_item D.numbered D.IsFault D.begun D.Fits draft }
+    requires none { IsNew D.first_item D.begun D.Fits draft }
     requires faultless { input.old.fault ≡ None }
     requires unended { input.old.is_ended ≡ false }
     requires bounded { IsBounded input.old }
@@ -161,6 +138,7 @@ fn read<D: Draft + Drop, R: Source, W: Sink>(
 {
     let _ = &*reader;
     let _ = &*writer;
+    D::parts_are_of_a_grammar();
     let mut scan = Scan::new();
     match add_lines(&mut draft, &mut scan, input.within_limit()) {
         Ok(true) => {
@@ -187,8 +165,6 @@ fn read_rest<D: Draft + Drop, R: Source, W: Sink>(
     reader: &mut R,
     writer: &W,
 ) -> Result<Option<D::Part>, FileFault>
-    requires grammar { IsGrammar (next_of D.first_item D.numbered longest_input) D.IsFault }
-    requires known { (other : D) → D.Fits other → IsBegun (D.begun other) }
     requires so_far { DraftOf D.first_item D.begun D.Fits draft scan (within_limit input.old) }
     requires open_end { (D.begun draft).is_done ≡ false }
     requires searched { scan.bytes + scan.searched ≡ length (within_limit input.old) }
@@ -200,6 +176,7 @@ fn read_rest<D: Draft + Drop, R: Source, W: Sink>(
         (record input.new { fault = fault_of result }) reader.old reader.new result }
 {
     let _ = writer;
+    D::parts_are_of_a_grammar();
     let first = input.count() + 1;
     'read: loop {
         if input.is_beyond_limit() {

@@ -1,6 +1,6 @@
 -- What holds of whatever comes next: items and lines have bytes, and their errors are those of the input.
 use Rattle.std.proofs.Common.{◌≡◌, ℕ, zero, suc, ◌+◌, ◌-◌, ◌<◌, ◌≤◌, Bool, true, false, List, [], ◌∷◌, length, take, drop, map, refl, sym, ◌∙◌, ap, subst, arith, rules}
-use Rattle.std.specs.Prelude.{Option, Some, None, Result, Ok, Err, ⊤}
+use Rattle.std.specs.Prelude.{Option, Some, None, Result, Ok, Err}
 use Rattle.std.specs.List.{concat}
 use Rattle.std.proofs.lemmas.List.{length-append, length-drop}
 use Rattle.ascii_text.specs.Lines.{first_len, full_lines, line_of}
@@ -9,8 +9,7 @@ use Rattle.dd_file.specs.Position.{Position, longest_input}
 use Rattle.dd_file.specs.Grammar.{next_line, next_item, from_first_item, with_count, at_end, is_too_long, full_lines_within}
 use Rattle.dd_file.specs.InOrder.{TakesBytes}
 use Rattle.dd_file.specs.Answer.{IsLineFault, IsItemFault}
-use Rattle.dd_file.specs.Draft.{IsBegun, IsSound, IsGrammar, IsNew, begun_line}
-use Rattle.dd_file.specs.ItemDraft.{DraftText, FitsIn, begun_item, blank_draft}
+use Rattle.dd_file.specs.Draft.{IsBegun, IsSound, IsGrammar, begun_line}
 use Rattle.dd_file.specs.declared.item.Item.{Item}
 use Rattle.dd_file.specs.declared.fault.SyntaxFault.{SyntaxFault}
 use Rattle.dd_file.specs.declared.fault.SyntaxFault.TheVariants.{BadDirective, AfterDouble, UnclosedDouble}
@@ -18,7 +17,6 @@ use Rattle.dd_file.specs.declared.fault.FileFault.{FileFault}
 use Rattle.dd_file.specs.declared.fault.FileFault.TheVariants.{InputTooLong}
 use Rattle.ascii_text.proofs.Offered.{full_lines-first, first_len-some, length-first}
 use Rattle.dd_file.proofs.Reading.BufferFilled.{interruption}
-use Rattle.dd_file.proofs.Reading.NoMoreLine.{begun_item-is}
 use Rattle.dd_file.proofs.ScriptGrammar.MoreLines.{fewest, first_of-left, first_of-fewest, first_of-none}
 
 -- this many full lines, at least one, have a byte
@@ -85,10 +83,10 @@ next_item-sound limit position (b ∷ bytes) = at (is_too_long limit position (b
   at true long (Open result) is = (refl, refl)
   at false short (Open result) is = counted (length lines) result (first_of-fewest lines result (ap result_of is))
 
-next_line-grammar : IsGrammar (next_line longest_input) IsLineFault
+pub next_line-grammar : IsGrammar (next_line longest_input) IsLineFault
 next_line-grammar = record { sound = next_line-sound longest_input; over = λ position fits. rw (none-within longest_input position, within longest_input position fits) refl; interrupted = λ position. interruption (IsLineFault position) tt tt }
 
-next_item-grammar : IsGrammar (next_item longest_input) IsItemFault
+pub next_item-grammar : IsGrammar (next_item longest_input) IsItemFault
 next_item-grammar = record { sound = next_item-sound longest_input; over = λ position fits. rw (none-within longest_input position, within longest_input position fits) refl; interrupted = λ position. interruption (IsItemFault position) tt tt }
 
 pub next_line-takes : (limit : ℕ) → TakesBytes (next_line limit)
@@ -98,12 +96,6 @@ pub next_item-takes : (limit : ℕ) → TakesBytes (next_item limit)
 next_item-takes limit position suffix bytes left item e = (subst (IsSound IsItemFault position bytes) e (next_item-sound limit position bytes)).0
 
 -- a line, which is complete once it is there
-begun_line-is : (line : Option (List ℕ)) → IsBegun (begun_line line)
+pub begun_line-is : (line : Option (List ℕ)) → IsBegun (begun_line line)
 begun_line-is None = record { ended = λ done. cc; open_end = λ _. refl }
 begun_line-is (Some line) = record { ended = λ _. record { result = Ok line; is = refl; ended = λ more. refl }; open_end = λ done. cc }
-
-pub line-new : (draft : Option (List ℕ)) → draft ≡ None → IsNew first_line_of (λ first line. line) IsLineFault begun_line (λ draft. ⊤) draft
-line-new draft none = record { fits = tt; none = ap begun_line none; grammar = next_line-grammar; known = λ other fits. begun_line-is other }
-
-pub item-new : (draft : DraftText) → draft ≡ blank_draft → IsNew first_of at_line IsItemFault begun_item (λ draft. FitsIn draft.state draft.parts) draft
-item-new draft blank = rw blank (record { fits = refl; none = refl; grammar = next_item-grammar; known = begun_item-is })

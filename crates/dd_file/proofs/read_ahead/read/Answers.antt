@@ -21,17 +21,17 @@ returns-in-Ok-true-clause-reads g c =
     let size = length-take n input.buffered in
     let limit = c.count-first.ensures.limit in
     let ahead = c.requires.bounded c.requires.faultless in
-    item-reads c.requires.none.known draft g.D.Draft.numbered c.requires.none.grammar input input c.pass.new.self c.args.reader.now _ c.finish.result c.count-first.result c.count.result (filled-none input c.args.reader.now) c.requires.faultless c.requires.unended
+    item-reads c.parts_are_of_a_grammar.ensures.begun draft g.D.Draft.numbered c.parts_are_of_a_grammar.ensures.grammar input input c.pass.new.self c.args.reader.now _ c.finish.result c.count-first.result c.count.result (filled-none input c.args.reader.now) c.requires.faultless c.requires.unended
     scan (draft-uncut n input.buffered lines) (sym c.in-Ok-true.ensures.done ∙ c.in-Ok-true.field-0-test) (omega (arith, bound.1, size, limit)) (omega (arith, ahead)) c.pass.ensures.passed c.pass.ensures.counted c.finish.ensures c.count-first.ensures.count c.count.ensures.count
 
 pub returns-then-is_err-clause-buffered : goal.returns-then-is_err-clause-buffered
 returns-then-is_err-clause-buffered g c buffered =
     let same = c.within_limit.ensures in
-    absurd (open-buffered c.requires.none.known c.add_lines.new.draft c.add_lines.new.scan c.args.input.now (subst (DraftOf g.D.Draft.first_item g.D.Draft.begun g.D.Draft.Fits c.add_lines.new.draft c.add_lines.new.scan) same c.in-Ok-false.ensures.lines)
+    absurd (open-buffered c.parts_are_of_a_grammar.ensures.begun c.add_lines.new.draft c.add_lines.new.scan c.args.input.now (subst (DraftOf g.D.Draft.first_item g.D.Draft.begun g.D.Draft.Fits c.add_lines.new.draft c.add_lines.new.scan) same c.in-Ok-false.ensures.lines)
     (sym c.in-Ok-false.ensures.done ∙ c.in-Ok-false.field-0-test) (c.in-Ok-false.ensures.none c.in-Ok-false.field-0-test ∙ ap length same) buffered)
 
 pub returns-else-is_err-clause-buffered : goal.returns-else-is_err-clause-buffered
 returns-else-is_err-clause-buffered g c buffered =
     let same = c.within_limit.ensures in
-    absurd (open-buffered c.requires.none.known c.add_lines.new.draft c.add_lines.new.scan c.args.input.now (subst (DraftOf g.D.Draft.first_item g.D.Draft.begun g.D.Draft.Fits c.add_lines.new.draft c.add_lines.new.scan) same c.in-Ok-false.ensures.lines)
+    absurd (open-buffered c.parts_are_of_a_grammar.ensures.begun c.add_lines.new.draft c.add_lines.new.scan c.args.input.now (subst (DraftOf g.D.Draft.first_item g.D.Draft.begun g.D.Draft.Fits c.add_lines.new.draft c.add_lines.new.scan) same c.in-Ok-false.ensures.lines)
     (sym c.in-Ok-false.ensures.done ∙ c.in-Ok-false.field-0-test) (c.in-Ok-false.ensures.none c.in-Ok-false.field-0-test ∙ ap length same) buffered)

@@ -25,8 +25,8 @@ returns-then-is_beyond_limit g c =
     let passes = c.is_beyond_limit.ensures.beyond c.if-is_beyond_limit.true in
     let same = ap (λ (s : ReaderState). s.position.bytes) loop.filled.same in
     let within : within_limit now ≡ take (longest_input - old.position.bytes) now.buffered = ap (λ m. take (longest_input - m) now.buffered) same in
-    rw c.count-first.ensures.count (answer-too_long c.requires.grammar old c.requires.faultless c.requires.unended now c.args.reader.now c.read.reader (old.position.lines + 1) loop.filled
-    (λ more. item-too_long c.requires.known c.read.draft g.D.Draft.numbered longest_input old.position now.buffered more c.read.scan (subst (DraftOf g.D.Draft.first_item g.D.Draft.begun g.D.Draft.Fits c.read.draft c.read.scan) within loop.so_far) loop.open_end
+    rw c.count-first.ensures.count (answer-too_long c.parts_are_of_a_grammar.ensures.grammar old c.requires.faultless c.requires.unended now c.args.reader.now c.read.reader (old.position.lines + 1) loop.filled
+    (λ more. item-too_long c.parts_are_of_a_grammar.ensures.begun c.read.draft g.D.Draft.numbered longest_input old.position now.buffered more c.read.scan (subst (DraftOf g.D.Draft.first_item g.D.Draft.begun g.D.Draft.Fits c.read.draft c.read.scan) within loop.so_far) loop.open_end
     (loop.searched ∙ ap length within) (omega (arith, passes, same))))
 
 pub add_lines-requires-clause-so_far : goal.add_lines-requires-clause-so_far
@@ -65,7 +65,7 @@ returns-in-Ok-true-add_lines g c =
     let total : length now.buffered ≡ length before.buffered + length filled.bytes_read = ap length filled.buffered ∙ length-append before.buffered filled.bytes_read in
     let ahead = filled.ahead in
     let position = ap (λ (s : ReaderState). s.position.bytes) c.in-Ok-true.ensures.same in
-    item-reads c.requires.known draft g.D.Draft.numbered c.requires.grammar c.args.input.now now c.pass.new.self c.args.reader.now c.fill.new.reader c.finish.result c.count-first.result c.count.result
+    item-reads c.parts_are_of_a_grammar.ensures.begun draft g.D.Draft.numbered c.parts_are_of_a_grammar.ensures.grammar c.args.input.now now c.pass.new.self c.args.reader.now c.fill.new.reader c.finish.result c.count-first.result c.count.result
     (filled-more _ before _ _ c.read.reader _ true loop.filled c.in-Ok-true.ensures.same filled c.in-Ok-true.ensures.failed) c.requires.faultless c.requires.unended
     scan (draft-uncut n now.buffered lines) (sym c.in-Ok-true-add_lines.ensures.done ∙ c.in-Ok-true-add_lines.field-0-test) (omega (arith, bound.1, size, within, position)) (omega (arith, total, ahead, some, searched, size_before, within)) c.pass.ensures.passed c.pass.ensures.counted
     c.finish.ensures c.count-first.ensures.count c.count.ensures.count
@@ -82,13 +82,13 @@ read-preserved g c =
 
 pub returns-in-Err : goal.returns-in-Err
 returns-in-Err g c =
-    interrupted c.requires.grammar c.args.input.now c.requires.faultless c.requires.unended c.read.input c.args.reader.now c.read.reader c.fill.new.reader c.fill.new.self c.in-Err.fault c.read.invariant.filled
+    interrupted c.parts_are_of_a_grammar.ensures.grammar c.args.input.now c.requires.faultless c.requires.unended c.read.input c.args.reader.now c.read.reader c.fill.new.reader c.fill.new.self c.in-Err.fault c.read.invariant.filled
     c.in-Err.ensures.lost c.in-Err.ensures.same c.in-Err.ensures.failed c.in-Err.ensures.interrupted
 
 pub returns-in-Err-add_lines : goal.returns-in-Err-add_lines
 returns-in-Err-add_lines g c =
     let filled = rw c.in-Ok-true.field-0-test at c.in-Ok-true.ensures.filled in
-    no-memory c.requires.grammar c.args.input.now c.requires.faultless c.requires.unended c.fill.new.self c.args.reader.now c.fill.new.reader c.fill.new.self
+    no-memory c.parts_are_of_a_grammar.ensures.grammar c.args.input.now c.requires.faultless c.requires.unended c.fill.new.self c.args.reader.now c.fill.new.reader c.fill.new.self
     (filled-more _ c.read.input _ _ c.read.reader _ true c.read.invariant.filled c.in-Ok-true.ensures.same filled c.in-Ok-true.ensures.failed) refl
 
 pub returns-in-Ok : goal.returns-in-Ok
@@ -100,6 +100,6 @@ returns-in-Ok g c =
     let all : c.within_limit-2.result.now ≡ now.buffered = c.within_limit-2.ensures ∙ ap within_limit last.0 ∙ whole in
     let few = c.in-Ok.ensures.few in
     let size = ap length all in
-    last-reads c.requires.known c.add_last_line.new.draft g.D.Draft.numbered c.requires.grammar c.args.input.now now c.end.new.self c.args.reader.now c.fill.new.reader c.finish-in-Ok.result c.count-first.result c.count-in-Ok.result last.1 c.requires.faultless c.requires.unended
+    last-reads c.parts_are_of_a_grammar.ensures.begun c.add_last_line.new.draft g.D.Draft.numbered c.parts_are_of_a_grammar.ensures.grammar c.args.input.now now c.end.new.self c.args.reader.now c.fill.new.reader c.finish-in-Ok.result c.count-first.result c.count-in-Ok.result last.1 c.requires.faultless c.requires.unended
     c.in-Ok.count (subst (DraftOfAll g.D.Draft.first_item g.D.Draft.begun g.D.Draft.Fits c.add_last_line.new.draft c.in-Ok.count) all c.in-Ok.ensures.all) (omega (arith, few, size)) last.2 within (c.end.ensures.ended ∙ ap (λ (s : ReaderState). ended s c.in-Ok.count) last.0) c.end.ensures.counted
     c.finish-in-Ok.ensures c.count-first.ensures.count c.count-in-Ok.ensures.count
