@@ -23,8 +23,7 @@ use Rattle.plan_output.specs.CarriedOut.{LinesLead}
 use Rattle.plan_output.specs.Json.{path_json}
 use Rattle.plan_output.specs.Stages.{AreOnTheWay, stages}
 use Rattle.plan_input.specs.MemberList.{is_member_list}
-use Rattle.conf_tool.specs.Pairs.{NumberedLine, numbered, configuration_lines, strategy_from, pair_at, pair_of_texts}
-use Rattle.conf_tool.specs.declared.pair.Pair.{Pair}
+use Rattle.conf_tool.specs.Pairs.{Pair, NumberedLine, numbered, configuration_lines, strategy_from, pair_at, pair_of_texts}
 use Rattle.conf_tool.specs.declared.plan_input_fault.PlanInputFault.{PlanInputFault}
 use Rattle.conf_tool.specs.PlanScript.{default_session}
 use Rattle.conf_tool.specs.PlanAnswer.{path_text, path_between, plan_text_between, session_between}

@@ -25,11 +25,10 @@ use Rattle.conf_tool.specs.declared.plan_options.PlanOutput.TheVariants.{Script 
 use Rattle.conf_tool.specs.declared.status.Status.{Status}
 use Rattle.conf_tool.specs.declared.status.Status.TheVariants.{Clean, Different}
 use Rattle.conf_session.specs.declared.undo_fault.UndoFault.{UndoFault}
-use Rattle.conf_tool.specs.Pairs.{NumberedLine, numbered, configuration_lines, current_at, pair_at, pair_of_texts}
+use Rattle.conf_tool.specs.Pairs.{Pair, NumberedLine, numbered, configuration_lines, current_at, pair_at, pair_of_texts}
 use Rattle.conf_tool.specs.PlanAnswer.{plan_text_between, plan_status, session_between}
 use Rattle.conf_tool.specs.PlanScript.{default_session}
 use Rattle.conf_tool.specs.declared.pair.Current.{Current}
-use Rattle.conf_tool.specs.declared.pair.Pair.{Pair}
 use Rattle.conf_tool.specs.declared.plan_input_fault.PlanInputFault.{PlanInputFault}
 use Rattle.conf_tool.specs.declared.plan_input_fault.PlanInputFault.TheVariants.{NotTwoLines, NoTarget}
 use Rattle.conf_tool.specs.declared.tool_fault.ToolFault.{ToolFault}

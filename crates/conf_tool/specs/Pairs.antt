@@ -13,7 +13,6 @@ use Rattle.plan_input.specs.declared.text_fault.TextFault.{TextFault}
 use Rattle.conf_tool.specs.declared.origin.Origin.{Origin}
 use Rattle.conf_tool.specs.declared.origin.Origin.TheVariants.{Line, From, To}
 use Rattle.conf_tool.specs.declared.pair.Current.{Current}
-use Rattle.conf_tool.specs.declared.pair.Pair.{Pair}
 use Rattle.conf_tool.specs.declared.plan_input_fault.PlanInputFault.{PlanInputFault}
 use Rattle.conf_tool.specs.declared.plan_input_fault.PlanInputFault.TheVariants.{BadText, NotAMember, NotAMemberAt}
 use Rattle.conf_tool.specs.declared.plan_options.PlanOptions.{PlanOptions}
@@ -66,6 +65,16 @@ abbrev pub current_at : PlanOptions → NumberedLine → Result Current PlanInpu
 current_at options line = current_written options (Line line.number) line.text
 
 -- ---- the pair
+-- what is planned: the current configuration, the target, and the strategy of the plan from the one to the other
+pub record Pair : Type 0 where
+  pub current : Configuration
+  pub target : Configuration
+  pub strategy : Strategy
+
+-- the pair of a current configuration and a target
+abbrev pub pair_between : Current → Configuration → Pair
+pair_between current target = record { current = current.config; target = target; strategy = current.strategy }
+
 -- the error that an id is down and not a member: in the line of the target, or on the command line
 abbrev pub not_member : Origin → ℕ → PlanInputFault
 not_member (Line number) id = NotAMemberAt number id
@@ -81,8 +90,7 @@ of_members origin (Some id) pair = Err (not_member origin id)
 -- ids that are down, of which the least one that is a member of neither configuration is reported.
 abbrev pub paired : PlanOptions → Origin → Current → Result Configuration PlanInputFault → Result Pair PlanInputFault
 paired options origin current (Ok target) =
-    of_members origin (first_nonmember options.down current.config target)
-    (record { current = current.config; target = target; strategy = current.strategy })
+    of_members origin (first_nonmember options.down current.config target) (pair_between current target)
 paired options origin current (Err fault) = Err fault
 
 -- the pair of a current configuration and the target that is written there

@@ -13,7 +13,7 @@ use Rattle.plan_output.specs.declared.output.Output.TheVariants.{Steps, Table, J
 use Rattle.conf_session.specs.SessionState.{SessionState}
 use Rattle.conf_tool.specs.PlanScript.{script_items, script_text}
 use Rattle.conf_tool.specs.Reports.{session_after_all}
-use Rattle.conf_tool.specs.declared.pair.Pair.{Pair}
+use Rattle.conf_tool.specs.Pairs.{Pair}
 use Rattle.conf_tool.specs.declared.plan_options.PlanOptions.{PlanOptions}
 use Rattle.conf_tool.specs.declared.plan_options.PlanOutput.{PlanOutput}
 use Rattle.conf_tool.specs.declared.plan_options.PlanOutput.TheVariants.{Script, Text}

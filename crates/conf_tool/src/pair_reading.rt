@@ -3,10 +3,10 @@ ghost use Rattle.std.specs.Prelude.{◌≡◌, true, Ok, IfOk, IfErr};
 ghost use Rattle.conf_change.specs.Configuration.{is_valid};
 ghost use Rattle.plan_input.specs.Input.{target_in};
 ghost use Rattle.conf_tool.specs.Pairs as spec;
-ghost use Rattle.conf_tool.specs.Pairs.{is_skipped, strategy_from, current_written, pair_from, written_at, IsFaultOf};
+ghost use Rattle.conf_tool.specs.Pairs.{is_skipped, strategy_from, current_written, pair_between, pair_from, written_at, IsFaultOf};
 
 use crate::origin::Origin;
-use crate::pair::{Current, Pair};
+use crate::pair::Current;
 use crate::plan_input_fault::PlanInputFault;
 use crate::plan_options::PlanOptions;
 use crate::tool_fault::ToolFault;
@@ -60,33 +60,29 @@ fn strategy_from(given: Option<Strategy>, is_member_list: bool) -> Strategy
     }
 }
 
-/// The pair of a current configuration and the target in the text that is written there.
-pub(crate) fn pair_of(
+/// The target in the text that is written there, with which a current configuration is a pair.
+pub(crate) fn target_of(
     alloc: Global,
     options: &PlanOptions,
-    current: Current,
+    current: &Current,
     origin: Origin,
     text: &[u8],
-) -> Result<Pair, ToolFault>
-    requires { is_valid current.config ≡ true }
-    ensures pair { IfOk result (λ pair. pair_from options.now origin text.now current ≡ Ok pair) }
-    ensures valid_now { IfOk result (λ pair. is_valid pair.current ≡ true) }
-    ensures valid_target { IfOk result (λ pair. is_valid pair.target ≡ true) }
-    ensures fault { IfErr result (IsFaultOf (pair_from options.now origin text.now current)) }
+) -> Result<Config<SessionIds>, ToolFault>
+    requires { is_valid current.now.config ≡ true }
+    ensures pair { IfOk result (λ target.
+        pair_from options.now origin text.now current.now ≡ Ok (pair_between current.now target)) }
+    ensures valid { IfOk result (λ target. is_valid target ≡ true) }
+    ensures fault { IfErr result (IsFaultOf (pair_from options.now origin text.now current.now)) }
 {
-    let target = target_of(alloc, origin, &current.config, text)?;
+    let target = written_target(alloc, origin, &current.config, text)?;
     match first_nonmember(options.down.as_ref(), &current.config, &target) {
         Some(id) => Err(ToolFault::Configurations(not_member(origin, id))),
-        None => Ok(Pair {
-            current: current.config,
-            target,
-            strategy: current.strategy,
-        }),
+        None => Ok(target),
     }
 }
 
 // The target in the text that is written there.
-fn target_of(
+fn written_target(
     alloc: Global,
     origin: Origin,
     now: &Config<SessionIds>,

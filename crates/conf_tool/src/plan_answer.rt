@@ -3,13 +3,14 @@ ghost use Rattle.std.specs.Prelude.{◌≡◌, ◌++◌, true, option_copied, If
 ghost use Rattle.conf_change.specs.Configuration.{is_valid};
 ghost use Rattle.plan_output.specs.Stages.{stalls_with};
 ghost use Rattle.plan_output.specs.Steps.{stall_note};
+ghost use Rattle.conf_tool.specs.Pairs.{pair_between};
 ghost use Rattle.conf_tool.specs.PlanAnswer.{no_plan_text, path_status, path_text, plan_text_between, plan_status, session_as, session_between};
 ghost use Rattle.conf_tool.specs.PlanScript as spec;
 ghost use Rattle.conf_tool.specs.PlanScript.{script_items};
 ghost use Rattle.conf_tool.specs.Reports.{session_after_all};
 ghost use Rattle.conf_tool.specs.declared.tool_fault.ToolFault.TheVariants.{NoMemory as OutOfMemory};
 
-use crate::pair::Pair;
+use crate::pair::Current;
 use crate::plan_options::{PlanOptions, PlanOutput};
 use crate::run::plan_script::script_text;
 use crate::status::Status;
@@ -30,19 +31,24 @@ pub(crate) fn plan_answer(
     options: &PlanOptions,
     session: &mut Session,
     number: u64,
-    pair: &Pair,
+    current: &Current,
+    target: &Config<SessionIds>,
 ) -> Result<Status, ToolFault>
-    requires valid_now { is_valid pair.now.current ≡ true }
-    requires valid_target { is_valid pair.now.target ≡ true }
+    requires valid_now { is_valid current.now.config ≡ true }
+    requires valid_target { is_valid target.now ≡ true }
     ensures text { OnOk result (text.new.items
-        ≡ text.old.items ++ plan_text_between options.now session.old number pair.now) }
-    ensures session { OnOk result (session.new ≡ session_between options.now session.old pair.now) }
-    ensures status { IfOk result (λ status. status ≡ plan_status options.now pair.now) }
+        ≡ text.old.items ++ plan_text_between options.now session.old number
+        (pair_between current.now target.now)) }
+    ensures session { OnOk result (session.new
+        ≡ session_between options.now session.old (pair_between current.now target.now)) }
+    ensures status { IfOk result
+        (λ status. status ≡ plan_status options.now (pair_between current.now target.now)) }
     ensures memory { IsOkUnless result OutOfMemory }
 {
     let down = options.down.as_ref();
-    match plan_by(alloc, pair.strategy, &pair.current, &pair.target, down) {
-        Ok(path) => path_answer(alloc, text, options, session, number, &pair.current, &path),
+    let now = &current.config;
+    match plan_by(alloc, current.strategy, now, target, down) {
+        Ok(path) => path_answer(alloc, text, options, session, number, now, &path),
         Err(NoPath::NoVoterNow) => {
             let why = "the current configuration has no voter";
             no_plan(alloc, text, options.output, number, why)

@@ -10,7 +10,7 @@ use Rattle.conf_session.specs.SessionState.{SessionState}
 use Rattle.plan_input.specs.Input.{target_in}
 use Rattle.conf_tool.specs.Answered.{script, prepended, with_prefix, HasPlanned, pairs_within, pairs_left, with_status, plan_left}
 use Rattle.conf_tool.specs.Outputs.{Output, ends, pair_text, worse_of, pair_then, session_after_pair, ends_within, planned_pairs, planned_script, planned_texts}
-use Rattle.conf_tool.specs.Pairs.{NumberedLine, numbered, is_skipped, configuration_lines, current_at, current_written, paired, pair_from, pair_to, with_target, written_at, pair_of_texts, IsFaultOf}
+use Rattle.conf_tool.specs.Pairs.{Pair, NumberedLine, numbered, is_skipped, configuration_lines, current_at, current_written, paired, pair_from, pair_to, with_target, written_at, pair_of_texts, IsFaultOf}
 use Rattle.conf_tool.specs.Run.{Means, Wrote, IsStop, is_read_failure, is_write_failure}
 use Rattle.conf_tool.specs.declared.mode.Mode.TheVariants.{Plan as OfPlan}
 use Rattle.conf_tool.specs.declared.origin.Origin.{Origin}
@@ -18,7 +18,6 @@ use Rattle.conf_tool.specs.declared.origin.Origin.TheVariants.{From, To}
 use Rattle.conf_tool.specs.PlanAnswer.{plan_status, session_between}
 use Rattle.conf_tool.specs.PlanScript.{default_session}
 use Rattle.conf_tool.specs.declared.pair.Current.{Current}
-use Rattle.conf_tool.specs.declared.pair.Pair.{Pair}
 use Rattle.conf_tool.specs.declared.plan_input_fault.PlanInputFault.{PlanInputFault}
 use Rattle.conf_tool.specs.declared.plan_input_fault.PlanInputFault.TheVariants.{NotTwoLines, NoTarget}
 use Rattle.conf_tool.specs.declared.plan_options.PlanOptions.{PlanOptions}

@@ -13,7 +13,7 @@ use Rattle.conf_tool.specs.Outputs.{Output, worse_of, pair_then, session_after_p
 use Rattle.conf_tool.specs.PlanAnswer.{path_status, path_text, path_between, reply_text, plan_text_between, status_with, plan_status}
 use Rattle.conf_tool.specs.PlanScript.{default_session}
 use Rattle.conf_tool.specs.declared.origin.Origin.TheVariants.{Line}
-use Rattle.conf_tool.specs.declared.pair.Pair.{Pair}
+use Rattle.conf_tool.specs.Pairs.{Pair}
 use Rattle.conf_tool.specs.declared.plan_input_fault.PlanInputFault.{PlanInputFault}
 use Rattle.conf_tool.specs.declared.plan_options.PlanOptions.{PlanOptions}
 use Rattle.conf_plan.specs.declared.strategy.Strategy.TheVariants.{Shortest}

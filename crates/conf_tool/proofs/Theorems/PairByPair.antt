@@ -19,13 +19,12 @@ use Rattle.plan_input.proofs.Offered.{current_in-valid, target_in-valid}
 use Rattle.conf_tool.specs.Laws.{EachInTurn, IsAsked, PairsAreAsked, PrintsEach, PrintsPair, pair_before, named_pairs, pairs_in, pairs_in_texts, texts_from, separated_by}
 use Rattle.conf_tool.specs.Outputs.{Output, separator, pair_text, pair_then, session_after_pair, ends_within, planned_pairs, planned_output}
 use Rattle.plan_input.specs.MemberList.{is_member_list}
-use Rattle.conf_tool.specs.Pairs.{NumberedLine, numbered, configuration_lines, current_at, pair_at, pair_of_texts, pair_from, pair_written, begun, of_members, paired, strategy_from, with_target, written_at}
+use Rattle.conf_tool.specs.Pairs.{Pair, NumberedLine, numbered, configuration_lines, current_at, pair_at, pair_of_texts, pair_from, pair_written, begun, of_members, paired, strategy_from, with_target, written_at}
 use Rattle.conf_tool.specs.PlanAnswer.{plan_text_between, session_between}
 use Rattle.conf_tool.specs.PlanScript.{default_session}
 use Rattle.conf_tool.specs.declared.origin.Origin.{Origin}
 use Rattle.conf_tool.specs.declared.origin.Origin.TheVariants.{Line, From, To}
 use Rattle.conf_tool.specs.declared.pair.Current.{Current}
-use Rattle.conf_tool.specs.declared.pair.Pair.{Pair}
 use Rattle.conf_tool.specs.declared.plan_input_fault.PlanInputFault.{PlanInputFault}
 use Rattle.conf_tool.specs.declared.plan_options.PlanOptions.{PlanOptions}
 use Rattle.conf_tool.proofs.Modes.Plan.{texts-planned}

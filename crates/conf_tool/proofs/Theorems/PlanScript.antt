@@ -28,13 +28,12 @@ use Rattle.conf_session.proofs.Offered.{all-append, and-both, conf_state-in_line
 use Rattle.plan_output.specs.Stages.{stalls}
 use Rattle.conf_tool.specs.Laws.{pair_before, pairs_in, pairs_in_texts, texts_from, separated_by}
 use Rattle.conf_tool.specs.Outputs.{ends, pair_then, separator, checked, planned_output, planned_texts}
-use Rattle.conf_tool.specs.Pairs.{pair_of_texts}
+use Rattle.conf_tool.specs.Pairs.{Pair, pair_of_texts}
 use Rattle.plan_output.specs.Steps.{stall_text, stall_note}
 use Rattle.conf_tool.specs.PlanAnswer.{text_as, no_plan_comment, no_plan_text, path_between, plan_text_between, reply_text, session_as, session_with, session_between}
 use Rattle.conf_tool.specs.PlanScript.{note_items, restore_command, restore_directive, script_items, default_session, script_text}
 use Rattle.conf_tool.specs.Reports.{session_after_all, answered_entries, answered_text}
 use Rattle.conf_tool.specs.UndoScript.{comment, step_directive, step_items}
-use Rattle.conf_tool.specs.declared.pair.Pair.{Pair}
 use Rattle.conf_tool.specs.declared.plan_input_fault.PlanInputFault.{PlanInputFault}
 use Rattle.conf_tool.specs.declared.plan_options.PlanOptions.{PlanOptions}
 use Rattle.conf_tool.specs.declared.plan_options.PlanOutput.TheVariants.{Script}

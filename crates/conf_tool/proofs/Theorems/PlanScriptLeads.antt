@@ -37,7 +37,7 @@ use Rattle.conf_tool.specs.PlanAnswer.{path_between}
 use Rattle.conf_tool.specs.PlanScript.{note_items, restore_directive, script_items, default_session}
 use Rattle.conf_tool.specs.Reports.{answered_entries}
 use Rattle.conf_tool.specs.UndoScript.{step_items, TakesSteps}
-use Rattle.conf_tool.specs.declared.pair.Pair.{Pair}
+use Rattle.conf_tool.specs.Pairs.{Pair}
 use Rattle.conf_tool.specs.declared.plan_options.PlanOptions.{PlanOptions}
 use Rattle.conf_tool.proofs.Theorems.PairByPair.{AreValid, all-valid, texts-valid}
 use Rattle.conf_tool.proofs.Theorems.PlanScript.{Answered, items_with, gap_with, all_items, all-read, planned-script, script-clean, texts_of_pair-script}

@@ -15,7 +15,7 @@ use Rattle.plan_output.specs.Json.{path_json}
 use Rattle.plan_output.specs.Stages.{AreOnTheWay, stages}
 use Rattle.conf_tool.specs.Laws.{IsPromisedPath, LeadsAsPromised, PrintedPathKeepsPromises}
 use Rattle.conf_tool.specs.PlanAnswer.{path_between, reply_text}
-use Rattle.conf_tool.specs.declared.pair.Pair.{Pair}
+use Rattle.conf_tool.specs.Pairs.{Pair}
 use Rattle.conf_tool.specs.declared.plan_options.PlanOptions.{PlanOptions}
 use Rattle.conf_tool.proofs.Theorems.PairByPair.{HoldsOfText, each-printed, pair-printed}
 

@@ -16,7 +16,7 @@
 ghost use Rattle.std.specs.Prelude.{◌≡◌, ℕ, ◌+◌, ◌<◌, ◌^◌, ◌||◌, ◌++◌, [], None, Ok, true, false, nat_lt, IfOk, IfErr, OnOk, IsOkUnless, if◌then◌else◌};
 ghost use Rattle.conf_change.specs.Configuration.{is_valid};
 ghost use Rattle.conf_tool.specs.Outputs.{planned_texts, pair_text, separator, worse_of};
-ghost use Rattle.conf_tool.specs.Pairs.{pair_of_texts, IsFaultOf};
+ghost use Rattle.conf_tool.specs.Pairs.{pair_between, pair_of_texts, IsFaultOf};
 ghost use Rattle.conf_tool.specs.PlanAnswer.{plan_status, session_between};
 ghost use Rattle.conf_tool.specs.PlanScript.{default_session};
 ghost use Rattle.conf_tool.specs.Run.{Means, is_read_failure, is_write_failure};
@@ -26,16 +26,17 @@ use super::handler::{Handler, Outcome};
 use super::plan_script::default_session;
 use crate::options::Options;
 use crate::origin::Origin;
-use crate::pair::{Current, Pair};
+use crate::pair::Current;
 use crate::pair_arguments::PairArguments;
-use crate::pair_reading::{current_of, is_skipped, pair_of};
+use crate::pair_reading::{current_of, is_skipped, target_of};
 use crate::plan_answer::plan_answer;
 use crate::plan_input_fault::PlanInputFault;
 use crate::plan_options::{PlanOptions, PlanOutput};
 use crate::status::Status;
 use crate::tool_fault::ToolFault;
 use ascii_text::append::append;
-use conf_session::Session;
+use conf_change::Config;
+use conf_session::{Session, SessionIds};
 use dd_file::device::Sink;
 use dd_file::fault::FileFault;
 use dd_file::line::Line;
@@ -63,21 +64,27 @@ pub(super) struct Planning {
 
 impl Planning {
     /// Appends the reply to a pair, and begins the next one.
-    fn answer_pair(&mut self, pair: &Pair, text: &mut Vec<u8>) -> Result<(), ToolFault>
+    fn answer_pair(
+        &mut self,
+        current: &Current,
+        target: &Config<SessionIds>,
+        text: &mut Vec<u8>,
+    ) -> Result<(), ToolFault>
         requires few { self.old.pair < 2 ^ 63 }
-        requires valid_now { is_valid pair.now.current ≡ true }
-        requires valid_target { is_valid pair.now.target ≡ true }
+        requires valid_now { is_valid current.now.config ≡ true }
+        requires valid_target { is_valid target.now ≡ true }
         ensures next { OnOk result ((self.new.options ≡ self.old.options)
             × (self.new.lines ≡ self.old.lines)
             × (self.new.pair ≡ self.old.pair + 1) × (self.new.now ≡ self.old.now)) }
         ensures session { OnOk result (self.new.session
-            ≡ session_between self.old.options self.old.session pair.now) }
+            ≡ session_between self.old.options self.old.session
+            (pair_between current.now target.now)) }
         ensures status { OnOk result
             (Ok self.new.status ≡ worse_of self.old.status
-            (Ok (plan_status self.old.options pair.now))) }
+            (Ok (plan_status self.old.options (pair_between current.now target.now)))) }
         ensures text { OnOk result (text.new.items
             ≡ text.old.items ++ pair_text self.old.options self.old.session self.old.pair
-            pair.now) }
+            (pair_between current.now target.now)) }
         ensures memory { IsOkUnless result OutOfMemory }
     {
         let status = pair_answer(
@@ -86,7 +93,8 @@ impl Planning {
             &self.options,
             &mut self.session,
             self.pair,
-            pair,
+            current,
+            target,
         )?;
         self.pair += 1;
         self.status = worse(self.status, status);
@@ -111,18 +119,22 @@ fn pair_answer(
     options: &PlanOptions,
     session: &mut Session,
     number: u64,
-    pair: &Pair,
+    current: &Current,
+    target: &Config<SessionIds>,
 ) -> Result<Status, ToolFault>
-    requires valid_now { is_valid pair.now.current ≡ true }
-    requires valid_target { is_valid pair.now.target ≡ true }
+    requires valid_now { is_valid current.now.config ≡ true }
+    requires valid_target { is_valid target.now ≡ true }
     ensures text { OnOk result (text.new.items
-        ≡ text.old.items ++ pair_text options.now session.old number pair.now) }
-    ensures session { OnOk result (session.new ≡ session_between options.now session.old pair.now) }
-    ensures status { IfOk result (λ status. status ≡ plan_status options.now pair.now) }
+        ≡ text.old.items ++ pair_text options.now session.old number
+        (pair_between current.now target.now)) }
+    ensures session { OnOk result (session.new
+        ≡ session_between options.now session.old (pair_between current.now target.now)) }
+    ensures status { IfOk result
+        (λ status. status ≡ plan_status options.now (pair_between current.now target.now)) }
     ensures memory { IsOkUnless result OutOfMemory }
 {
     append(text, separator_before(number, options.output))?;
-    plan_answer(alloc, text, options, session, number, pair)
+    plan_answer(alloc, text, options, session, number, current, target)
 }
 
 // The text before the reply to the pair with this number: nothing before the first.
@@ -185,8 +197,8 @@ impl Handler<Line> for Planning {
             }
             Some(current) => {
                 let written = line.as_slice();
-                let pair = pair_of(self.alloc, &self.options, current, origin, written)?;
-                self.answer_pair(&pair, text)
+                let target = target_of(self.alloc, &self.options, &current, origin, written)?;
+                self.answer_pair(&current, &target, text)
             }
         }
     }
@@ -243,8 +255,9 @@ fn texts_answer(
     ensures fault { IfErr result
         (IsFaultOf (pair_of_texts options.now texts.entry.from.now texts.entry.to.now)) }
 {
-    let pair = pair_of_texts(alloc, options, texts.from.as_bytes(), texts.to.as_bytes())?;
-    first_answer(alloc, text, options, &pair)
+    let current = current_of(alloc, options, Origin::From, texts.from.as_bytes())?;
+    let target = target_of(alloc, options, &current, Origin::To, texts.to.as_bytes())?;
+    first_answer(alloc, text, options, &current, &target)
 }
 
 // Appends the reply to the first pair of a run, and returns its status.
@@ -252,31 +265,18 @@ fn first_answer(
     alloc: Global,
     text: &mut Vec<u8>,
     options: &PlanOptions,
-    pair: &Pair,
+    current: &Current,
+    target: &Config<SessionIds>,
 ) -> Result<Status, ToolFault>
-    requires valid_now { is_valid pair.now.current ≡ true }
-    requires valid_target { is_valid pair.now.target ≡ true }
+    requires valid_now { is_valid current.now.config ≡ true }
+    requires valid_target { is_valid target.now ≡ true }
     ensures text { OnOk result (text.new.items
-        ≡ text.old.items ++ pair_text options.now default_session 1 pair.now) }
-    ensures status { IfOk result (λ status. status ≡ plan_status options.now pair.now) }
+        ≡ text.old.items ++ pair_text options.now default_session 1
+        (pair_between current.now target.now)) }
+    ensures status { IfOk result
+        (λ status. status ≡ plan_status options.now (pair_between current.now target.now)) }
     ensures memory { IsOkUnless result OutOfMemory }
 {
     let mut session = default_session(alloc)?;
-    pair_answer(alloc, text, options, &mut session, 1, pair)
-}
-
-// The pair that two texts are.
-fn pair_of_texts(
-    alloc: Global,
-    options: &PlanOptions,
-    from: &[u8],
-    to: &[u8],
-) -> Result<Pair, ToolFault>
-    ensures pair { IfOk result (λ pair. pair_of_texts options.now from.now to.now ≡ Ok pair) }
-    ensures valid_now { IfOk result (λ pair. is_valid pair.current ≡ true) }
-    ensures valid_target { IfOk result (λ pair. is_valid pair.target ≡ true) }
-    ensures fault { IfErr result (IsFaultOf (pair_of_texts options.now from.now to.now)) }
-{
-    let current = current_of(alloc, options, Origin::From, from)?;
-    pair_of(alloc, options, current, Origin::To, to)
+    pair_answer(alloc, text, options, &mut session, 1, current, target)
 }

@@ -6,7 +6,7 @@ use Rattle.conf_change.specs.Configuration.{has_voter}
 use Rattle.conf_change.specs.declared.step.Step.{Step}
 use Rattle.conf_plan.specs.PathBy.{has_path, ids_down, path_by}
 use Rattle.conf_tool.specs.PlanAnswer.{path_between, reply_text, session_with}
-use Rattle.conf_tool.specs.declared.pair.Pair.{Pair}
+use Rattle.conf_tool.specs.Pairs.{Pair, pair_between}
 use Rattle.conf_tool.specs.declared.plan_options.PlanOptions.{PlanOptions}
 use Rattle.conf_tool.proofs.plan_answer.plan_answer.Goals as goal
 
@@ -23,21 +23,21 @@ pub returns-in-Err-NoVoterNow-clause-text : goal.returns-in-Err-NoVoterNow-claus
 returns-in-Err-NoVoterNow-clause-text c =
     let options = c.args.options.now in
     let why = (c.plan_by.ensures.no_voter_now).0 (c.in-Err-NoVoterNow.is ∙ ap Err c.in-Err-NoVoterNow.field-0-is) in
-    subst (λ path. OnOk c.no_plan.result (c.no_plan.new.text.items ≡ c.args.text.now.items ++ reply_text options c.args.session.now c.args.number c.args.pair.now.current path)) (sym (no_now options c.args.pair.now why)) c.no_plan.ensures.text
+    subst (λ path. OnOk c.no_plan.result (c.no_plan.new.text.items ≡ c.args.text.now.items ++ reply_text options c.args.session.now c.args.number c.args.current.now.config path)) (sym (no_now options (pair_between c.args.current.now c.args.target.now) why)) c.no_plan.ensures.text
 
 pub returns-in-Err-NoVoterTarget-clause-text : goal.returns-in-Err-NoVoterTarget-clause-text
 returns-in-Err-NoVoterTarget-clause-text c =
     let options = c.args.options.now in
     let why = (c.plan_by.ensures.no_voter_target).0 (c.in-Err-NoVoterTarget.is ∙ ap Err c.in-Err-NoVoterTarget.field-0-is) in
-    subst (λ path. OnOk c.no_plan-in-Err-NoVoterTarget.result (c.no_plan-in-Err-NoVoterTarget.new.text.items ≡ c.args.text.now.items ++ reply_text options c.args.session.now c.args.number c.args.pair.now.current path))
-    (sym (no_target options c.args.pair.now why.0 why.1)) c.no_plan-in-Err-NoVoterTarget.ensures.text
+    subst (λ path. OnOk c.no_plan-in-Err-NoVoterTarget.result (c.no_plan-in-Err-NoVoterTarget.new.text.items ≡ c.args.text.now.items ++ reply_text options c.args.session.now c.args.number c.args.current.now.config path))
+    (sym (no_target options (pair_between c.args.current.now c.args.target.now) why.0 why.1)) c.no_plan-in-Err-NoVoterTarget.ensures.text
 
 pub returns-in-Err-JointTarget-clause-text : goal.returns-in-Err-JointTarget-clause-text
 returns-in-Err-JointTarget-clause-text c =
     let options = c.args.options.now in
     let why = (c.plan_by.ensures.joint_target).0 (c.in-Err-JointTarget.is ∙ ap Err c.in-Err-JointTarget.field-0-is) in
-    subst (λ path. OnOk c.no_plan-in-Err-JointTarget.result (c.no_plan-in-Err-JointTarget.new.text.items ≡ c.args.text.now.items ++ reply_text options c.args.session.now c.args.number c.args.pair.now.current path))
-    (sym (joint options c.args.pair.now why.0 why.1 why.2)) c.no_plan-in-Err-JointTarget.ensures.text
+    subst (λ path. OnOk c.no_plan-in-Err-JointTarget.result (c.no_plan-in-Err-JointTarget.new.text.items ≡ c.args.text.now.items ++ reply_text options c.args.session.now c.args.number c.args.current.now.config path))
+    (sym (joint options (pair_between c.args.current.now c.args.target.now) why.0 why.1 why.2)) c.no_plan-in-Err-JointTarget.ensures.text
 
 -- there is a path, by its strategy
 found : (options : PlanOptions) (pair : Pair) (steps : List Step) → has_voter pair.current ≡ true → has_voter pair.target ≡ true → has_path pair.strategy pair.current pair.target ≡ true
@@ -47,7 +47,7 @@ found options pair steps some there way is = simp (some, there, way) (ap Ok (sym
 pub returns-in-Ok-clause-session : goal.returns-in-Ok-clause-session
 returns-in-Ok-clause-session c =
     let options = c.args.options.now in
-    let pair = c.args.pair.now in
+    let pair = pair_between c.args.current.now c.args.target.now in
     let some = true_from_ne_false _ (λ e. let refused = c.plan_by.ensures.no_voter_now.1 e in cc) in
     let there = true_from_ne_false _ (λ e. let refused = c.plan_by.ensures.no_voter_target.1 (some, e) in cc) in
     let way = true_from_ne_false _ (λ e. let refused = c.plan_by.ensures.joint_target.1 (some, there, e) in cc) in
