@@ -5,12 +5,12 @@ use Rattle.std.proofs.Math.Bool.{or-false}
 use Rattle.std.proofs.lemmas.List.{append-nil}
 use Rattle.dd_file.specs.Grammar.{Script}
 use Rattle.dd_file.specs.declared.fault.FileFault.{FileFault}
-use Rattle.conf_change.specs.Configuration.{is_valid}
+use Rattle.conf_change.specs.Configuration.{Configuration, is_valid}
 use Rattle.conf_session.specs.SessionState.{SessionState}
 use Rattle.plan_input.specs.Input.{target_in}
 use Rattle.conf_tool.specs.Answered.{script, prepended, with_prefix, HasPlanned, pairs_within, pairs_left, with_status, plan_left}
 use Rattle.conf_tool.specs.Outputs.{Output, ends, pair_text, worse_of, pair_then, session_after_pair, ends_within, planned_pairs, planned_script, planned_texts}
-use Rattle.conf_tool.specs.Pairs.{Pair, NumberedLine, numbered, is_skipped, configuration_lines, current_at, current_written, paired, pair_from, pair_to, with_target, written_at, pair_of_texts, IsFaultOf}
+use Rattle.conf_tool.specs.Pairs.{Pair, NumberedLine, numbered, is_skipped, configuration_lines, current_at, current_written, paired, pair_between, pair_from, pair_to, with_target, written_at, pair_of_texts, IsFaultOf}
 use Rattle.conf_tool.specs.Run.{Means, Wrote, IsStop, is_read_failure, is_write_failure}
 use Rattle.conf_tool.specs.declared.mode.Mode.TheVariants.{Plan as OfPlan}
 use Rattle.conf_tool.specs.declared.origin.Origin.{Origin}
@@ -202,9 +202,6 @@ pub texts-to : (options : PlanOptions) (from to : List ℕ) (current : Current) 
 texts-to options from to current fault is (inl memory) = inl memory
 texts-to options from to current fault is (inr bad) = inr (bad.0, bad.1, ap (with_target (pair_from options To to)) is ∙ bad.2)
 
-pub texts-read : (options : PlanOptions) (from to : List ℕ) (current : Current) (pair : Pair) → current_written options From from ≡ Ok current → pair_from options To to current ≡ Ok pair → pair_of_texts options from to ≡ Ok pair
-texts-read options from to current pair first second = ap (with_target (pair_from options To to)) first ∙ second
-
 -- a text with an error stops the run
 pub texts-stop : (options : PlanOptions) (from to : List ℕ) (fault : ToolFault) (buffered : Option (List ℕ)) → IsFaultOf (pair_of_texts options from to) fault → Means (planned_texts options from to) (Err fault) buffered buffered
 unfolding planned_texts
@@ -223,7 +220,11 @@ texts-planned options from to pair is =
     ∙ ap (λ (text : List ℕ). record { text = text; outcome = worse_of (plan_status options pair) (Ok Clean) }) (append-nil (pair_text options default_session 1 pair))
     ∙ ap (λ (outcome : Result Status ToolFault). record { text = pair_text options default_session 1 pair; outcome = outcome }) (worse_of-clean (plan_status options pair))
 
--- .. whose text is that of the reply
+-- .. of a current configuration and a target that were read
+pub texts-paired : (options : PlanOptions) (from to : List ℕ) (current : Current) (target : Configuration) → current_written options From from ≡ Ok current → pair_from options To to current ≡ Ok (pair_between current target) →
+    planned_texts options from to ≡ record { text = pair_text options default_session 1 (pair_between current target); outcome = Ok (plan_status options (pair_between current target)) }
+texts-paired options from to current target first second = texts-planned options from to (pair_between current target) (ap (with_target (pair_from options To to)) first ∙ second)
+
 -- .. and no read has failed
 pub texts-unread : (read : Result Pair PlanInputFault) (stop : ToolFault) → IsFaultOf read stop → is_read_failure {X = Status} (Err stop) ≡ false
 texts-unread read stop (inl memory) = subst (λ s. is_read_failure {X = Status} (Err s) ≡ false) (sym memory) refl

@@ -2,8 +2,7 @@ use Rattle.std.proofs.Common.{◌≡◌, ◌∙◌, ◌++◌, sym, subst, ap}
 use Rattle.std.specs.Prelude.{Ok, OnOk}
 use Rattle.std.proofs.lemmas.Result.{err_from_is_err_and, IfOk-weaker}
 use Rattle.conf_tool.specs.Outputs.{Output, planned_texts}
-use Rattle.conf_tool.specs.Pairs.{pair_between}
-use Rattle.conf_tool.proofs.Modes.Plan.{texts-from, texts-to, texts-read, texts-memory, texts-planned}
+use Rattle.conf_tool.proofs.Modes.Plan.{texts-from, texts-to, texts-memory, texts-paired}
 use Rattle.conf_tool.proofs.run.plan.texts_answer.Goals as goal
 
 pub returns-in_err-current-clause-fault : goal.returns-in_err-current-clause-fault
@@ -21,24 +20,18 @@ pub returns-clause-text : goal.returns-clause-text
 returns-clause-text c =
     let current = rw c.as_bytes.ensures.value at c.in_ok-current.ensures.current in
     let target = rw c.as_bytes-2.ensures.value at c.in_ok-target.ensures.pair in
-    let options = c.args.options.now in
-    let from = c.args.texts.from.now in
-    let to = c.args.texts.to.now in
-    let pair = pair_between c.in_ok-current.current c.in_ok-target.target in
+    let planned = texts-paired c.args.options.now c.args.texts.from.now c.args.texts.to.now c.in_ok-current.current c.in_ok-target.target current target in
     let before = c.args.text.now.items in
     let after = c.first_answer.new.text.items in
-    subst (λ text. OnOk c.first_answer.result (after ≡ before ++ text)) (sym (ap (λ (o : Output). o.text) (texts-planned options from to pair (texts-read options from to c.in_ok-current.current pair current target)))) c.first_answer.ensures.text
+    subst (λ text. OnOk c.first_answer.result (after ≡ before ++ text)) (sym (ap (λ (o : Output). o.text) planned)) c.first_answer.ensures.text
 
 pub returns-clause-outcome : goal.returns-clause-outcome
 returns-clause-outcome c =
     let current = rw c.as_bytes.ensures.value at c.in_ok-current.ensures.current in
     let target = rw c.as_bytes-2.ensures.value at c.in_ok-target.ensures.pair in
-    let options = c.args.options.now in
-    let from = c.args.texts.from.now in
-    let to = c.args.texts.to.now in
-    let pair = pair_between c.in_ok-current.current c.in_ok-target.target in
-    IfOk-weaker c.first_answer.result _ (λ status. (planned_texts options from to).outcome ≡ Ok status)
-    (λ status is. ap (λ (o : Output). o.outcome) (texts-planned options from to pair (texts-read options from to c.in_ok-current.current pair current target)) ∙ ap Ok (sym is)) c.first_answer.ensures.status
+    let planned = texts-paired c.args.options.now c.args.texts.from.now c.args.texts.to.now c.in_ok-current.current c.in_ok-target.target current target in
+    let output = planned_texts c.args.options.now c.args.texts.from.now c.args.texts.to.now in
+    IfOk-weaker c.first_answer.result _ (λ status. output.outcome ≡ Ok status) (λ status is. ap (λ (o : Output). o.outcome) planned ∙ ap Ok (sym is)) c.first_answer.ensures.status
 
 pub returns-clause-fault : goal.returns-clause-fault
 returns-clause-fault c = texts-memory _ _ c.first_answer.ensures.memory
