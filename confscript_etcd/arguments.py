@@ -3,97 +3,102 @@ import argparse
 import os
 import signal
 
-from . import output, status
+from . import guide, output, status
 from .cluster import Cluster
 from .commands import COMMANDS
 from .etcdctl import Etcdctl
+from .onlooker import Onlooker
 from .plan import run_program
 from .reasons import Stop, last_line
 from .running import Run
-from .servers import address
+from .servers import address, server_names
 
-ABOUT = """Carries out membership changes on a running etcd cluster: plans them by
-confscript, shows who votes and how many servers may be down at each step, asks,
-and makes the changes by etcdctl. The same command again carries on where a run
-was interrupted."""
-
-ETCDCTL = """etcdctl takes certificates and the user from its options
-(--etcdctl 'etcdctl --cacert ca.pem') or from its environment (ETCDCTL_CACERT,
-ETCDCTL_CERT, ETCDCTL_KEY, ETCDCTL_USER).
-
-Exit status: 0 done; 1 refused, nothing was changed; 2 wrong arguments; 3 stopped
-on the way, the same command carries on; for status also 4 if writes are taken and
-something is amiss, 5 if nothing can be written.
-
-It was tested with etcd 3.4.23, 3.5.16 and 3.5.30, and with clusters of both 3.4
-and 3.5."""
-
-EXAMPLES = {
-    "status": "confscript-etcd status --endpoints http://10.0.0.1:2379",
-    "replace": "confscript-etcd replace n3 --with n4=http://10.0.0.4:2380",
-    "add": "confscript-etcd add n4=http://10.0.0.4:2380 n5=http://10.0.0.5:2380",
-    "remove": "confscript-etcd remove n5 n4 --healthy",
-    "carry-out": "confscript-etcd carry-out steps.json --new 4 n4 http://10.0.0.4:2380",
-}
+DEFAULT_ENDPOINT = "http://127.0.0.1:2379"
 
 
 def parser():
-    top = argparse.ArgumentParser(prog="confscript-etcd", description=ABOUT, epilog=f"{examples(EXAMPLES)}\n\n{ETCDCTL}",
+    top = argparse.ArgumentParser(prog="confscript-etcd", description=guide.ABOUT, epilog=guide.epilog(),
                                   formatter_class=argparse.RawDescriptionHelpFormatter, allow_abbrev=False)
     top.add_argument("-V", "--version", action="store_true", help="print the version")
     chosen = top.add_subparsers(dest="command", metavar="COMMAND")
 
     def command(name, help, *servers):
-        it = chosen.add_parser(name, help=help, description=help[0].upper() + help[1:] + ".", epilog=f"{examples({name: EXAMPLES[name]})}\n\n{ETCDCTL}",
+        it = chosen.add_parser(name, help=help, description=help[0].upper() + help[1:] + ".", epilog=guide.epilog(name),
                                formatter_class=argparse.RawDescriptionHelpFormatter, allow_abbrev=False)
         for add in servers:
             add(it)
-        for_all(it, changes=name != "status")
+        for_all(it, name)
         return it
 
     def named(it):
         it.add_argument("servers", nargs="+", metavar="SERVER", help="a member, by its name or its id (hexadecimal or decimal); several with commas between")
 
-    def healthy(it):
-        it.add_argument("--healthy", action="store_true", help="also members that answer; new ones join before these leave")
+    def healthy(it, more=""):
+        it.add_argument("--healthy", action="store_true", help=f"also members that answer{more}")
+
+    def healthy_first(it):
+        healthy(it, "; new ones join before these leave")
+
+    def failed(it):
+        it.add_argument("--failed", action="append", default=[], metavar="SERVER", help="a member of which you know that it failed and does not come back, "
+                        "where the others do not report whether they hear from it; several with commas between")
 
     def shown(it):
         it.add_argument("--output", choices=("text", "json"), default="text", help="how to print it (default: text)")
-        it.add_argument("--watch", action="store_true", help="print it again every five seconds, until interrupted")
+        once = it.add_mutually_exclusive_group()
+        once.add_argument("--watch", action="store_true", help="print it again every five seconds, until interrupted")
+        once.add_argument("--nagios", action="store_true", help="print one line, and end with 0 to 3 as plugins of Nagios do")
 
     command("status", "show the members, which of them answer, whether writes are taken, and how many more may fail", shown)
-    replace = command("replace", "replace members by new servers; a failed one leaves before its successor joins", named, healthy)
+    replace = command("replace", "replace members by new servers; a failed one leaves before its successor joins", named, healthy_first, failed)
     replace.add_argument("--with", dest="new", action="append", required=True, metavar="NAME=URL",
                          help="the successor: its name and its peer URL; several with commas between, in the order of the members")
     add = command("add", "add servers as voters, each a learner first")
     add.add_argument("new", nargs="+", metavar="NAME=URL", help="a new server: its name and its peer URL")
-    command("remove", "remove members", named, healthy)
-    carry = command("carry-out", "carry out the plan that confscript plan --strategy one-at-a-time --output json printed")
+    command("remove", "remove members", named, healthy, failed)
+    carry = command("carry-out", "carry out the plan that confscript plan --strategy one-at-a-time --output json printed", failed)
     carry.add_argument("plan", metavar="PLAN", help="the file with the plan, or - for standard input")
     carry.add_argument("--new", nargs=3, action="append", default=[], metavar=("ID", "NAME", "URL"),
                        help="a server that the plan adds: its number in the plan, its name and its peer URL")
     return top
 
 
-def examples(found):
-    return "\n".join(["Examples:" if len(found) > 1 else "Example:", *(f"  {it}" for it in found.values())])
-
-
-def for_all(it, changes):
-    it.add_argument("--endpoints", default=os.environ.get("ETCDCTL_ENDPOINTS", "http://127.0.0.1:2379"), metavar="URLS",
-                    help="client URLs of some voters, with commas between (default: ETCDCTL_ENDPOINTS, or http://127.0.0.1:2379); "
+def for_all(it, name):
+    it.add_argument("--endpoints", default=os.environ.get("ETCDCTL_ENDPOINTS", ""), metavar="URLS",
+                    help=f"client URLs of some voters, with commas between (default: ETCDCTL_ENDPOINTS, or {DEFAULT_ENDPOINT}); "
                     "a member is reached at the URL that it advertises, or at one of these")
     it.add_argument("--client-url", action="append", default=[], metavar="NAME=URL",
-                    help="where the member of this name or id is reached, if not at the client URL that it advertises")
+                    help="where the member of this name or id is reached, if not at the client URL that it advertises; "
+                    "of a new server: the client URL in its settings")
+    it.add_argument("--metrics-url", action="append", default=[], metavar="NAME=URL",
+                    help="where the metrics of the member of this name or id are read, if not at its client URL (etcd's --listen-metrics-urls)")
     it.add_argument("--etcdctl", default="etcdctl", metavar="COMMAND", help="how etcdctl is called, with its options (default: etcdctl)")
+    if name == "status":
+        it.add_argument("--limit", type=seconds, metavar="SECONDS", help="how long a look may take (default: 20; with --nagios 8)")
+        return
     it.add_argument("--limit", type=seconds, default=600, metavar="SECONDS", help="how long to wait for one state (default 600)")
-    if changes:
-        it.add_argument("--dry-run", action="store_true", help="show the plan and the commands, and change nothing")
-        it.add_argument("--yes", action="store_true", help="do not ask")
-        it.add_argument("--snapshot", metavar="FILE", help="save a snapshot of the keys to this file before the first change, and check it")
-        it.add_argument("--peer-proxy", action="store_true", help="something listens at peer URLs even where no server runs, such as a proxy")
-        it.add_argument("--start", metavar="COMMAND", help="a shell command that starts the new server whose settings are in its environment "
-                        "(ETCD_NAME, ETCD_INITIAL_CLUSTER, ETCD_INITIAL_CLUSTER_STATE, ETCD_INITIAL_ADVERTISE_PEER_URLS); without it you start it")
+    it.add_argument("--steady", type=seconds, default=10, metavar="SECONDS",
+                    help="how long the same servers have to be up before a voter leaves and before the run is done (default 10)")
+    asks = it.add_mutually_exclusive_group()
+    asks.add_argument("--yes", action="store_true", help="do not ask")
+    asks.add_argument("--step", action="store_true", help="take one step, then ask before the next one")
+    it.add_argument("--dry-run", action="store_true", help="show the plan and the commands, and change nothing")
+    saves = it.add_mutually_exclusive_group()
+    saves.add_argument("--snapshot", metavar="FILE", help="save a snapshot of the keys to this new file before the first change, and check it "
+                       "(default: if a voter is removed, to a new file in the current folder)")
+    saves.add_argument("--no-snapshot", action="store_true", help="save no snapshot")
+    it.add_argument("--peer-proxy", action="store_true", help="something listens at peer URLs even where no server runs, such as a proxy")
+    if name == "remove":
+        it.set_defaults(start=None, env_file=[])
+    else:
+        for_new(it)
+
+
+def for_new(it):
+    it.add_argument("--env-file", action="append", default=[], metavar="FILE", help="write the settings of the new server to this file before it is added, "
+                    "for EnvironmentFile= of systemd; once for each new server, in their order")
+    it.add_argument("--start", metavar="COMMAND", help="a shell command that starts the new server whose settings are in its environment "
+                    "(ETCD_NAME, ETCD_INITIAL_CLUSTER, ETCD_INITIAL_CLUSTER_STATE, ETCD_INITIAL_ADVERTISE_PEER_URLS); without it you start it")
 
 
 def seconds(text):
@@ -103,8 +108,8 @@ def seconds(text):
     return value
 
 
-def client_urls(texts):
-    """Where members are reached, by name or id."""
+def named_urls(texts):
+    """URLs of members, by name or id."""
     urls = {}
     for text in texts:
         name, _, url = text.partition("=")
@@ -114,8 +119,9 @@ def client_urls(texts):
 
 
 def endpoints(text):
-    """The client URLs of --endpoints. As in etcdctl, one may lack the scheme."""
-    urls = [url if "://" in url else f"http://{url}" for url in text.split(",")]
+    """The client URLs of --endpoints. As in etcdctl, one may lack the scheme or end in a slash, and an empty text is none."""
+    parts = [it.strip().rstrip("/") for it in text.split(",")]
+    urls = [it if "://" in it else f"http://{it}" for it in parts if it] or [DEFAULT_ENDPOINT]
     for url in urls:
         address(url)
     return urls
@@ -141,6 +147,8 @@ def main(program):
         signal.pthread_sigmask(signal.SIG_UNBLOCK, [signal.SIGINT])
         return run(options, program)
     except Stop as stop:
+        if options.command == "status":
+            return status.show_stopped(stop, form(options))
         output.complain(f"confscript-etcd: {stop}")
         return stop.status
     except OSError as error:
@@ -158,8 +166,19 @@ def run(options, program):
     if options.version:
         output.say(version(program))
         return 0
-    command = COMMANDS[options.command](options) if options.command in COMMANDS else None
-    cluster = Cluster(Etcdctl(options.etcdctl, os.environ, options.limit), endpoints(options.endpoints), client_urls(options.client_url))
-    if command:
-        return Run(options, command, cluster, program).run()
-    return (status.watch if options.watch else status.show)(cluster, options.output == "json")
+    if getattr(options, "failed", None):
+        options.failed = server_names(options.failed)
+    if options.command == "status":
+        limit = options.limit if options.limit is not None else 8 if options.nagios else 20
+        return (status.watch if options.watch else status.show)(cluster_of(Onlooker, options, limit), form(options), limit)
+    command = COMMANDS[options.command](options)
+    return Run(options, command, cluster_of(Cluster, options, options.limit), program).run()
+
+
+def cluster_of(kind, options, limit):
+    return kind(Etcdctl(options.etcdctl, os.environ, limit), endpoints(options.endpoints), named_urls(options.client_url), named_urls(options.metrics_url))
+
+
+def form(options):
+    """How the status is printed."""
+    return "nagios" if options.nagios else options.output

@@ -10,14 +10,23 @@ from .task import Task
 
 # Each command reads its arguments and its file when it is made, before the cluster is asked. Its `task` is asked twice:
 # before the operator is, and before the first change. It returns the task, and by which words the operator named which
-# servers that leave. `text` is what others see of it, and `words` are those of the record.
+# servers that leave. `new` are the servers that join. `text` is what others see of it, and `words` are those of the record.
+
+
+def leaving(options):
+    """The names of the servers that leave. Those that --failed names are among them."""
+    names = server_names(options.servers)
+    for name in options.failed:
+        if name not in names:
+            raise Usage(f"--failed {name}: the servers that leave are {listed(names)}")
+    return names
 
 
 class Replace:
     """Each named member is replaced by the server at the same position of --with."""
 
     def __init__(self, options):
-        names, self.new = server_names(options.servers), new_servers(options.new)
+        names, self.new = leaving(options), new_servers(options.new)
         if len(names) != len(self.new):
             raise Usage(f"{len(names)} to replace, and {len(self.new)} with a name of their own in --with: expected as many")
         self.pairs = list(zip(names, self.new))
@@ -29,6 +38,8 @@ class Replace:
         for words, (name, new) in zip(self.words, self.pairs):
             member, removed = find(name, view.members), record.removed(words, view, self.new)
             if member and is_successor(member, new, removed, view):
+                member = None
+            elif member and member.shares_url(new) and view.answers(member) and is_done(member, record.done(words)):
                 member = None
             elif member and member.shares_url(new) and view.answers(member):
                 raise Stop(f"{member.label} answers at the URL of its successor, so nothing is changed. If it was replaced before, that is done; "
@@ -53,6 +64,11 @@ def is_successor(member, new, removed, view):
     return member.is_learner or (removed not in (None, member.id) and view.answers(member))
 
 
+def is_done(member, kept):
+    """Whether a member is there since a run is done that removed an earlier one with its name and URL."""
+    return kept is not None and member.id != kept.id and member.id in kept.members
+
+
 def members_text(view):
     return f"the members are {listed(member.label for member in view.members)}"
 
@@ -71,7 +87,7 @@ class Add:
 
 class Remove:
     def __init__(self, options):
-        self.words = server_names(options.servers)
+        self.words, self.new = leaving(options), []
         self.text = f"remove {','.join(self.words)}"
 
     def task(self, cluster, view, record, options, program):
@@ -80,7 +96,7 @@ class Remove:
             member = find(name, view.members)
             if member:
                 request.leaves(member, name)
-            elif record.removed(name, view) is None:
+            elif record.removed(name, view) is None and record.done(name) is None:
                 raise Stop(f"{name} is not a member: {members_text(view)}")
         return request.task(program), request.kept
 
@@ -91,14 +107,15 @@ class CarryOut:
     def __init__(self, options):
         with sys.stdin if options.plan == "-" else open(options.plan, encoding="utf-8") as file:
             self.plan = read_plan(file)
-        self.new, self.words, self.text = numbered(options.new), [], f"carry-out {options.plan}"
-        for id in self.new:
+        self.numbered, self.words, self.text = numbered(options.new), [], f"carry-out {options.plan}"
+        self.new = list(self.numbered.values())
+        for id in self.numbered:
             if id not in self.plan.ids():
                 raise Usage(f"--new {id}: the plan adds no such member")
 
     def task(self, cluster, view, record, options, program):
         plan = self.plan
-        task = Task(view, (), self.new, frozenset(plan.ids()) - set(self.new), frozenset())
+        task = Task(view, (), self.numbered, frozenset(plan.ids()) - set(self.numbered), frozenset())
         task = task._replace(steps=tuple(steps_of(plan, task.configuration(view.members))))
         check_new(task, options)
         named = plan.down if plan.down is not None else frozenset(task.leaving())
@@ -106,7 +123,7 @@ class CarryOut:
             if plan.down and member.id in plan.down and view.answers(member):
                 raise Stop(f"{member.label} is down in the plan, and answers: plan without it in --down, or stop it")
             if member.id in named and not view.answers(member):
-                refuse_up(member, view, cluster, options.peer_proxy)
+                refuse_up(member, view, cluster, options)
         failed = frozenset(member.id for member in view.silent_voters() if member.id in named)
         return task._replace(steps=tuple(each for step in task.steps for each in step.learner_first(failed)), failed=failed), {}
 

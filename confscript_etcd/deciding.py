@@ -5,7 +5,7 @@ from typing import NamedTuple, Optional, Tuple
 
 from .plan import Configuration, Step, next_step
 from .reasons import Stop, last_line
-from .servers import unreachable
+from .refusals import may_be_up
 
 
 class Answer(NamedTuple):
@@ -55,8 +55,8 @@ class Decider:
     """Asks the mode for the steps of a task. A member has caught up when it has applied all that was committed at the first
     look after its configuration was seen: so it knows that configuration, and new entries do not put it off."""
 
-    def __init__(self, mode, task, is_proxied):
-        self.mode, self.task, self.is_proxied = mode, task, is_proxied
+    def __init__(self, mode, task, options):
+        self.mode, self.task, self.options = mode, task, options
         # How many of the steps are taken, the configuration then, and what was committed when it was known.
         self.done, self.now, self.committed = 0, task.configuration(task.view.members), None
 
@@ -120,11 +120,10 @@ class Decider:
         return Answer(answer["action"], answer.get("why"), tuple(numbers[id] for id in answer.get("ids", ())), step)
 
     def is_heard(self, view, member):
-        """Whether a member is up: it answers, and has a leader. One that is named as failed may be up if anything is heard of
-        it: any answer, what others say, or that something listens at its peer URL."""
+        """Whether a member is up: it answers, and has a leader. One that is named as failed is taken for up if it may be."""
         if member.id not in self.task.failed:
             return view.answers(member) and not view.is_cut_off(member)
-        return view.answers(member) or bool(view.heard_by(member)) or not (self.is_proxied or all(unreachable(url) for url in member.peers))
+        return may_be_up(member, view, self.options)
 
 
 def state(configuration, ids):

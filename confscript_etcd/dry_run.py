@@ -1,9 +1,10 @@
 """The calls that would change the cluster, for --dry-run."""
 import shlex
 
-from .carrying import settings, words_of
+from .carrying import words_of
 from .plan import Call
 from .servers import Member
+from .settings import settings
 
 
 def calls(task, cluster):

@@ -1,7 +1,10 @@
 """Running etcdctl."""
 import json
+import os
+import re
 import shlex
 import subprocess
+import time
 
 from .reasons import NotYet, Stop, Usage, last_line
 
@@ -40,6 +43,8 @@ NAMELESS = ("user name is empty", "permission denied", "invalid auth token")
 # What etcdctl may take from its environment, and this command decides. An option that is given twice is refused.
 DECIDED = ("ETCDCTL_ENDPOINTS", "ETCDCTL_WRITE_OUT", "ETCDCTL_HEX", "ETCDCTL_CLUSTER")
 SECRET = ("--user", "--password")
+# Why a certificate is refused, in etcdctl's log from 3.5 on.
+TLS = re.compile(r'(?:(?:remote error: )?tls|x509): [^"\\(]*')
 
 
 class Etcdctl:
@@ -54,11 +59,24 @@ class Etcdctl:
             raise Usage("--etcdctl: expected a command")
         # etcdctl itself gives up after five seconds, unless it or what calls it hangs.
         self.limit = max(LEAST_LIMIT, min(limit, MOST_LIMIT))
+        # When all has to be over, by the clock time.monotonic. None if each call has its own limit.
+        self.end = None
         self.environment = {name: value for name, value in environment.items() if name not in DECIDED}
         self.environment["ETCDCTL_API"] = "3"
         user = environment.get("ETCDCTL_USER", "")
         if user and ":" not in user and not environment.get("ETCDCTL_PASSWORD") and not any(it.startswith("--password") for it in self.words):
             raise Usage(f"ETCDCTL_USER is {user}: give the password too, in ETCDCTL_PASSWORD or as ETCDCTL_USER={user}:PASSWORD")
+
+    def seconds(self, most):
+        """How long something may take that takes so long at most: half of what is left, so that something is left for what
+        comes after it."""
+        return most if self.end is None else max(0.2, min(most, (self.end - time.monotonic()) / 2))
+
+    def timeout(self, seconds):
+        """The variable by which etcdctl gives up by itself, and says why, before it is ended. None if it has a timeout, or has
+        more time than it takes of its own accord."""
+        is_set = self.option("command-timeout") is not None
+        return {} if is_set or self.end is None else {"ETCDCTL_COMMAND_TIMEOUT": f"{min(5, 0.8 * seconds):.1f}s"}
 
     def command(self, words, endpoints):
         return [*self.words, f"--endpoints={','.join(endpoints)}", *words]
@@ -74,7 +92,11 @@ class Etcdctl:
                 return next(iter(self.words[at + 1:]), None)
             if word.startswith(f"--{name}="):
                 return word.partition("=")[2]
-        return self.environment.get(f"ETCDCTL_{name.upper()}") or None
+        return self.environment.get(f"ETCDCTL_{name.upper().replace('-', '_')}") or None
+
+    def shows_certificates(self):
+        """Whether the certificates that it uses are known here. A command that calls etcdctl may have others."""
+        return os.path.basename(self.words[0]) == "etcdctl" or self.option("cacert") is not None
 
     def has_flag(self, name):
         return f"--{name}" in self.words or self.environment.get(f"ETCDCTL_{name.upper().replace('-', '_')}") == "true"
@@ -91,8 +113,8 @@ class Etcdctl:
 
     def call(self, words, endpoints, with_user=True, given=None, limit=None):
         """The status of a call of etcdctl, what it prints, and the error that it reports."""
-        limit = limit or self.limit
-        command, environment = self.command(words, endpoints), self.environment
+        limit = self.seconds(limit or self.limit)
+        command, environment = self.command(words, endpoints), {**self.environment, **self.timeout(limit)}
         if not with_user:
             command = [*without_user(self.words), *command[len(self.words):]]
             environment = {name: value for name, value in environment.items() if name not in ("ETCDCTL_USER", "ETCDCTL_PASSWORD")}
@@ -103,7 +125,7 @@ class Etcdctl:
                     printed, errors = it.communicate(given, timeout=limit)
                 except subprocess.TimeoutExpired:
                     it.kill()
-                    return 1, "", f"{HUNG} after {limit:g} s"
+                    return 1, "", f"{HUNG} after {round(limit, 1):g} s"
                 except BaseException:
                     it.kill()
                     raise
@@ -138,5 +160,6 @@ def without_user(words):
 
 
 def last_error(text):
-    """The reason that etcdctl gives for a failure, without its log."""
-    return last_line(text).removeprefix("Error: ") or "etcdctl failed without a reason"
+    """The reason that etcdctl gives for a failure: without its log, unless that says that a certificate is refused."""
+    reason, refused = last_line(text).removeprefix("Error: ") or "etcdctl failed without a reason", TLS.search(text)
+    return f"{reason}: {refused[0].strip()}" if refused and "deadline exceeded" in reason else reason

@@ -31,6 +31,8 @@ class Lock:
             holder = self.put(lease)
         except Stop as reason:
             self.revoke(lease)
+            if "permission denied" not in str(reason) and self.cluster.etcdctl.is_nameless(str(reason)):
+                raise  # who may change the members has to say who it is
             note(f"the key {KEY} cannot be written, so another run would not be noticed: {reason}")
             return
         if holder:
@@ -76,6 +78,16 @@ class Lock:
 
     def answer(self, *words, given=None):
         return self.cluster.etcdctl.answer(list(words), self.cluster.seen, given=given)
+
+
+def holder(cluster):
+    """Who changes the members of a cluster now. None if no one does, or if it is not known."""
+    try:
+        found = cluster.etcdctl.answer(["get", KEY], cluster.seen).get("kvs")
+    except Stop:
+        return None
+    text = base64.b64decode(found[0]["value"]).decode(errors="replace") if found else None
+    return None if text and is_dead(text) else text
 
 
 def is_dead(holder):

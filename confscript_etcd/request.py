@@ -23,7 +23,7 @@ class Request:
 
     def __init__(self, cluster, view, options):
         self.cluster, self.view = cluster, view
-        self.is_healthy, self.is_proxied = getattr(options, "healthy", False), options.peer_proxy
+        self.options, self.is_healthy = options, getattr(options, "healthy", False)
         self.pairs, self.kept = [], {}
 
     @property
@@ -37,7 +37,7 @@ class Request:
         # A learner has no vote, so one that does not answer is removed even if it is up.
         is_free = self.is_healthy if self.view.answers(member) else member.is_learner
         if not is_free:
-            refuse_up(member, self.view, self.cluster, self.is_proxied)
+            refuse_up(member, self.view, self.cluster, self.options)
         self.pairs.append(Pair(member, new, None))
         self.kept[words] = member.id
 
@@ -61,9 +61,22 @@ class Request:
             if not known and any(member.name == new.name or member.shares_url(new) for member in staying):
                 raise Stop(f"{new.name} is the name, or has a URL, of a member that is still there when it is added")
             if not known:
-                refuse_unfit(new, staying, self.view.members, self.is_proxied)
+                refuse_unfit(new, staying, self.view.members, self.options.peer_proxy)
             self.pairs[at] = pair._replace(known=known)
         refuse_shared([pair.new for pair in self.pairs if pair.new and not pair.known])
+
+    def refuse_other_learner(self):
+        """Refuses a server more while there is a learner of others, which etcd's server does not take beside another one."""
+        staying = [member for member in self.view.members if member.is_learner and member not in self.leaving]
+        others = [member for member in staying if member not in [pair.known for pair in self.pairs]]
+        new = [pair.new for pair in self.pairs if pair.new and not pair.known]
+        if not others or not new:
+            return
+        it, words = others[0], [self.view.word(member) for member in [*self.view.silent_voters(), *others]]
+        state = "is a learner" if it.has_started else "is a learner that has not started"
+        removal = f"To take it out: {self.cluster.suggestion('remove', ','.join(words))}"
+        addition = f", and then: {self.cluster.suggestion('add', *map(str, new))}" if len(words) > len(others) else ""
+        raise Stop(f"{it.label} ({', '.join(it.peers)}) {state}, and etcd's server takes one learner at a time. {removal}{addition}")
 
     def groups(self, numbers):
         """The changes, in groups of which each is planned by itself. Failed members leave before a server joins, since etcd
@@ -84,6 +97,7 @@ class Request:
     def task(self, program):
         """The task that carries it out, by the plans that the program makes."""
         self.find_known()
+        self.refuse_other_learner()
         configuration, ids = configuration_of(self.view.members), {member.id for member in self.view.members}
         free = unused_numbers(ids, sum(pair.new is not None and pair.known is None for pair in self.pairs))
         numbers = {pair.new: pair.known.id if pair.known else free.pop(0) for pair in self.pairs if pair.new}

@@ -1,6 +1,7 @@
 """How a server is named: a new one by NAME=URL, a member by its name or its id."""
 import ipaddress
 import socket
+import ssl
 import urllib.parse
 from typing import NamedTuple, Tuple
 
@@ -60,10 +61,35 @@ def is_address(url):
     return True
 
 
-def unreachable(url):
+def answers_at(url, seconds=3):
+    """Whether a server answers a request at a URL, be it by an error. One that hangs may still accept connections."""
+    try:
+        with socket.create_connection(address(url), timeout=seconds) as connection:
+            if url.startswith("https:"):
+                return speaks_tls(connection)
+            connection.sendall(b"GET /version HTTP/1.0\r\n\r\n")
+            return bool(connection.recv(1))
+    except (OSError, Stop, UnicodeError):
+        return False
+
+
+def speaks_tls(connection):
+    """Whether the other end of a connection takes part in a handshake, or refuses it by an alert."""
+    context = ssl.create_default_context()
+    context.check_hostname, context.verify_mode = False, ssl.CERT_NONE
+    try:
+        with context.wrap_socket(connection):
+            return True
+    except (ssl.SSLEOFError, ssl.SSLZeroReturnError):
+        return False
+    except ssl.SSLError as error:
+        return not isinstance(error, TimeoutError)
+
+
+def unreachable(url, seconds=3):
     """Why nothing can be reached at a URL. None if something listens there."""
     try:
-        socket.create_connection(address(url), timeout=3).close()
+        socket.create_connection(address(url), timeout=seconds).close()
     except OSError as error:
         return (error.strerror or str(error)).lower()
     except (Stop, UnicodeError) as reason:
@@ -97,6 +123,17 @@ def server_names(texts):
         if names.count(name) > 1:
             raise Usage(f"{name} is named twice")
     return names
+
+
+def is_named(member, texts):
+    """Whether one of these texts names a member."""
+    return any(find(text, [member]) for text in texts)
+
+
+def word_for(member, members):
+    """The word by which a command names a member: its name, or its id if it has none or another one has that name."""
+    is_clear = member.name and [it.name for it in members].count(member.name) == 1
+    return member.name if is_clear else f"{member.id:x}"
 
 
 def find(text, members):

@@ -1,7 +1,9 @@
 """How a plan and the members of a cluster are shown."""
 from .output import paragraph
 from .plan import majority
-from .reasons import clause, listed, verb
+from .reasons import clause, listed, sentence, verb
+from .refusals import is_declared, unknown
+from .sizes import size_text
 
 
 def lines_of(rows):
@@ -55,6 +57,28 @@ def notes(task):
         yield "Where the last column is 0, one more failure stops all writes until a server is back."
 
 
+def doubted(task):
+    """The voters that are named as failed, and may be up as far as is known."""
+    return [member for member in task.view.voters if member.id in task.failed and task.view.doubt(member)]
+
+
+def notes_on_failed(task, options):
+    """What is known of the voters that are named as failed, where it is not that the others have no connection with them."""
+    for member in task.view.voters:
+        if member.id in task.failed and task.view.hangs(member):
+            yield hanging(member)
+    for member in doubted(task):
+        reason = unknown(task.view, member)
+        if is_declared(member, options):
+            yield f"You say that {member.label} failed and does not come back (--failed); {reason}."
+        else:
+            yield f"{sentence(reason)} It is looked at again once this run has written its key, before the first change."
+
+
+def hanging(member):
+    return f"{member.label} hangs, or its network is cut: it keeps its connections, and nothing comes from it. Stop it, or see that it stays cut off."
+
+
 def show_untested(view):
     untested = view.untested_versions()
     if untested:
@@ -63,7 +87,7 @@ def show_untested(view):
 
 def identity(task, cluster):
     """Which cluster is changed, by its id and the ids of its members."""
-    members = ", ".join(f"{member.label} {member.id:x}" for member in task.view.members)
+    members = ", ".join(f"{member.name} {member.id:x}".strip() for member in task.view.members)
     return f"This is the cluster {cluster.id:x} at {','.join(cluster.endpoints)}: {members}."
 
 
@@ -72,7 +96,7 @@ def servers(view):
     statuses = {member.label: view.statuses[member.id] for member in view.members if view.answers(member)}
     versions = {status.version for status in statuses.values()}
     text = versions.pop() if len(versions) == 1 else ", ".join(f"{status.version} ({name})" for name, status in statuses.items())
-    return f"The servers are of etcd {text}, and their databases have up to {max(status.size for status in statuses.values()) / 1e6:.1f} MB."
+    return f"The servers are of etcd {text}, and their databases have up to {size_text(max(status.size for status in statuses.values()))}."
 
 
 def count(view):
@@ -93,7 +117,7 @@ def tolerance(view):
 def member_lines(view):
     """The members as a table."""
     leader = view.leader()
-    rows = [["name", "id", "decimal id", "role", "version", "peer URLs"]]
+    rows = [["name", "id", "decimal id", "role", "applied", "version", "peer URLs"]]
     for member in view.members:
         status = view.statuses.get(member.id)
         role = "learner" if member.is_learner else "voter, leads" if member == leader else "voter"
@@ -103,7 +127,8 @@ def member_lines(view):
             role += ", does not answer"
         elif view.is_cut_off(member):
             role += ", has no leader"
-        rows.append([member.name or "-", f"{member.id:x}", str(member.id), role, status.version if status else "-", ",".join(member.peers)])
+        said = (str(status.applied), status.version) if status else ("-", "-")
+        rows.append([member.name or "-", f"{member.id:x}", str(member.id), role, *said, ",".join(member.peers)])
     return lines_of(rows)
 
 

@@ -52,6 +52,12 @@ class Task(NamedTuple):
         """The members that the steps remove."""
         return [step.id for step in self.steps if step.call is Call.REMOVE]
 
+    def is_last_to_leave(self, done):
+        """Whether the step after so many is the last one that removes a member, and servers have joined before it."""
+        step, later = self.steps[done], self.steps[done + 1:]
+        joined = any(number in step.before.voters for number in self.new)
+        return step.call is Call.REMOVE and joined and step.id not in self.failed and not any(it.call is Call.REMOVE for it in later)
+
     def pending(self):
         """The new servers that an earlier run added, or another operator, and that have not started."""
         return [member for member in self.view.members if self.is_pending(member)]

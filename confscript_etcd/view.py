@@ -2,7 +2,8 @@
 from typing import Dict, NamedTuple, Optional, Tuple
 
 from .plan import majority
-from .servers import Member
+from .reports import NOT_HEARD, Heard
+from .servers import Member, word_for
 
 
 # The versions of etcd with which the command was tested begin so.
@@ -19,6 +20,11 @@ class Status(NamedTuple):
     applied: int
     # Bytes of the database.
     size: int
+    term: int
+    # Of its keys.
+    revision: int
+    # The id of its cluster.
+    cluster: int
 
 
 class View(NamedTuple):
@@ -26,8 +32,8 @@ class View(NamedTuple):
 
     members: Tuple[Member, ...]
     statuses: Dict[int, Status]
-    # The members that hear from one that does not answer: they take it as their leader, or report it as an active peer.
-    hearers: Dict[int, Tuple[Member, ...]]
+    # Who hears from one that does not answer: takes it as its leader, or reports that something comes from it.
+    heard: Dict[int, Heard]
     # Whether the list has all that was committed before.
     is_current: bool
 
@@ -46,7 +52,15 @@ class View(NamedTuple):
 
     def heard_by(self, member):
         """The names of the members that hear from one that does not answer here."""
-        return [other.label for other in self.hearers.get(member.id, ())]
+        return [other.label for other in self.members if other.id in self.heard.get(member.id, NOT_HEARD).by]
+
+    def doubt(self, member):
+        """Why it is not known whether others hear from a member. None if that is known, or if it answers."""
+        return self.heard.get(member.id, NOT_HEARD).doubt
+
+    def hangs(self, member):
+        """Whether a member keeps its connections, and nothing comes through them."""
+        return self.heard.get(member.id, NOT_HEARD).hangs
 
     def leader(self) -> Optional[Member]:
         """The member that all voters which answer and have a leader take as theirs. It may not answer here. None if there is
@@ -60,7 +74,16 @@ class View(NamedTuple):
 
     def voters_up(self):
         """The voters that answer and have a leader, and those that others hear from."""
-        return [member for member in self.voters if (self.answers(member) and not self.is_cut_off(member)) or self.heard_by(member)]
+        return [member for member in self.voters if self.is_up(member)]
+
+    def has_leader(self, member):
+        return self.answers(member) and not self.is_cut_off(member)
+
+    def word(self, member):
+        return word_for(member, self.members)
+
+    def is_up(self, member):
+        return self.has_leader(member) or bool(self.heard_by(member))
 
     def untested_versions(self):
         return sorted({status.version for status in self.statuses.values() if not status.version.startswith(TESTED_VERSIONS)})

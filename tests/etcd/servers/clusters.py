@@ -24,7 +24,7 @@ UNANSWERED = (OSError, ValueError, http.client.HTTPException)  # a server refuse
 
 # The ports that a test takes, below those that the system gives to connections. Tests that run beside each other have
 # others each.
-PORT_RANGES = [range(first, first + 200) for first in range(20000, 32000, 200)]
+PORT_RANGES = [range(first, first + 80) for first in range(20000, 32000, 80)]
 ports = PORT_RANGES[0]
 
 
@@ -56,12 +56,12 @@ class Server:
         self.log, self.data = f"{cluster.folder}/{name}.log", f"{cluster.folder}/{name}"
         self.client, self.listening = (f"{cluster.scheme}://127.0.0.1:{next(PORTS)}" for _ in range(2))
         self.peer, self.advertised = self.listening, self.client
-        self.process = None
+        self.process, self.before, self.more = None, [], []
 
     def words(self):
         """The command that starts it. How it joins its cluster is in the environment."""
-        return [self.program, "--data-dir", self.data, "--listen-client-urls", self.client, "--advertise-client-urls", self.advertised,
-                "--listen-peer-urls", self.listening, "--logger=zap", "--log-outputs", self.log, *self.cluster.server_options]
+        return [*self.before, self.program, "--data-dir", self.data, "--listen-client-urls", self.client, "--advertise-client-urls", self.advertised,
+                "--listen-peer-urls", self.listening, "--logger=zap", "--log-outputs", self.log, *self.cluster.server_options, *self.more]
 
     def start(self, environment):
         """Starts it in a process group of its own."""
@@ -235,6 +235,18 @@ class Cluster:
             if status and status.get("leader") == status["header"]["member_id"]:
                 return server
         return None
+
+    def let_lead(self, server):
+        """Moves leadership to a server, and waits until all that are up follow it."""
+        id = self.id(server)
+
+        def leads():
+            leader = self.leader()
+            if leader not in (None, server):
+                self.etcdctl_at(leader, "move-leader", f"{id:x}")
+            return {int((it.status() or {}).get("leader", 0)) for it in self.up()} == {id}
+
+        wait_for(f"{server.name} leads", leads)
 
     # Keys
 

@@ -34,6 +34,11 @@ def command_line():
             holds(f"{path} has {command}", re.search(rf"(?m)\b{command}\b", text))
             missing = {option for option in re.findall(r"(?m)^  (--[a-z-]+)", output) if not re.search(rf"{option}\b", text)}
             holds(f"{path} has the options of {command}, but not {missing}", not missing)
+    status, output, _ = run("remove", "--help")
+    holds(f"remove starts no server, so it has no options for that:\n{output}", not re.search("--start|--env-file|--with|new ones join", output))
+    for command, parts in (("status", ("hangs", "Quorum is lost")), ("replace", ("hangs", "Quorum is lost", "take a change back", "one spare"))):
+        output = run(command, "--help")[1]
+        holds(f"{command} says what to do in an outage:\n{output}", all(part in output for part in parts))
     holds("the version", run("--version") == (0, f"confscript-etcd {subprocess.check_output([built_program(), '--version'], text=True).split()[1]}\n", ""))
     for words, wanted in (
         ([], "expected a command"),
@@ -48,6 +53,10 @@ def command_line():
          "/none/etcdctl cannot be run: No such file or directory (Debian has it in etcd-client; --etcdctl names another one)"),
         (["status", "--etcdctl", "echo no"], 1,
          "member list: expected JSON from etcdctl, and not 'no --endpoints=http://127.0.0.1:2379 member list --write-out=json'"),
+        (["status", "--endpoints", "", "--etcdctl", "echo no"], 1,
+         "member list: expected JSON from etcdctl, and not 'no --endpoints=http://127.0.0.1:2379 member list --write-out=json'"),
+        (["status", "--endpoints", "10.0.0.1:2379/,", "--etcdctl", "echo no"], 1,
+         "member list: expected JSON from etcdctl, and not 'no --endpoints=http://10.0.0.1:2379 member list --write-out=json'"),
         (["status", "--etcdctl", r"""sh -c 'printf "\303"'"""], 1, "member list: expected JSON from etcdctl, and not '\ufffd'"),
         (["status", "--etcdctl", "etcdctl --user 'root"], 2, "--etcdctl: no closing quotation"),
         (["status", "--endpoints", "http://10.0.0.1:2379,n2"], 2, "'http://n2': expected a URL with a scheme, a host and a port, such as http://10.0.0.4:2380"),
@@ -77,9 +86,16 @@ def command_line():
 
 def etcdctl_hangs():
     """A call of etcdctl that does not end is given up."""
-    status, _, error = run("status", "--limit", "1", "--etcdctl", "sh -c 'exec sleep 1000'")
-    holds(f"status {status}: {error}", (status, error) == (1, "confscript-etcd: cannot reach http://127.0.0.1:2379 (etcdctl: it did not end after 8 s); "
-                                                      "is --endpoints right?\n"))
+    for words, after in (["status", "--limit", "1"], 0.5), (["remove", "n1", "--limit", "1"], 8):
+        status, _, error = run(*words, "--etcdctl", "sh -c 'exec sleep 1000'")
+        holds(f"{words}: status {status}: {error}", status == 1 and error.startswith("confscript-etcd: cannot reach http://127.0.0.1:2379: ")
+              and error.endswith(f" (etcdctl: it did not end after {after} s); is --endpoints right?\n"))
+
+
+def plugin_is_late():
+    """The plugin of Nagios ends in time, whatever it waits for."""
+    found = run("status", "--nagios", "--limit", "0", "--etcdctl", "sh -c 'exec sleep 1000'")
+    holds(f"it is not known: {found}", found == (3, "ETCD UNKNOWN - not known within 0 s\n", ""))
 
 
 def interrupted_at_once():
@@ -108,4 +124,4 @@ def runs_python(process):
         return True  # it has ended
 
 
-TESTS = (command_line, etcdctl_hangs, interrupted_at_once)
+TESTS = (command_line, etcdctl_hangs, plugin_is_late, interrupted_at_once)

@@ -70,11 +70,11 @@ def failed_server_comes_back():
         dead.kill()
         cluster.wait_until_missed(dead)
         output = succeeds(cluster, "replace", "n3", "--with", "n4=http://127.0.0.1:1", "--dry-run")
-        holds(f"README shows what is printed:\n{output}", output.startswith(shown_by_readme()))
+        holds(f"ETCD shows what is printed:\n{output}", output.startswith(shown_by_document()))
         words = ["replace", "n3", "--with", f"n3={dead.peer}", "--yes"]
         with contextlib.closing(socket.create_server(("127.0.0.1", int(dead.peer.rpartition(":")[2])))):
-            refuses(cluster, "something listens at its peer URL", f"n3 does not answer at {dead.client}, but something listens at its peer URL {dead.peer}, "
-                    f"so it may be up. Stop it; or give the URL at which it answers (--client-url n3=URL), or --peer-proxy if that is a proxy", *words)
+            refuses(cluster, "something listens at its peer URL", f"n3: something listens at {dead.peer} already. Stop the old server first "
+                    "(--peer-proxy if that is a proxy)", *words)
         it = begin(cluster, *words)
         shown = []
         for line in lines(it):
@@ -89,18 +89,20 @@ def failed_server_comes_back():
         holds(f"status {it.wait()}:\n{output}", it.returncode == 0)
         holds(f"it is said what the new server waits for:\n{output}", "waiting: n3 has not started: see its log; its data directory must be empty" in output)
         holds("it has a new id", cluster.id(dead) != id)
-        refuses(cluster, "once more", "n3 answers at the URL of its successor, so nothing is changed. If it was replaced before, that is done; if not, stop it "
-                "first", *words)
+        output = succeeds(cluster, *words)
+        holds(f"once more: {output}", output == "there is nothing to do: the members are as they are wanted\n")
+        refuses(cluster, "without what is kept of it", "n3 answers at the URL of its successor, so nothing is changed. If it was replaced before, that is "
+                "done; if not, stop it first", *words, state="another")
         refuses(cluster, "its name again, by another command", "n3 answers, so nothing is changed. Stop it if it failed; a healthy one needs --healthy",
                 "remove", "n3", "--yes")
         cluster.check_end("n1 n2 n3")
 
 
-def shown_by_readme():
-    """What README shows of a run that replaces n3, without the command and without the question."""
-    with open(f"{TOP}/README.md", encoding="utf-8") as file:
+def shown_by_document():
+    """What docs/ETCD.md shows of a run that replaces n3, up to the question."""
+    with open(f"{TOP}/docs/ETCD.md", encoding="utf-8") as file:
         text = file.read()
-    begin = text.index("\n", text.index("\n./confscript-etcd replace n3 ") + 1) + 1
+    begin = text.index("\nstep ", text.index("\nconfscript-etcd replace n3 ")) + 1
     return text[begin:text.index("This is the cluster ", begin)]
 
 
@@ -171,8 +173,7 @@ def quorum_is_lost():
                 "(ETCD.md, 'If quorum is lost'; --client-url NAME=URL if one is reached elsewhere)"
         refuses(cluster, "no quorum", wanted, "replace", "n2", "--with", f"n4={cluster['n4'].peer}", "--yes")
         status, output, error = run(cluster, "status")
-        holds(f"the status:\n{output}{error}", status == 5 and "1 of 3 voters answers" not in output and "othing can be written" in (
-            error if lists_are_current() else output))
+        holds(f"the status:\n{output}{error}", status == 5 and "Quorum is lost: n1 answers, and a majority is 2 of 3. Nothing can be written" in " ".join(output.split()))
         cluster["n2"].start_again()
         cluster.wait_for_puts()
         cluster["n3"].start_again()
@@ -236,4 +237,26 @@ def keys(cluster, server):
     return None
 
 
-TESTS = (failed_server, failed_server_comes_back, two_failed_servers, back_on_the_way, learner_of_others, quorum_is_lost, started_too_early)
+def done_again():
+    """A command that is done has nothing to do when it runs again. A name that never was is an error, and so are endpoints of two
+    clusters."""
+    with Cluster(3).running() as cluster, Cluster(1).running() as other:
+        cluster["n3"].kill()
+        cluster.wait_until_missed(cluster["n3"])
+        words = ["remove", "n3", "--yes"]
+        for first, second in ((cluster["n1"], other["n1"]), (other["n1"], cluster["n1"])):
+            status, _, error = run(cluster, *words, endpoints=[first, second])
+            holds(f"endpoints of two clusters: {error}", status == 1 and error.startswith("confscript-etcd: the endpoints are of two clusters: ")
+                  and all(f"{it.cluster_id():x}" in error for it in (cluster, other)))
+            status, _, error = run(cluster, "status", endpoints=[first, second])
+            holds(f"so says status: {error}", status == 1 and "of two clusters" in error)
+        holds("nothing is changed", cluster.configuration(cluster["n1"]) == "n1 n2 n3")
+        slashes = ["--endpoints", "".join(f"{it.client}/," for it in cluster.first)]
+        succeeds(cluster, *words, *slashes)
+        output = succeeds(cluster, *words, *slashes)
+        holds(f"once more: {output}", output == "there is nothing to do: the members are as they are wanted\n")
+        refuses(cluster, "a name that never was", "n9 is not a member: the members are n1 and n2", "remove", "n9", "--yes")
+        cluster.check_end("n1 n2")
+
+
+TESTS = (failed_server, done_again, failed_server_comes_back, two_failed_servers, back_on_the_way, learner_of_others, quorum_is_lost, started_too_early)

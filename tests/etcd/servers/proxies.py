@@ -30,7 +30,13 @@ class Proxy:
                     continue
                 self.connections += [client, server]
                 for source, target in ((client, server), (server, client)):
-                    threading.Thread(target=forward, args=(source, target), daemon=True).start()
+                    threading.Thread(target=self.forward, args=(source, target), daemon=True).start()
+
+    def forward(self, source, target):
+        with contextlib.suppress(OSError):
+            while data := source.recv(65536):
+                target.sendall(data)
+        end(target)
 
     def refuse(self):
         """Takes no new connections. Those that there are go on."""
@@ -41,13 +47,6 @@ class Proxy:
         self.refuse()
         for connection in self.connections:
             end(connection)
-
-
-def forward(source, target):
-    with contextlib.suppress(OSError):
-        while data := source.recv(65536):
-            target.sendall(data)
-    end(target)
 
 
 def end(connection):

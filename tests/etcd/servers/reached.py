@@ -7,7 +7,7 @@ import signal
 from checks import holds, wait_for
 from clusters import Cluster
 from proxies import Proxy
-from runs import TOP, begin, refuses, run, start_command, succeeds
+from runs import TOP, begin, lines, refuses, run, start_command, succeeds
 
 NOWHERE = "http://127.0.0.1:1"
 
@@ -16,10 +16,16 @@ class ProxiedCluster(Cluster):
     """A cluster whose peers reach each other by proxies. The servers advertise a client URL at which nothing listens."""
 
     def start(self):
+        self.listening = []
         self.proxies = {server.name: Proxy(server) for server in self.first}
         for server in self.first:
             server.advertised = NOWHERE
         super().start()
+
+    def listen(self):
+        for proxy in self.proxies.values():
+            proxy.listen()
+            self.listening.append(proxy)
 
 
 def reached_elsewhere():
@@ -27,9 +33,10 @@ def reached_elsewhere():
     voter that its peers hear from is not removed as failed."""
     with ProxiedCluster(3, ["n4"]).running() as cluster:
         first, others = cluster["n1"], [cluster["n2"], cluster["n3"]]
-        new = ["--with", f"n4={cluster['n4'].peer}", "--yes", "--limit", "1"]
+        new = ["--with", f"n4={cluster['n4'].peer}", "--yes"]
         for server in others:
             cluster.wait_until_heard(server)
+        cluster.let_lead(first)
         status, output, _ = run(cluster, "status")
         holds(f"all are known by the endpoints:\n{output}", status == 0 and "\n3 of 3 voters answer (majority: 2). 1 more may fail.\n" in output)
 
@@ -47,10 +54,7 @@ def reached_elsewhere():
         cluster.proxies["n3"].listen()
 
         # It leads, and is reached by an endpoint alone.
-        leader = wait_for("a server leads", cluster.leader)
-        if leader is not cluster["n3"]:
-            cluster.etcdctl_at(leader, "move-leader", f"{cluster.id(cluster['n3']):x}")
-            wait_for("n3 leads", lambda: cluster.leader() is cluster["n3"])
+        cluster.let_lead(cluster["n3"])
         output = succeeds(cluster, "replace", "n3", "--healthy", "--with", f"n4={cluster['n4'].peer}", "--yes", "--start", start_command(cluster))
         holds(f"leadership is moved at the endpoint:\n{output}", f"etcdctl --endpoints={cluster['n3'].client} move-leader " in output)
         holds(f"the new one comes first:\n{output}", output.index("member promote") < output.index("member remove"))
@@ -82,6 +86,23 @@ def peers_are_cut_off():
         cluster.check_end("n1 n2 n3")
 
 
+def elected_meanwhile():
+    """No server leads when a run begins. It waits until one does, and does not report a wrong address."""
+    with ProxiedCluster(3).running() as cluster:
+        for proxy in cluster.proxies.values():
+            proxy.cut()
+        wait_for("no server leads", lambda: not any((server.status() or {"leader": 1}).get("leader") for server in cluster.first))
+        it = begin(cluster, "remove", "n3", "--healthy", "--yes")
+        shown = []
+        for line in lines(it):
+            shown.append(line)
+            if "waiting: " in line and "no leader" in line and len(cluster.listening) == 0:
+                cluster.listen()
+        output = "".join(shown)
+        holds(f"status {it.wait()}:\n{output}", it.returncode == 0 and cluster.listening and "is --endpoints right?" not in output)
+        cluster.check_end("n1 n2")
+
+
 def shown_keys():
     """The keys that the manual page lists."""
     with open(f"{TOP}/share/man/man1/confscript-etcd.1", encoding="utf-8") as file:
@@ -98,8 +119,8 @@ def peer_proxy():
         dead = cluster["n3"]
         dead.kill()
         words = ["replace", "n3", "--with", f"n4={cluster['n4'].peer}", "--yes", "--start", start_command(cluster)]
-        refuses(cluster, "something listens", f"n3 does not answer at {dead.client}, but something listens at its peer URL {dead.peer}, so it may be up. Stop "
-                "it; or give the URL at which it answers (--client-url n3=URL), or --peer-proxy if that is a proxy", *words)
+        refuses(cluster, "something listens", f"n4: something listens at {cluster['n4'].peer} already. Start n4 when it was added, not before "
+                "(--peer-proxy if that is a proxy)", *words)
         output = succeeds(cluster, *words, "--peer-proxy")
         holds(f"it is started:\n{output}", "starting n4" in output)
         cluster.check_end("n1 n2 n4")
@@ -107,4 +128,4 @@ def peer_proxy():
         proxy.cut()
 
 
-TESTS = (reached_elsewhere, peers_are_cut_off, peer_proxy)
+TESTS = (reached_elsewhere, peers_are_cut_off, elected_meanwhile, peer_proxy)

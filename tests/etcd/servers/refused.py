@@ -23,6 +23,8 @@ def bad_addresses():
             ("another spelling", f"http://localhost:{port}", f"n4: http://localhost:{port} is the address of the member n1 ({one.peer})"),
             ("capitals", f"http://LOCALHOST:{port}", f"n4: http://LOCALHOST:{port} is the address of the member n1 ({one.peer})"),
             ("a host that is not known", f"http://none.invalid:{free}", f"n4: the host of http://none.invalid:{free} cannot be resolved here"),
+            ("an address that no other server reaches", f"http://0.0.0.0:{free}", f"n4: no other server reaches http://0.0.0.0:{free}. Give the address at which the others "
+             "reach n4"),
             ("another scheme", f"https://127.0.0.1:{free}", f"n4: https://127.0.0.1:{free} is not http, as the peer URLs of the members are"),
         ):
             refuses(cluster, name, wanted, "replace", "n3", "--with", f"n4={url}", "--yes")
@@ -44,7 +46,7 @@ def an_old_command_again():
         first = ["replace", "n3", "--with", url["n4"], *start]
         cluster["n3"].kill()
         succeeds(cluster, *first)
-        holds("nothing is kept of a run that is done", kept(cluster) == [])
+        holds("it is kept that the run is done", [it["is_done"] for path in kept(cluster) for it in read(path).values()] == [True])
         holds("once more, with nothing to do", "there is nothing to do" in succeeds(cluster, *first))
         cluster["n4"].kill()
         removed = []
@@ -79,10 +81,15 @@ def an_old_command_again():
         cluster.check_end("n1 n2 n7")
 
 
+def read(path):
+    with open(path, encoding="utf-8") as file:
+        return json.load(file)
+
+
 def kept(cluster):
     """The files of the record."""
     folder = f"{cluster.folder}/state/confscript-etcd"
-    return [f"{folder}/{name}" for name in sorted(os.listdir(folder))] if os.path.exists(folder) else []
+    return [f"{folder}/{name}" for name in sorted(os.listdir(folder)) if name.endswith(".json")] if os.path.exists(folder) else []
 
 
 def back_before_the_answer():
@@ -150,8 +157,8 @@ def alarms_and_snapshots():
         cluster.writer.end()
         wait_for("the database is full", lambda: put(cluster, first, "0" * 1000000) is None and alarms(cluster, first))
         status, output, _ = run(cluster, "status")
-        holds(f"status {status}:\n{output}", status == 5 and "\nn1 has the alarm NOSPACE.\n" in output)
-        refuses(cluster, "no space", "n1 has the alarm NOSPACE, so nothing is changed. Mend that first (etcdctl alarm list)",
+        holds(f"status {status}:\n{output}", status == 5 and "\nn1 has the alarm NOSPACE: " in output)
+        refuses(cluster, "no space", f"n1 has the alarm NOSPACE, so nothing is changed. This shows what to do: {suggested(cluster, 'status')}",
                 "add", f"n3={cluster['n3'].peer}", "--yes")
 
 

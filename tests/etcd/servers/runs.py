@@ -34,21 +34,23 @@ def command(cluster, *words, endpoints=None, state="state", etcdctl=None, progra
     """The command line of a run, and its environment. It asks the first servers, and keeps its record in the folder of
     the cluster."""
     urls = ",".join(server.client for server in (endpoints or cluster.first))
-    line = [COMMAND, words[0], "--limit", str(LIMIT), "--endpoints", urls, "--etcdctl", shlex.join(etcdctl or cluster.etcdctl), *words[1:]]
+    steady = [] if words[0] == "status" else ["--steady", "0"]
+    line = [COMMAND, words[0], "--limit", str(LIMIT), *steady, "--endpoints", urls, "--etcdctl", shlex.join(etcdctl or cluster.etcdctl), *words[1:]]
     return line, {**ENVIRONMENT, **cluster.variables, "CONFSCRIPT": program or built_program(), "XDG_STATE_HOME": f"{cluster.folder}/{state}"}
 
 
-def run(cluster, *words, answer="", **others):
-    """Runs the command. Its status, output and errors."""
+def run(cluster, *words, answer="", folder=None, **others):
+    """Runs the command in a folder, that of the cluster by default. Its status, output and errors."""
     line, environment = command(cluster, *words, **others)
-    it = subprocess.run(line, input=answer, capture_output=True, text=True, env=environment, check=False)
+    it = subprocess.run(line, input=answer, capture_output=True, text=True, env=environment, cwd=folder or cluster.folder, check=False)
     return it.returncode, it.stdout, it.stderr
 
 
 def run_into(cluster, output, *words, **others):
     """Runs the command with a file as its standard output. Its status."""
     line, environment = command(cluster, *words, **others)
-    return subprocess.run(line, stdin=subprocess.DEVNULL, stdout=output, stderr=subprocess.PIPE, env=environment, check=False).returncode
+    return subprocess.run(line, stdin=subprocess.DEVNULL, stdout=output, stderr=subprocess.PIPE, env=environment, cwd=cluster.folder,
+                          check=False).returncode
 
 
 def succeeds(cluster, *words, **others):
@@ -70,7 +72,8 @@ def refuses(cluster, name, wanted, *words, status=1, **others):
 def begin(cluster, *words, **others):
     """Begins a run, with one pipe for its output and errors."""
     line, environment = command(cluster, *words, **others)
-    it = subprocess.Popen(line, stdin=subprocess.PIPE, stdout=subprocess.PIPE, stderr=subprocess.STDOUT, text=True, env=environment, start_new_session=True)
+    it = subprocess.Popen(line, stdin=subprocess.PIPE, stdout=subprocess.PIPE, stderr=subprocess.STDOUT, text=True, env=environment,
+                          cwd=cluster.folder, start_new_session=True)
     cluster.groups.append(it)
     return it
 

@@ -6,7 +6,7 @@ import urllib.request
 
 from checks import holds, wait_for
 from clusters import PORTS, UNANSWERED, Cluster
-from runs import refuses, run, start_command, succeeds
+from runs import refuses, run, start_command, succeeds, suggested
 
 # The key and the certificate of an authority, and those of all servers and clients, which it signs.
 CERTIFICATES = """
@@ -47,11 +47,20 @@ def certificates():
         holds(f"without certificates: {error}", status == 1 and error.startswith("confscript-etcd: cannot reach https://") and error.count("\n") == 1)
         with open(f"{cluster.folder}/hiding", "w", encoding="utf-8") as script:
             script.write(f'exec {shlex.join(cluster.etcdctl)} "$@"\n')
-        unknown = "Whether the other members hear from n3 is not known: their /metrics cannot be read from here."
-        output = succeeds(cluster, *words, "--dry-run", etcdctl=["sh", script.name])
-        holds(f"without etcdctl's certificates nobody is asked who hears from it:\n{output}", unknown in " ".join(output.split()))
+        hiding, unknown = ["sh", script.name], "hether the other members hear from n3 is not known: their /metrics cannot be read from here."
+        cluster.wait_until_missed(cluster["n3"])
+        refuses(cluster, "without etcdctl's certificates nobody is asked who hears from it", f"n3 does not answer at {cluster['n3'].client}, and w{unknown} "
+                "If they are read elsewhere: --metrics-url NAME=URL. If you know that n3 failed and does not come back: --failed n3",
+                *words, "--limit", "1", etcdctl=hiding)
+        status, output, _ = run(cluster, "status", etcdctl=hiding)
+        text = " ".join(output.split())
+        holds(f"status says so too:\n{output}", status == 4 and f"W{unknown} If n3 failed, replace it:" in text
+              and suggested(cluster, "replace", "n3", "--with", "NAME=URL", "--failed", "n3", etcdctl=hiding) in output)
+        refuses(cluster, "the word for another one", "--failed n2: the servers that leave are n3", *words, "--failed", "n2", status=2)
+        output = succeeds(cluster, *words, "--failed", "n3", "--dry-run", etcdctl=hiding)
+        holds(f"the word of the operator is in the plan:\n{output}", f"You say that n3 failed and does not come back (--failed); w{unknown}" in " ".join(output.split()))
         output = succeeds(cluster, *words)
-        holds(f"by its options they are:\n{output}", unknown not in " ".join(output.split()))
+        holds(f"with its options they are asked:\n{output}", unknown not in " ".join(output.split()))
         _, ca, _, pem, _, key = cluster.etcdctl[1:]
         cluster.variables = {**cluster.variables, "ETCDCTL_CACERT": ca, "ETCDCTL_CERT": pem, "ETCDCTL_KEY": key, "ETCDCTL_WRITE_OUT": "table"}
         output = succeeds(cluster, *words, etcdctl=["etcdctl"])
@@ -73,10 +82,7 @@ def leader_is_not_reached():
     removed as failed. Nothing but what the followers say shows that."""
     with HiddenCluster(3, ["n4"]).running() as cluster:
         one, other, hidden = cluster.first
-        leader = wait_for("a server leads", cluster.leader)
-        if leader is not hidden:
-            wait_for("n3 is asked to lead", lambda: cluster.etcdctl_at(leader, "move-leader", f"{cluster.id(hidden):x}"))
-        wait_for("all follow n3", lambda: {int((it.status() or {}).get("leader", 0)) for it in cluster.first} == {cluster.id(hidden)})
+        cluster.let_lead(hidden)
         with open(f"{cluster.folder}/hiding", "w", encoding="utf-8") as script:
             script.write(f'exec {shlex.join(cluster.etcdctl)} "$@"\n')
         refuses(cluster, "a leader that followers name", "n3 does not answer at https://127.0.0.1:1, but n1 and n2 hear from it, so it has not failed. "
@@ -115,6 +121,12 @@ exec etcdctl "$@"
 """
 
 
+# As if they gave it to root alone.
+DENYING = """case " $* " in *" endpoint status "*) echo 'Error: etcdserver: permission denied' >&2; exit 1 ;; esac
+exec etcdctl "$@"
+"""
+
+
 def users():
     """A failed server is replaced where each call needs a user. The password is not printed."""
     with UserCluster(3, ["n4"]).running() as cluster:
@@ -126,10 +138,10 @@ def users():
                 status=2)
         del cluster.variables["ETCDCTL_USER"]
         status, _, error = run(cluster, *words)
-        holds(f"without a user: {error}", status in (1, 3) and error.endswith("(give the user and the password: ETCDCTL_USER=root:PASSWORD)\n"))
+        holds(f"without a user nothing is changed, status {status}: {error}", status == 1 and error.endswith("(give the user and the password: ETCDCTL_USER=root:PASSWORD)\n"))
         output = succeeds(cluster, *words, etcdctl=["etcdctl", "--user", "root:secret"])
         status, _, error = run(cluster, "add", f"transport-db4=http://127.0.0.1:{next(PORTS)}", "--yes", "--limit", "5")
-        holds(f"a name that is like an error is none, and is not tried again: {error}", status in (1, 3) and "gave up" not in error
+        holds(f"a name that is like an error is none, and is not tried again: {error}", status == 1 and "gave up" not in error
               and error.endswith("(give the user and the password: ETCDCTL_USER=root:PASSWORD)\n"))
         holds(f"the password is not printed:\n{output}", "secret" not in output and "member promote" in output)
         cluster.variables["ETCDCTL_USER"] = "root:secret"
@@ -139,6 +151,15 @@ def users():
             script.write(ASKING)
         output = succeeds(cluster, "status", etcdctl=["sh", script.name])
         holds(f"the status needs a user: {output}", "3 of 3 voters answer" in output)
+        with open(f"{cluster.folder}/denying", "w", encoding="utf-8") as script:
+            script.write(DENYING)
+        status, output, error = run(cluster, "status", etcdctl=["sh", script.name])
+        holds(f"a user who may not see it, status {status}: {output}{error}", status == 1 and "endpoint status --write-out=json: etcdserver: permission denied (give the user "
+              "and the password: " in output + error)
+        del cluster.variables["ETCDCTL_USER"]
+        status, output, _ = run(cluster, "status")
+        holds(f"without a user it is not known whether writes are taken, status {status}: {output}", status == 4 and "whether the cluster takes writes is not "
+              "known: " in " ".join(output.split()))
         cluster.check_end("n1 n2 n4")
 
 

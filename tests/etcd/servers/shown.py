@@ -21,7 +21,7 @@ def on_terminal(cluster, columns, *words):
     mine, its = pty.openpty()
     fcntl.ioctl(its, termios.TIOCSWINSZ, struct.pack("HHHH", 24 if columns else 0, columns, 0, 0))
     shown = {name: value for name, value in environment.items() if name not in ("COLUMNS", "LINES")}
-    with subprocess.Popen(line, stdin=subprocess.DEVNULL, stdout=its, stderr=its, env=shown, start_new_session=True):
+    with subprocess.Popen(line, stdin=subprocess.DEVNULL, stdout=its, stderr=its, env=shown, cwd=cluster.folder, start_new_session=True):
         os.close(its)
         printed = b""
         try:

@@ -2,13 +2,15 @@
 import contextlib
 import os
 import queue
+import re
 import signal
 import socket
 import threading
 import time
 
 from checks import holds, wait_for
-from clusters import PORTS, Cluster
+from clusters import PORTS, UNANSWERED, Cluster, encoded
+from proxies import Proxy
 from runs import Gate, begin, lines, refuses, run, settings_in, start_command, succeeds, suggested
 
 
@@ -148,7 +150,9 @@ def server_never_starts():
         holds(f"it is given up: {error}", (status, error) == (3, "confscript-etcd: gave up after 1 s: n2 has not started: see its log; its data "
                                                       f"directory must be empty. To take n2 out again: {out}\n"))
         holds("it is a learner", cluster.configuration(cluster["n1"]) == "n1 +n2")
-        refuses(cluster, "another one meanwhile", "step 1 of 2: etcd's server takes one learner at a time", "add", f"n3={cluster['n3'].peer}", "--yes")
+        id = f"{cluster.id(cluster['n2']):x}"
+        refuses(cluster, "another one meanwhile", f"{id} ({cluster['n2'].peer}) is a learner that has not started, and etcd's server takes one learner at a time. "
+                f"To take it out: {suggested(cluster, 'remove', id)}", "add", f"n3={cluster['n3'].peer}", "--yes")
         # It advertises a client URL at which it is not reached from here.
         cluster["n2"].advertised = "http://127.0.0.1:1"
         cluster["n2"].start(settings_in(output, "n2"))
@@ -203,4 +207,112 @@ def voter_dies_meanwhile():
         cluster.check_end("n2 n3 n4 n5")
 
 
-TESTS = (server_is_behind, server_never_starts, voter_dies_meanwhile)
+class Throttle(Proxy):
+    """A proxy before the peer URL of a server that passes on a megabyte a second."""
+
+    RATE = 1 << 20
+
+    def forward(self, source, target):
+        with contextlib.suppress(OSError):
+            while data := source.recv(65536):
+                target.sendall(data)
+                time.sleep(len(data) / self.RATE)
+        close(target)
+
+
+def slow_link():
+    """A new server is reached by a slow link. It is said what arrives, and it is waited for as long as something does, for longer
+    than the limit."""
+    cluster = Cluster(1, ["n2"])
+    # A server takes most of what others send from connections that it opens itself.
+    proxies, limit = [Throttle(cluster[name]) for name in ("n1", "n2")], 15
+    with cluster.running():
+        first = cluster["n1"]
+        for number in range(60):
+            wait_for("a large key is put", lambda: large_put(cluster, first, number))
+        it = begin(cluster, "add", f"n2={cluster['n2'].peer}", "--yes", "--peer-proxy", "--limit", str(limit), "--start", start_command(cluster))
+        shown, at = [], {}
+        for line in lines(it):
+            shown.append(line)
+            at.setdefault(line.split()[0], time.monotonic())
+        output = "".join(shown)
+        holds(f"status {it.wait()}:\n{output}", it.returncode == 0)
+        holds(f"it takes longer than the limit: {at}", at["done:"] > at["starting"] + limit)
+        holds(f"it is said what arrives:\n{output}", re.search(r"waiting: n2 gets the log: \d+ of \d+ entries\n", output))
+        cluster.check_end("n1 n2")
+    for proxy in proxies:
+        proxy.cut()
+
+
+def large_put(cluster, server, number):
+    with contextlib.suppress(*UNANSWERED):
+        return cluster.ask(server, "kv/put", {"key": encoded(f"large {number}"), "value": encoded("0" * 400_000)})
+    return None
+
+
+def another_server_in_its_place():
+    """At the peer URL of a new server, one of another cluster is started; then it advertises the client URL of another member.
+    Both is said, and the run goes on when it is mended."""
+    with Cluster(1, ["n2"]).running() as cluster:
+        one, new = cluster["n1"], cluster["n2"]
+        it = begin(cluster, "add", f"n2={new.peer}", "--yes")
+        shown, said = [], set()
+        for line in lines(it):
+            shown.append(line)
+            if line == "  start n2 now\n":
+                joining = settings_in("".join(shown), "n2")
+                new.start({**joining, "ETCD_INITIAL_CLUSTER": f"n2={new.peer}", "ETCD_INITIAL_CLUSTER_STATE": "new"})
+            elif "waiting: a server of another cluster (" in line and "another" not in said:
+                said.add("another")
+                new.kill()
+                new.delete_data()
+                new.advertised = one.client
+                new.start(joining)
+            elif f"waiting: n1 answers at {one.client}, which n2 advertises" in line and "advertised" not in said:
+                said.add("advertised")
+                new.kill()
+                new.advertised = new.client
+                new.start(joining)
+        output = "".join(shown)
+        holds(f"status {it.wait()}:\n{output}", it.returncode == 0)
+        holds(f"both is said:\n{output}", said == {"another", "advertised"})
+        cluster.check_end("n1 n2")
+
+
+def steady():
+    """The new server dies before the old one leaves, and again before the run is done. Each time the run waits until it has been
+    up for some seconds."""
+    with Cluster(3, ["n4"]).running() as cluster:
+        new, removed = cluster["n4"], []
+
+        def before(call, process, status):
+            if call[:2] == ["member", "remove"]:
+                removed.append((new.is_up(), len(died)))
+
+        died = []
+        with Gate(cluster, before=before) as gate:
+            it = begin(cluster, "replace", "n1", "--with", f"n4={new.peer}", "--healthy", "--yes", "--steady", "10", "--start", start_command(cluster),
+                       etcdctl=gate.etcdctl, endpoints=cluster.first)
+            shown = []
+            for line in lines(it):
+                shown.append(line)
+                if len(died) < 2 and f"waiting: {('n1 leaves', 'done')[len(died)]} when the same servers have been up for 10 s" in line:
+                    died.append(line)
+                    new.kill()
+                    wait_for("it is said that it does not answer", lambda: "n4 does not answer" in shown_next(it, shown))
+                    new.start_again()
+            output = "".join(shown)
+            holds(f"status {it.wait()}:\n{output}", it.returncode == 0)
+        holds(f"it died twice: {died}\n{output}", len(died) == 2)
+        holds(f"the old one leaves while it is up, and after it died once: {removed}", removed and all(is_up and times == 1 for is_up, times in removed))
+        holds("it is up at the end", new.is_up())
+        cluster.check_end("n2 n3 n4")
+
+
+def shown_next(it, shown):
+    """The next line of a run, which is added to those before."""
+    shown.append(next(lines(it), ""))
+    return shown[-1]
+
+
+TESTS = (slow_link, server_is_behind, server_never_starts, voter_dies_meanwhile, steady, another_server_in_its_place)
