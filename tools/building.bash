@@ -219,13 +219,14 @@ compile_text() (
     rattle_build "$jobs" "$crate" src/main.rt --links "$crate=" "${words[@]}" && make_portable "$room"
   else
     rattle_build "$jobs" "$crate" src/lib.rt --crate-type staticlib "${words[@]}" && make_portable "$room" && complete_library "$room" "$target"
-  fi && mv "$room/text.s" "$text"
+  fi && printf '\t.section\t.note.GNU-stack,"",@progbits\n' >>"$room/text.s" && mv "$room/text.s" "$text"
 )
 
 # make_portable ROOM: makes the text one that assemblers since binutils 2.35 take. They do not know the directives that say
 # for arm64 what the property note says too, and take no name with other characters than letters, digits and `_.$`, which
 # stands in quotes: `std_alloc::vec::Vec::grow::<#afb6885be5c9>` becomes `std_alloc.vec.Vec.grow.afb6885be5c9`. It fails if
-# two names would become one.
+# two names would become one. The section that asks for no executable stack goes: each text gets one at its end, as
+# a C compiler writes it.
 make_portable() {
   awk -F '"' -v OFS='' '
     function plain(name,    made) {
@@ -237,7 +238,7 @@ make_portable() {
       names[made] = name
       return made
     }
-    /^\t\.aeabi_/ { next }
+    /^\t\.aeabi_/ || /^\t\.section\t"\.note\.GNU-stack"/ { next }
     NF > 1 && !/^\t\.(asci[iz]|string|file|ident)\t/ {
       for (i = 2; i <= NF; i += 2) $i = $i ~ /[^A-Za-z0-9_.$-]/ ? plain($i) : "\"" $i "\""
     }
@@ -252,7 +253,7 @@ assembly_of() {
   [[ $2 == x86_64* ]] || protection=-mbranch-protection=standard
   "$1/real/bin/clang" --target="$2" --no-default-config -std=c11 -ffreestanding -O2 -fPIC -ffunction-sections \
     -fasynchronous-unwind-tables "$protection" -fno-ident -fno-addrsig -fno-verbose-asm -S "$top/compiled/$3.c" -o "$1/$3.s" &&
-    sed '/^\t\.section\t\.note\.gnu\.property/,/^\t\.text$/d; /^\t\.\(file\|aeabi_[a-z]*\)\t/d' "$1/$3.s" | sed "s/\.L/.L$3_/g"
+    sed '/^\t\.section\t\.note\.gnu\.property/,/^\t\.text$/d; /^\t\.\(file\|aeabi_[a-z]*\)\t/d; /^\t\.section\t"\.note\.GNU-stack"/d' "$1/$3.s" | sed "s/\.L/.L$3_/g"
 }
 
 # complete_library ROOM TARGET: adds to the text of the library what it takes from compiled/system.c, as functions that are

@@ -3,7 +3,8 @@
 
 # choose [PROCESSOR]: sets $processor, x86_64 or arm64, to the one that is named or that of this machine; $cc to the C
 # compiler for it: $CC or cc, or Debian's cross compiler for another processor than the machine's (its packages are
-# gcc-aarch64-linux-gnu and libc6-dev-arm64-cross); and $made to the folder of what is linked for it.
+# gcc-aarch64-linux-gnu and libc6-dev-arm64-cross); $out to the folder of what is made, that of the variable
+# CONFSCRIPT_OUT if it is set; and $made to the folder below it of what is linked for this processor.
 choose() {
   local own
   case "$(uname -sm)" in
@@ -15,7 +16,8 @@ choose() {
       ;;
   esac
   processor=${1:-$own}
-  made=$top/out/$processor
+  out=${CONFSCRIPT_OUT:-$top/out}
+  made=$out/$processor
   if [ "$processor" = "$own" ]; then
     read -ra cc <<<"${CC:-cc}"
   else
@@ -31,9 +33,10 @@ needs_compiler() {
   fi
 }
 
-# is_fresh FILE: whether a file was made after the sources, the compiled code and these scripts were written.
+# is_fresh FILE: whether a file was made by this compiler, and after the sources, the compiled code and these scripts were
+# written.
 is_fresh() {
-  [ -e "$1" ] || return 1
+  [ -e "$1" ] && [ "$(cat "$1.cc" 2>/dev/null)" = "${cc[*]}" ] || return 1
   local from=("$top"/{crates.txt,compiled} "$top"/crates/*/{src,specs,proofs} "$top"/bindings/go/*.h "$top"/tools/{building,linking}.bash)
   [ -z "$(find "${from[@]}" -newer "$1" -print -quit 2>/dev/null)" ]
 }
@@ -61,7 +64,7 @@ link_library() {
 }
 
 # link_anew WHAT FILE: links the program or the library of the code that is compiled of the sources as they are, and stamps
-# the file with the time before they were read. The file FILE.of has the line of SOURCES for it.
+# the file with the time before they were read. The file FILE.of has the line of SOURCES for it, and FILE.cc the compiler.
 link_anew() {
   local text of begun=$made/$1.begun log=$made/$1.log
   needs_compiler && touch "$begun" && find_text "$1" || return
@@ -70,6 +73,7 @@ link_anew() {
     return 1
   fi
   echo "$of" >"$2.of"
+  echo "${cc[*]}" >"$2.cc"
   touch -r "$begun" "$2"
 }
 
@@ -78,7 +82,11 @@ link() {
   local lock status=0
   ! is_fresh "$2" || return 0
   # One build at a time: a second run waits for the lock, and then finds the file.
-  mkdir -p "$made" && exec {lock}>"$top/out/lock" && flock "$lock" || return
+  if ! mkdir -p "$made" 2>/dev/null || ! [ -w "$made" ] || ! [ -w "$out" ]; then
+    echo "confscript: $made cannot be written; CONFSCRIPT_OUT may name another folder for what is linked" >&2
+    return 1
+  fi
+  exec {lock}>"$out/lock" && flock "$lock" || return
   is_fresh "$2" || link_anew "$1" "$2" || status=$?
   exec {lock}>&-
   return "$status"
