@@ -1,5 +1,5 @@
-/* Plans the change that replaces 1 with 5, applies the plan, and computes the committed index afterwards. README says
-   how to build it. */
+/* Plans the change that replaces 1 with 5, applies the plan, and computes the committed index afterwards. In a clone:
+   cc -Iinclude examples/plan.c "$(./library)" -o plan_c && ./plan_c */
 #include <stdio.h>
 #include <string.h>
 

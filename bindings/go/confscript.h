@@ -86,7 +86,7 @@ enum confscript_status {
     CONFSCRIPT_STATUS_MORE_THAN_ONE_VOTER = 14,
 
     /* confscript_check, _restore, _step, _stages and _next: the first of these that is broken, in this order. For 16 to
-       18 the number is the least id that breaks it. */
+       18 the number is the least id that breaks it. ZERO_ID also comes from confscript_plan, for `down`. */
     CONFSCRIPT_STATUS_ZERO_ID = 15,                    /* a set has the id 0, or `down`, or a list of ids of a view */
     CONFSCRIPT_STATUS_NEXT_NOT_OUTGOING = 16,          /* a next learner is not an outgoing voter */
     CONFSCRIPT_STATUS_NEXT_AND_INCOMING = 17,          /* a next learner is an incoming voter */

@@ -35,12 +35,12 @@ func ExampleStages() {
 func ExampleNext() {
 	now, target := confscript.ConfState{Voters: []uint64{1, 2, 3}}, confscript.ConfState{Voters: []uint64{1, 2, 4}}
 	view := confscript.View{
-		ConfState: now, ConfIndex: 57, Lead: 1, Commit: 60, Running: []uint64{1, 2, 3},
+		ConfState: now, ConfIndex: 57, Lead: 1, Commit: 60, Started: []uint64{1, 2, 3},
 		Progress: map[uint64]confscript.Progress{1: {Match: 60, RecentActive: true}, 2: {Match: 60, RecentActive: true}, 3: {Match: 17}},
 	}
 	options := confscript.DriveOptions{Strategy: confscript.LearnersFirst}
 	fmt.Println(confscript.Next(options, target, view))
-	view.Running = append(view.Running, 4) // it was started
+	view.Started = append(view.Started, 4) // it was started
 	fmt.Println(confscript.Next(options, target, view))
 	// Output:
 	// start 4 <nil>

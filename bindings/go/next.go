@@ -8,14 +8,18 @@ package confscript
 import "C"
 
 import (
+	"errors"
 	"fmt"
 	"sort"
 	"strings"
 )
 
+// ErrNoStrategy is the error of Next if its options have no strategy.
+var ErrNoStrategy = errors.New("confscript: the strategy is missing: LearnersFirst or OneAtATime")
+
 // DriveOptions is how Next goes to a target.
 type DriveOptions struct {
-	// LearnersFirst or OneAtATime. By Shortest new voters vote with empty logs, so Next refuses it.
+	// LearnersFirst or OneAtATime. There is no default: by Shortest new voters vote with empty logs.
 	Strategy Strategy
 	// The ids that do not come back. A member that is merely silent is not down.
 	Down []uint64
@@ -33,7 +37,8 @@ type Progress struct {
 	RecentActive bool
 }
 
-// View is what a leader knows of its cluster, or a tool that asks all members. The names are those of etcd's raft.
+// View is what a leader knows of its cluster, or a tool that asks all members. The names are those of etcd's raft. Views makes
+// that of a RawNode.
 type View struct {
 	// The configuration that the leader has applied.
 	ConfState ConfState
@@ -48,8 +53,8 @@ type View struct {
 	PendingConfIndex uint64
 	// The members, by id.
 	Progress map[uint64]Progress
-	// The servers that were started, and not stopped for good.
-	Running []uint64
+	// The servers that were started, and not stopped for good, whether they are up or not.
+	Started []uint64
 	// The servers that were stopped for good.
 	Retired []uint64
 }
@@ -78,8 +83,8 @@ type Wait struct {
 	Reason WaitReason
 	IDs    []uint64
 	// The index that each of them has to have, and what it is known to have, if the reason is WaitBehind or WaitPending.
-	Index uint64
-	Match []uint64
+	Needed  uint64
+	Matched []uint64
 }
 
 // Stuck is to do nothing, since the target is not reached as things are.
@@ -126,19 +131,49 @@ const (
 // knows now, do what it says, and call it again. It keeps nothing. The configuration and the target are checked as by
 // Stages, but for ids in Down that neither has, which are ignored.
 func Next(options DriveOptions, target ConfState, view View) (Action, error) {
+	if options.Strategy == Shortest {
+		return nil, ErrNoStrategy
+	}
 	from, to, down, known := view.ConfState.numbers(), target.numbers(), options.Down, view.numbers(options.MaxLag)
 	numbers, err := filled(func(out []uint64) answer { return callNext(from, to, options.Strategy, down, known, out) })
 	if err != nil {
-		return nil, err
+		return nil, inPart(err, options, target, view)
 	}
 	return readAction(numbers, options, view), nil
 }
 
+// inPart returns the error of a call of Next with the part that it is about, unless its text names that.
+func inPart(err error, options DriveOptions, target ConfState, view View) error {
+	refused := err.(*Refused)
+	if place, _ := refused.names(); place != "" {
+		return err
+	}
+	for _, part := range []struct {
+		name  string
+		state ConfState
+	}{{"the configuration", view.ConfState}, {"the target", target}} {
+		if _, _, err := Restore(part.state); errors.Is(err, refused.Status) {
+			return fmt.Errorf("%s: %w", part.name, refused)
+		}
+	}
+	for _, part := range []struct {
+		name string
+		ids  []uint64
+	}{{"down", options.Down}, {"the progress", ascending(view.Progress)}, {"started", view.Started}, {"retired", view.Retired}} {
+		for _, id := range part.ids {
+			if id == 0 && refused.Status == ErrZeroID {
+				return fmt.Errorf("%s: %w", part.name, refused)
+			}
+		}
+	}
+	return err
+}
+
 // numbers returns the array of the view (enum confscript_view_part), with the members in ascending order.
 func (view View) numbers(maxLag uint64) []uint64 {
-	numbers := make([]uint64, 0, C.CONFSCRIPT_VIEW_FIRST+3*len(view.Progress)+len(view.Running)+len(view.Retired))
+	numbers := make([]uint64, 0, C.CONFSCRIPT_VIEW_FIRST+3*len(view.Progress)+len(view.Started)+len(view.Retired))
 	numbers = append(numbers, view.ConfIndex, view.Lead, view.Commit, view.PendingConfIndex, maxLag,
-		uint64(len(view.Progress)), uint64(len(view.Running)), uint64(len(view.Retired)))
+		uint64(len(view.Progress)), uint64(len(view.Started)), uint64(len(view.Retired)))
 	for _, id := range ascending(view.Progress) {
 		var active uint64
 		if view.Progress[id].RecentActive {
@@ -146,7 +181,7 @@ func (view View) numbers(maxLag uint64) []uint64 {
 		}
 		numbers = append(numbers, id, view.Progress[id].Match, active)
 	}
-	return append(append(numbers, view.Running...), view.Retired...)
+	return append(append(numbers, view.Started...), view.Retired...)
 }
 
 // ascending returns the keys in ascending order.
@@ -186,17 +221,17 @@ func waitFor(reason WaitReason, ids []uint64, options DriveOptions, view View) W
 	wait := Wait{Reason: reason, IDs: ids}
 	switch reason {
 	case WaitPending:
-		wait.Index = view.PendingConfIndex
+		wait.Needed = view.PendingConfIndex
 	case WaitBehind:
-		wait.Index = view.ConfIndex
-		if view.Commit > options.MaxLag && view.Commit-options.MaxLag > wait.Index {
-			wait.Index = view.Commit - options.MaxLag
+		wait.Needed = view.ConfIndex
+		if view.Commit > options.MaxLag && view.Commit-options.MaxLag > wait.Needed {
+			wait.Needed = view.Commit - options.MaxLag
 		}
 	default:
 		return wait
 	}
 	for _, id := range ids {
-		wait.Match = append(wait.Match, view.Progress[id].Match)
+		wait.Matched = append(wait.Matched, view.Progress[id].Match)
 	}
 	return wait
 }
@@ -233,7 +268,7 @@ func (wait Wait) String() string {
 	case WaitNoLeader:
 		return "there is no leader: waiting for " + listed(wait.IDs)
 	case WaitPending:
-		return fmt.Sprintf("the change at index %d is not applied: waiting for %s", wait.Index, listed(wait.IDs))
+		return fmt.Sprintf("the change at index %d is not applied: waiting for %s", wait.Needed, listed(wait.IDs))
 	case WaitHeard:
 		return listed(wait.IDs) + " named as down, but heard from"
 	case WaitUnheard:
@@ -243,7 +278,7 @@ func (wait Wait) String() string {
 	}
 	texts := make([]string, len(wait.IDs))
 	for i, id := range wait.IDs {
-		texts[i] = fmt.Sprintf("%d has not caught up: %d of %d", id, wait.Match[i], wait.Index)
+		texts[i] = fmt.Sprintf("%d has not caught up: %d of %d", id, wait.Matched[i], wait.Needed)
 	}
 	return strings.Join(texts, ", ")
 }

@@ -4,13 +4,14 @@ package confscript
 
 import (
 	"errors"
+	"strings"
 	"testing"
 )
 
 // at returns a view of a cluster in which this configuration is known with index 5 and 9 is committed. The members have
 // these indexes, and were heard from; of one with a negative index, nothing was heard.
-func at(state ConfState, lead uint64, indexes map[uint64]int, running ...uint64) View {
-	view := View{ConfState: state, ConfIndex: 5, Lead: lead, Commit: 9, Progress: map[uint64]Progress{}, Running: running}
+func at(state ConfState, lead uint64, indexes map[uint64]int, started ...uint64) View {
+	view := View{ConfState: state, ConfIndex: 5, Lead: lead, Commit: 9, Progress: map[uint64]Progress{}, Started: started}
 	for id, index := range indexes {
 		if index < 0 {
 			view.Progress[id] = Progress{Match: uint64(-index)}
@@ -93,9 +94,9 @@ func TestNextLeads(t *testing.T) {
 			for _, id := range action.IDs {
 				view.Progress[id] = Progress{9, true}
 			}
-			view.Running = append(view.Running, action.IDs...)
+			view.Started = append(view.Started, action.IDs...)
 		case Stop:
-			view.Running, view.Retired = ids(1, 2, 3, 4), append(view.Retired, action.IDs...)
+			view.Started, view.Retired = ids(1, 2, 3, 4), append(view.Retired, action.IDs...)
 		case Transfer:
 			view.Lead = action.To
 		case Propose:
@@ -114,25 +115,33 @@ func TestNextLeads(t *testing.T) {
 	}
 }
 
+// TestNextIsRefused has an error for each part of what is asked. Its text names the part.
 func TestNextIsRefused(t *testing.T) {
-	state := ConfState{Voters: ids(1)}
+	state, wrong := ConfState{Voters: ids(1)}, ConfState{Voters: ids(1), Learners: ids(1)}
 	view := at(state, 1, map[uint64]int{1: 9}, 1)
+	first := DriveOptions{Strategy: LearnersFirst}
 	for _, row := range []struct {
 		options DriveOptions
 		target  ConfState
 		view    View
 		want    error
+		part    string
 	}{
-		{DriveOptions{}, state, view, ErrStrategyMayStall},
-		{DriveOptions{Strategy: 9}, state, view, ErrBadStrategy},
-		{DriveOptions{Strategy: LearnersFirst, Down: ids(0)}, state, view, ErrZeroID},
-		{DriveOptions{Strategy: LearnersFirst}, ConfState{}, view, ErrNoVoter},
-		{DriveOptions{Strategy: LearnersFirst}, state, with(view, func(view *View) { view.ConfState = ConfState{} }), ErrNoVoter},
-		{DriveOptions{Strategy: LearnersFirst}, state, with(view, func(view *View) { view.Running = ids(0) }), ErrZeroID},
-		{DriveOptions{Strategy: OneAtATime}, ConfState{Voters: ids(1), VotersOutgoing: ids(2)}, view, ErrJointTarget},
+		{DriveOptions{}, state, view, ErrNoStrategy, "confscript: the strategy is missing"},
+		{DriveOptions{Strategy: 9}, state, view, ErrBadStrategy, ""},
+		{DriveOptions{Strategy: LearnersFirst, Down: ids(2, 2, 0)}, state, view, ErrZeroID, "down: "},
+		{first, ConfState{}, view, ErrNoVoter, "the target: "},
+		{first, state, with(view, func(view *View) { view.ConfState = ConfState{} }), ErrNoVoter, "the configuration: "},
+		{first, wrong, view, ErrLearnerAndVoter, "the target: "},
+		{first, state, with(view, func(view *View) { view.ConfState = wrong }), ErrLearnerAndVoter, "the configuration: "},
+		{first, ConfState{Voters: ids(0)}, view, ErrZeroID, "the target: "},
+		{first, state, with(view, func(view *View) { view.Started = ids(1, 0) }), ErrZeroID, "started: "},
+		{first, state, with(view, func(view *View) { view.Retired = ids(0) }), ErrZeroID, "retired: "},
+		{DriveOptions{Strategy: OneAtATime}, ConfState{Voters: ids(1), VotersOutgoing: ids(2)}, view, ErrJointTarget, ""},
 	} {
-		if action, err := Next(row.options, row.target, row.view); !errors.Is(err, row.want) {
-			t.Errorf("Next(%+v, %v): %v, %v, and not %v", row.options, row.target, action, err, row.want)
+		action, err := Next(row.options, row.target, row.view)
+		if !errors.Is(err, row.want) || !strings.HasPrefix(err.Error(), row.part) {
+			t.Errorf("Next(%+v, %v, %+v): %v, %v, and not %s%v", row.options, row.target, row.view, action, err, row.part, row.want)
 		}
 	}
 }

@@ -19,7 +19,7 @@ type Stage struct {
 	// How many ids may be down there, whichever they are.
 	MayBeDown *uint64
 	// How many while members are catching up; nil if nothing commits then.
-	WhileCatchingUp *uint64
+	UntilThen *uint64
 	// How many besides those in Options.Down, while members are catching up. It is nil if nothing commits then, and if no ids
 	// are down.
 	MayBeDownBesides *uint64
@@ -49,7 +49,7 @@ func Stages(options Options, configuration, target ConfState) (stages []Stage, s
 func readStage(numbers []uint64, areDown bool) (stage Stage, rest []uint64) {
 	stage.ConfChange.Transition = ConfChangeTransition(numbers[C.CONFSCRIPT_STAGE_TRANSITION])
 	stage.MayBeDown = count(numbers[C.CONFSCRIPT_STAGE_MAY_BE_DOWN])
-	stage.WhileCatchingUp = count(numbers[C.CONFSCRIPT_STAGE_WHILE_CATCHING_UP])
+	stage.UntilThen = count(numbers[C.CONFSCRIPT_STAGE_WHILE_CATCHING_UP])
 	if areDown {
 		stage.MayBeDownBesides = count(numbers[C.CONFSCRIPT_STAGE_MAY_BE_DOWN_BESIDES])
 	}

@@ -76,7 +76,7 @@ func TestStagesWithIdsDown(t *testing.T) {
 		t.Errorf("Stages: %+v, %v, %v", stages, stalls, err)
 	}
 	stages, stalls, err = Stages(Options{}, one, ConfState{Voters: ids(1, 2)})
-	if err != nil || stalls || len(stages) != 1 || stages[0].WhileCatchingUp != nil || *stages[0].MayBeDown != 0 {
+	if err != nil || stalls || len(stages) != 1 || stages[0].UntilThen != nil || *stages[0].MayBeDown != 0 {
 		t.Errorf("Stages: %+v, %v, %v", stages, stalls, err)
 	}
 }

@@ -58,7 +58,7 @@ func set(ids []uint64) string {
 // String returns the proposal, where it leads, and what the other fields say there.
 func (stage Stage) String() string {
 	return fmt.Sprintf("%v -> %v catch up %s, may be down %s, until then %s, besides %s", stage.ConfChange, stage.ConfState, set(stage.CatchingUp),
-		countText(stage.MayBeDown), countText(stage.WhileCatchingUp), countText(stage.MayBeDownBesides))
+		countText(stage.MayBeDown), countText(stage.UntilThen), countText(stage.MayBeDownBesides))
 }
 
 // countText returns how many ids may be down, or "-" if there is no such number.

@@ -101560,7 +101560,6 @@ proved_confscript_step:
 	.size	.Lcs_switch.table.raft_json.conf_change_json.changes_value.819, 32
 
 	.ident	"rattle logic=dac8208d650f15bf3e2dc313a14fa4c783a3acf887bdfab66e1714b038d9e11b"
-	.section	".note.GNU-stack","",@progbits
 	.section	.text.rattle_alloc,"ax",@progbits
 	.p2align	4
 	.type	rattle_alloc,@function
@@ -101622,7 +101621,6 @@ rattle_dealloc:
 	.type	tried.nothing,@object
 	.local	tried.nothing
 	.comm	tried.nothing,1,1
-	.section	".note.GNU-stack","",@progbits
 	.section	.text.confscript_status_text,"ax",@progbits
 .ifndef confscript_is_private
 	.globl	confscript_status_text
@@ -101928,4 +101926,4 @@ confscript_may_be_down:
 	.type	list.nothing,@object
 	.local	list.nothing
 	.comm	list.nothing,8,8
-	.section	".note.GNU-stack","",@progbits
+	.section	.note.GNU-stack,"",@progbits

@@ -11,8 +11,7 @@
 //   - what etcd's own quick checks ask of confchange is asked of confscript (quick_test.go),
 //   - rules that etcd's raft leaves to a program are broken, one by one, until two members have applied different entries
 //     (schedules_test.go),
-//   - a model of what to do next, and confscript.Next, which answers alike, lead clusters from target to target, while servers
-//     crash and die (next.go, driven.go),
+//   - a model of what to do next (next.go) leads a store from target to target under faults (store.go),
 //   - random runs keep these rules from outside, and are held against the invariants that then hold (trial.go, observer.go).
 //
 // All that is left to chance comes from seeds, etcd's election timeouts too (election_timeouts.go). No test looks at the

@@ -52,13 +52,14 @@ func (a answer) String() string {
 type situation struct {
 	view
 	task
-	path                                   []planLine
-	stalls                                 bool
-	incoming, outgoing, voters, members    []uint64 // of the configuration now
-	votersAfter, membersAfter, leaderAfter []uint64 // of the one after the first stage, and who may lead there
-	after                                  pb.ConfState
-	heard, up                              []uint64 // who was heard from, and who of these has caught up and is not down
-	match                                  map[uint64]uint64
+	path                                []planLine
+	stalls                              bool
+	incoming, outgoing, voters, members []uint64 // of the configuration now
+	votersAfter, membersAfter           []uint64 // of the one after the first stage
+	after                               pb.ConfState
+	known                               uint64   // who has this index knows the configuration, as far as this leader can tell
+	heard, up                           []uint64 // who was heard from, and who of these has caught up and is not down
+	match                               map[uint64]uint64
 }
 
 func newSituation(v view, t task, path []planLine, stalls bool) *situation {
@@ -68,9 +69,9 @@ func newSituation(v view, t task, path []planLine, stalls bool) *situation {
 	}
 	s.incoming, s.outgoing = v.ConfState.Voters, v.ConfState.VotersOutgoing
 	s.voters, s.members = voterIDs(v.ConfState), members(v.ConfState)
-	s.votersAfter, s.membersAfter, s.leaderAfter = voterIDs(s.after), members(s.after), voterIDs(s.after)
-	if s.after.AutoLeave {
-		s.leaderAfter = s.after.Voters
+	s.votersAfter, s.membersAfter = voterIDs(s.after), members(s.after)
+	if s.known = v.ConfIndex; !holds(s.voters, v.Lead) && s.known > 0 {
+		s.known-- // a leader that does not vote may not add the entry after the change
 	}
 	for _, each := range v.Progress {
 		s.match[each.ID] = each.Match
@@ -79,11 +80,18 @@ func newSituation(v view, t task, path []planLine, stalls bool) *situation {
 		}
 	}
 	for _, id := range without(both(s.members, s.heard), t.Down) {
-		if s.match[id] >= v.ConfIndex && s.match[id]+t.MaxLag >= v.Commit {
+		if s.match[id] >= s.known && s.match[id]+t.MaxLag >= v.Commit {
 			s.up = append(s.up, id)
 		}
 	}
 	return s
+}
+
+// isRefused says whether there is no answer: who knows the configuration is not filled in, or the progress of a leader that is a
+// member, or raft would leave the target.
+func (s *situation) isRefused() bool {
+	_, isListed := s.match[s.Lead]
+	return s.Lead != 0 && s.ConfIndex == 0 || holds(s.members, s.Lead) && !isListed || s.Target.AutoLeave
 }
 
 // lacking returns those of the ids that lack an index.
@@ -154,64 +162,80 @@ var rows = []row{
 		}
 		return ifAny("wait", "no_leader", orElse(without(s.voters, s.Down, s.heard), without(s.voters, s.Down)))
 	},
-	// 4. A change is pending in a joint configuration, and an incoming voter could lead, where none does.
+	// 4. The leader does not vote.
 	func(s *situation) *answer {
-		if s.PendingConfIndex == 0 || len(s.outgoing) == 0 || holds(s.incoming, s.Lead) {
+		if holds(s.voters, s.Lead) {
 			return nil
 		}
-		return s.transfer(both(s.incoming, s.up))
+		if found := s.transfer(both(s.incoming, s.up)); found != nil {
+			return found
+		}
+		return s.wait(without(s.incoming, s.Down))
 	},
-	// 5. A change is pending.
+	// 5. A change is pending, and a voter that stays could lead in place of one that does not.
+	func(s *situation) *answer {
+		could := both(s.incoming, s.up)
+		switch {
+		case s.PendingConfIndex == 0:
+			return nil
+		case len(s.outgoing) > 0 && !holds(s.incoming, s.Lead):
+			return s.transfer(could)
+		case !holds(voterIDs(s.Target), s.Lead):
+			return s.transfer(both(could, voterIDs(s.Target)))
+		}
+		return nil
+	},
+	// 6. A change is pending.
 	func(s *situation) *answer {
 		if s.PendingConfIndex == 0 {
 			return nil
 		}
 		return ifAny("wait", "pending", orElse(s.lacking(s.PendingConfIndex, without(s.voters, s.Down)), []uint64{s.Lead}))
 	},
-	// 6. The path stalls with those that are down.
+	// 7. The path stalls with those that are down.
 	func(s *situation) *answer {
 		if !s.stalls {
 			return nil
 		}
 		return &answer{Action: "stuck", Why: "stalls", IDs: ascending(both(s.Down, union(s.voters, voterIDs(s.Target))))}
 	},
-	// 7. The target adds an id that was stopped for good.
+	// 8. The target has an id that does not vote and was stopped for good.
 	func(s *situation) *answer {
-		return ifAny("stuck", "reused", both(without(members(s.Target), s.members), s.Retired))
+		return ifAny("stuck", "reused", both(without(members(s.Target), s.voters), s.Retired))
 	},
-	// 8. Who is no voter, and is a member now or after the stage, does not run.
+	// 9. Who does not vote, is a member now or after the stage, and stays, was not started.
 	func(s *situation) *answer {
-		return ifAny("start", "", without(union(s.membersAfter, s.members), s.voters, s.Down, s.Running))
+		return ifAny("start", "", without(both(union(s.membersAfter, s.members), members(s.Target)), s.voters, s.Down, s.Running))
 	},
-	// 9. Who is no member, now or at the target, runs, and each voter that may come back knows the configuration.
+	// 10. Who is no member, now or at the target, runs; each member knows the configuration, and a quorum is heard from.
 	func(s *situation) *answer {
-		if len(s.lacking(s.ConfIndex, without(s.voters, s.Down))) > 0 {
+		if len(s.lacking(s.ConfIndex, without(s.members, s.Down))) > 0 || tolerance(s.ConfState, without(both(s.voters, s.heard), s.Down)) < 0 {
 			return nil
 		}
 		return ifAny("stop", "", without(s.Running, s.members, members(s.Target)))
 	},
-	// 10. Raft is to leave by itself.
+	// 11. Raft is to leave by itself.
 	func(s *situation) *answer {
 		if len(s.path) == 0 || !s.ConfState.AutoLeave {
 			return nil
 		}
 		return ifAny("wait", "leaving", orElse(without(s.voters, s.Down, s.up), []uint64{s.Lead}))
 	},
-	// 11. The leader may not lead after the stage, and a voter could.
+	// 12. The leader does not vote after the stage, and another voter could lead.
 	func(s *situation) *answer {
-		if holds(s.leaderAfter, s.Lead) {
+		if holds(s.votersAfter, s.Lead) {
 			return nil
 		}
-		return s.transfer(both(s.voters, s.leaderAfter, s.up))
+		return s.transfer(both(s.voters, s.votersAfter, s.up))
 	},
-	// 12. The same, and a voter could if it caught up.
+	// 13. The same, and one could if it caught up.
 	func(s *situation) *answer {
-		if holds(s.leaderAfter, s.Lead) {
+		if holds(s.votersAfter, s.Lead) {
 			return nil
 		}
-		return s.wait(without(both(s.voters, s.leaderAfter), s.Down))
+		return s.wait(without(both(s.voters, s.votersAfter), s.Down))
 	},
-	// 13. The target is reached.
+	// 14. The target is reached.
 	func(s *situation) *answer {
 		if len(s.path) > 0 {
 			return nil
@@ -225,25 +249,27 @@ var rows = []row{
 		}
 		return &answer{Action: "done"}
 	},
-	// 14. A voter after the stage is heard from, and has not caught up.
+	// 15. A new voter has not caught up.
+	func(s *situation) *answer { return s.wait(without(s.votersAfter, s.voters, s.Down, s.up)) },
+	// 16. A voter after the stage is heard from, and has not caught up.
 	func(s *situation) *answer {
-		return ifAny("wait", "behind", without(both(s.votersAfter, s.members, s.heard), s.Down, s.up))
+		return ifAny("wait", "behind", without(both(s.votersAfter, s.heard), s.Down, s.up))
 	},
-	// 15. Who is up and has caught up is no quorum.
+	// 17. Who is up and has caught up is no quorum.
 	func(s *situation) *answer {
 		if tolerance(s.ConfState, s.up) >= 0 {
 			return nil
 		}
 		return s.wait(without(s.voters, s.Down, s.up))
 	},
-	// 16. A voter after the stage is silent, and the stage is a joint one, or it tolerates less.
+	// 18. A voter after the stage is silent, and the stage is a joint one, or it tolerates less.
 	func(s *situation) *answer {
 		if len(s.after.VotersOutgoing) == 0 && tolerance(s.after, s.up) >= tolerance(s.ConfState, s.up) {
 			return nil
 		}
 		return ifAny("wait", "unheard", without(s.votersAfter, s.Down, s.heard))
 	},
-	// 17. Otherwise.
+	// 19. Otherwise.
 	func(s *situation) *answer { return &answer{Action: "propose", Stage: s.path[0]} },
 }
 

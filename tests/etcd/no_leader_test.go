@@ -9,34 +9,43 @@ import (
 )
 
 // TestNoLeader shows how a cluster loses its leader for ever while both servers are up and no message is lost. In (2)&&(1)
-// the leader proposes to leave. It applies that, has one more entry, and restarts before the other one knows that the change
-// is committed. If 1 led, it knows that it is removed, so it never campaigns, and it refuses its vote to the shorter log of 2;
-// and 2 counts by the joint configuration. If 2 led, it is elected again.
+// the leader proposes to leave, and in (1 2) to remove 1. It applies that, has one more entry, and restarts before the other
+// one knows that the change is committed. If 1 led, it knows that it is removed, so it never campaigns, and it refuses its
+// vote to the shorter log of 2; and 2 counts by the former configuration. If 2 led, it is elected again.
 func TestNoLeader(t *testing.T) {
-	for _, preVote := range []bool{false, true} {
-		for _, leader := range []uint64{1, 2} {
-			t.Run(fmt.Sprintf("%d leads, PreVote %v", leader, preVote), func(t *testing.T) {
-				seedElectionTimeouts(1)
-				leaveAndCrash(t, leader, preVote)
-			})
+	for _, row := range []struct {
+		name  string
+		state pb.ConfState
+		leave pb.ConfChangeV2
+	}{
+		{"joint", pb.ConfState{Voters: []uint64{2}, VotersOutgoing: []uint64{1}}, pb.ConfChangeV2{}},
+		{"simple", pb.ConfState{Voters: []uint64{1, 2}}, change(pb.ConfChangeTransitionAuto, "r1")},
+	} {
+		for _, preVote := range []bool{false, true} {
+			for _, leader := range []uint64{1, 2} {
+				t.Run(fmt.Sprintf("%s, %d leads, PreVote %v", row.name, leader, preVote), func(t *testing.T) {
+					seedElectionTimeouts(1)
+					leaveAndCrash(t, row.state, row.leave, leader, preVote)
+				})
+			}
 		}
 	}
 }
 
-func leaveAndCrash(t *testing.T, leader uint64, preVote bool) {
-	c := startCluster(t, pb.ConfState{Voters: []uint64{2}, VotersOutgoing: []uint64{1}})
+func leaveAndCrash(t *testing.T, state pb.ConfState, leave pb.ConfChangeV2, leader uint64, preVote bool) {
+	c := startCluster(t, state)
 	for id := range c.members {
 		c.startAgain(id, preVote)
 	}
 	c.elect(leader)
 	first, other := c.members[leader], c.members[3-leader]
-	first.raw.ProposeConfChange(pb.ConfChangeV2{})
+	first.raw.ProposeConfChange(leave)
 	c.handle(first)
 	c.handle(other)
 	first.raw.Propose([]byte("entry"))
 	c.connect()
 	c.handleAll(first)
-	if len(first.state.VotersOutgoing) > 0 || len(other.state.VotersOutgoing) == 0 {
+	if holds(voterIDs(first.state), 1) || !holds(voterIDs(other.state), 1) {
 		t.Fatalf("the leader has %s, the other one %s", describe(first.state), describe(other.state))
 	}
 	c.startAgain(leader, preVote)

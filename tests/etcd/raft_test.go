@@ -15,6 +15,8 @@ func TestRaft(t *testing.T) {
 	t.Run("a voter that is only outgoing is sent no snapshot", lateOutgoingVoter)
 	t.Run("the log is compacted while the configuration is joint", compactWhileJoint)
 	t.Run("removed members are stopped too early", stopTooEarly)
+	t.Run("a leader that does not vote answers a read", readWithoutVote)
+	t.Run("a server that was a voter is deaf", deafServer)
 	t.Run("auto-leave while entries are applied leaves twice", leaveTwice)
 	t.Run("several changes in one proposal end a cluster that serves", severalChanges)
 }
@@ -69,21 +71,84 @@ func lateOutgoingVoter(t *testing.T) {
 }
 
 // compactWhileJoint cuts 3 off while a change makes it an outgoing voter. When it is back, it catches up, unless the log was
-// compacted up to that change.
+// compacted meanwhile: up to that change, or only up to the entry before it, which 3 lacks too.
 func compactWhileJoint(t *testing.T) {
-	for _, isCompacted := range []bool{true, false} {
+	for _, isCompacted := range []string{"not", "before the change", "with the change"} {
 		c := newCluster(t, pb.ConfState{Voters: []uint64{1, 2, 3}}, 1)
-		c.connect([]uint64{1, 2})
-		c.propose(change(pb.ConfChangeTransitionJointExplicit, "r3"))
-		if leader := c.leading(); isCompacted {
-			leader.storage.Compact(leader.applied)
+		leader := c.leading()
+		compact := func(when string) {
+			if when == isCompacted {
+				leader.storage.Compact(leader.applied)
+			}
 		}
+		c.connect([]uint64{1, 2})
+		leader.raw.Propose([]byte("entry"))
+		c.settle()
+		compact("before the change")
+		c.propose(change(pb.ConfChangeTransitionJointExplicit, "r3"))
+		compact("with the change")
 		c.connect([]uint64{1, 2, 3})
 		for i := 0; i < 10; i++ {
 			c.wait()
 		}
-		if wanted := !isCompacted || isMended; c.isCaughtUp() != wanted {
-			t.Errorf("if the log is compacted: %v, 3 has caught up: %v", isCompacted, !wanted)
+		if wanted := isCompacted == "not" || isMended; c.isCaughtUp() != wanted {
+			t.Errorf("if the log is compacted %s, 3 has caught up: %v", isCompacted, !wanted)
+		}
+	}
+}
+
+// readWithoutVote has a leader that removed or demoted itself, so that one voter is left, and does not know that this one was
+// elected. Raft takes the leader for the voter: it answers a read at once, without what the other one has committed.
+func readWithoutVote(t *testing.T) {
+	for _, changes := range []string{"r1", "l1"} {
+		c := newCluster(t, pb.ConfState{Voters: []uint64{1, 2}}, 1)
+		one, two := c.members[1], c.members[2]
+		c.propose(change(pb.ConfChangeTransitionAuto, changes))
+		c.connect([]uint64{2})
+		two.raw.Campaign()
+		c.settle()
+		two.raw.Propose([]byte("entry"))
+		c.settle()
+		one.raw.ReadIndex([]byte("read"))
+		reads := one.take().ReadStates
+		if len(reads) != 1 || reads[0].Index >= two.applied {
+			t.Errorf("%s: the reads are at %v, and the applied index is %d", changes, reads, two.applied)
+		}
+	}
+}
+
+// deafServer has a server that was a voter, is a learner, and does not know it. Without PreVote and CheckQuorum it campaigns
+// into a later term, towards voters that were stopped, and hears nothing of the leader. With either it comes back.
+func deafServer(t *testing.T) {
+	for _, row := range []struct{ preVote, checkQuorum bool }{{false, false}, {true, false}, {false, true}} {
+		c := startCluster(t, pb.ConfState{Voters: []uint64{1, 2, 3}, Learners: []uint64{4}})
+		for id, m := range c.members {
+			m = &member{storage: m.storage, preVote: row.preVote, checkQuorum: row.checkQuorum}
+			snapshot, _ := m.storage.Snapshot()
+			m.restore(snapshot)
+			m.begin(t, id)
+			c.members[id] = m
+		}
+		c.elect(3)
+		deaf := c.members[1]
+		c.connect([]uint64{2, 3, 4})
+		c.propose(change(pb.ConfChangeTransitionJointExplicit, "l1 r2 r3 v4"))
+		c.leading().raw.TransferLeader(4)
+		c.settle()
+		c.propose(pb.ConfChangeV2{})
+		c.stopOthers(pb.ConfState{Voters: []uint64{4}, Learners: []uint64{1}})
+		for i := 0; i < 100; i++ {
+			deaf.raw.Tick()
+			c.handleAll(deaf)
+		}
+		c.connect([]uint64{1, 4})
+		for i := 0; i < 1000; i++ {
+			deaf.raw.Tick()
+			c.members[4].raw.Tick()
+			c.settle()
+		}
+		if wanted := row.preVote || row.checkQuorum; holds(deaf.state.Learners, 1) != wanted {
+			t.Errorf("%+v: 1 knows that it is a learner: %v", row, !wanted)
 		}
 	}
 }

@@ -105,17 +105,21 @@ _COUNTED = {
 class Refused(Exception):
     """A call was refused: its `status`, and the `number` that confscript.h gives with it.
 
-    The text names the id, text, line, step or change that the number denotes. The status is a Status, or an int that this
-    version of the package has no name for.
+    The text names the id, text, line, step or change that the number denotes, and of `next_action` the `part` that is wrong.
+    The status is a Status, or an int that this version of the package has no name for.
     """
 
-    def __init__(self, status: int, number: int) -> None:
+    def __init__(self, status: int, number: int, part: str = "") -> None:
         # An exception is copied and pickled by a call with the arguments that are kept here.
-        super().__init__(status, number)
+        super().__init__(status, number, part)
         self.status = Status(status) if status in Status.__members__.values() else status
         self.number = number
+        self.part = part
 
     def __str__(self) -> str:
+        return f"{self.part}: {self._reason()}" if self.part else self._reason()
+
+    def _reason(self) -> str:
         text = _text_of(self.status)
         if not self.number:
             return text
@@ -250,7 +254,7 @@ class Stage(NamedTuple):
     # How many ids may be down there, whichever they are.
     may_be_down: Optional[int]
     # How many while members are catching up; None if nothing commits then.
-    while_catching_up: Optional[int]
+    until_then: Optional[int]
     # How many besides those that are down already, while members are catching up; None also if none are.
     may_be_down_besides: Optional[int]
 
@@ -291,8 +295,8 @@ class View(NamedTuple):
     pending_conf_index: int = 0
     # The members, by id.
     progress: Mapping[int, MemberView] = {}
-    # The servers that were started, and not stopped for good.
-    running: Iterable[int] = ()
+    # The servers that were started, and not stopped for good, whether they are up or not.
+    started: Iterable[int] = ()
     # The servers that were stopped for good.
     retired: Iterable[int] = ()
 
@@ -363,18 +367,18 @@ class Propose(NamedTuple):
 class Wait(NamedTuple):
     """Do nothing until these ids are as the reason says.
 
-    `matches` are their indexes, and `needed` the one that they have to have, if the reason is BEHIND or PENDING.
+    `matched` are their indexes, and `needed` the one that they have to have, if the reason is BEHIND or PENDING.
     """
 
     reason: WaitReason
     ids: Tuple[int, ...]
     needed: int = 0
-    matches: Tuple[int, ...] = ()
+    matched: Tuple[int, ...] = ()
 
     def __str__(self) -> str:
         ids = _listed(self.ids)
         if self.reason is WaitReason.BEHIND:
-            return ", ".join(f"{id} has not caught up: {match} of {self.needed}" for id, match in zip(self.ids, self.matches))
+            return ", ".join(f"{id} has not caught up: {match} of {self.needed}" for id, match in zip(self.ids, self.matched))
         return {
             WaitReason.NO_LEADER: f"there is no leader: waiting for {ids}",
             WaitReason.PENDING: f"the change at index {self.needed} is not applied: waiting for {ids}",
@@ -583,10 +587,10 @@ def stages(configuration: Configuration, target: Configuration, strategy: Strate
 def _stage(numbers: Iterator[int], are_down: bool) -> Stage:
     """The stage that comes next (enum confscript_stage_part)."""
     transition, *counts, change_count = _next(numbers, 5)
-    may_be_down, while_catching_up, may_be_down_besides = (None if count == NO_QUORUM else count for count in counts)
+    may_be_down, until_then, may_be_down_besides = (None if count == NO_QUORUM else count for count in counts)
     changes = tuple(ConfChangeSingle(ConfChangeType(next(numbers)), next(numbers)) for _ in range(change_count))
     change = ConfChangeV2(ConfChangeTransition(transition), changes)
-    return Stage(change, *_configuration(numbers), may_be_down, while_catching_up, may_be_down_besides if are_down else None)
+    return Stage(change, *_configuration(numbers), may_be_down, until_then, may_be_down_besides if are_down else None)
 
 
 def next_action(target: Configuration, view: View, strategy: Strategy, *, down: Iterable[int] = (), max_lag: int = 0) -> Action:
@@ -598,16 +602,19 @@ def next_action(target: Configuration, view: View, strategy: Strategy, *, down: 
     neither has, which are ignored.
 
     >>> members = {id: MemberView(60, True) for id in (1, 2, 3)}
-    >>> view = View(Configuration([1, 2, 3]), conf_index=57, lead=1, commit=60, progress=members, running=[1, 2, 3])
+    >>> view = View(Configuration([1, 2, 3]), conf_index=57, lead=1, commit=60, progress=members, started=[1, 2, 3])
     >>> print(next_action(Configuration([1, 2, 4]), view, Strategy.LEARNERS_FIRST))
     start 4
-    >>> print(next_action(Configuration([1, 2, 4]), view._replace(running=[1, 2, 3, 4]), Strategy.LEARNERS_FIRST))
+    >>> print(next_action(Configuration([1, 2, 4]), view._replace(started=[1, 2, 3, 4]), Strategy.LEARNERS_FIRST))
     propose simple l4
     """
-    ids = [*down]
+    ids, view = [*down], view._replace(started=[*view.started], retired=[*view.retired])
     arrays = (*_numbers(_array(view.conf_state)), *_numbers(_array(target)))
     known = _numbers(_view(view, max_lag))
-    numbers = iter(_filled(ctypes.c_uint64, _library.confscript_next, *arrays, _uint(strategy, 32), *_numbers(ids), *known))
+    try:
+        numbers = iter(_filled(ctypes.c_uint64, _library.confscript_next, *arrays, _uint(strategy, 32), *_numbers(ids), *known))
+    except Refused as why:
+        raise Refused(why.status, why.number, _part_of(why, target, view, ids)) from None
     kind, reason, count = _next(numbers, 3)
     named = _next(numbers, count)
     actions: Mapping[int, Callable[[], Action]] = {
@@ -624,10 +631,24 @@ def next_action(target: Configuration, view: View, strategy: Strategy, *, down: 
 
 def _view(view: View, max_lag: SupportsIndex) -> List[SupportsIndex]:
     """A view as an array (enum confscript_view_part)."""
-    running, retired = [*view.running], [*view.retired]
+    started, retired = [*view.started], [*view.retired]
     members = [number for id, member in view.progress.items() for number in (id, member.match, bool(member.recent_active))]
     head = [view.conf_index, view.lead, view.commit, view.pending_conf_index, max_lag]
-    return [*head, len(view.progress), len(running), len(retired), *members, *running, *retired]
+    return [*head, len(view.progress), len(started), len(retired), *members, *started, *retired]
+
+
+def _part_of(refused: Refused, target: Configuration, view: View, down: Iterable[int]) -> str:
+    """The part of what is asked that a refusal is about; empty if its number says that, or if it is about none."""
+    if refused.status == Status.NO_VOTER:
+        return ""
+    for part, configuration in (("the configuration", view.conf_state), ("the target", target)):
+        try:
+            restore(configuration)
+        except Refused as why:
+            if why.status == refused.status:
+                return part
+    lists = (("down", down), ("the progress", view.progress), ("started", view.started), ("retired", view.retired))
+    return next((part for part, ids in lists if refused.status == Status.ZERO_ID and 0 in ids), "")
 
 
 def _wait(reason: WaitReason, ids: Tuple[int, ...], view: View, max_lag: int) -> Wait:

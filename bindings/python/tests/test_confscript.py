@@ -141,7 +141,7 @@ class Calls(unittest.TestCase):
         plan = confscript.stages(Configuration([1]), Configuration([1, 2]), down=iter([2]))
         self.assertEqual((plan.stages[0].may_be_down, plan.stages[0].may_be_down_besides, plan.stalls), (0, None, True))
         stage = confscript.stages(Configuration([1]), Configuration([1, 2])).stages[0]
-        self.assertEqual((stage.may_be_down, stage.while_catching_up, stage.catching_up), (0, None, (2,)))
+        self.assertEqual((stage.may_be_down, stage.until_then, stage.catching_up), (0, None, (2,)))
 
     def test_stages_of_more_numbers_than_the_first_room(self):
         from confscript import Configuration
@@ -154,9 +154,9 @@ class Calls(unittest.TestCase):
         three, target, joint = Configuration((1, 2, 3)), Configuration((1, 2, 4)), Configuration((1, 2, 4), (1, 2, 3))
         learning, leaving = Configuration((1, 2, 3), learners=(4,)), Configuration((1, 2, 4), (1, 2, 3), auto_leave=True)
 
-        def view(state, lead=1, indexes=(9, 9, 9, 9), running=(1, 2, 3, 4), silent=(), **more):
+        def view(state, lead=1, indexes=(9, 9, 9, 9), started=(1, 2, 3, 4), silent=(), **more):
             progress = {id: MemberView(index, id not in silent) for id, index in enumerate(indexes, 1)}
-            return View(state, 5, lead, 9, progress=progress, running=running, **more)
+            return View(state, 5, lead, 9, progress=progress, started=started, **more)
 
         for known, to, options, text in [
             (view(three), target, {"down": [2, 3]}, "quorum is lost with 2 3 down"),
@@ -164,32 +164,37 @@ class Calls(unittest.TestCase):
             (view(three, 0, silent=[3]), target, {}, "there is no leader: waiting for 3"),
             (view(three, pending_conf_index=10, indexes=(10, 9, 10)), target, {}, "the change at index 10 is not applied: waiting for 2"),
             (view(three, indexes=(9, 9, 9)), Configuration((3, 4)), {"down": [4]}, "with 4 down, nothing commits in a configuration on the way"),
-            (view(three, running=[1, 2, 3], retired=[4]), target, {}, "stopped for good, and not used again: 4"),
-            (view(three, running=iter([1, 2, 3])), target, {}, "start 4"),
+            (view(three, started=[1, 2, 3], retired=[4]), target, {}, "stopped for good, and not used again: 4"),
+            (view(three, started=iter([1, 2, 3])), target, {}, "start 4"),
             (view(three), three, {}, "stop 4 for good"),
             (view(leaving, indexes=(9, 9, 4, 9)), target, {}, "the joint configuration is left automatically: waiting for 3"),
             (view(joint, 3), target, {}, "transfer leadership to 1"),
-            (view(three, running=(1, 2, 3), silent=[3]), three, {}, "not heard from 3"),
+            (view(three, started=(1, 2, 3), silent=[3]), three, {}, "not heard from 3"),
             (view(learning, indexes=(9, 9, 9, 2)), target, {"max_lag": 3}, "4 has not caught up: 2 of 6"),
             (view(learning, indexes=(9, 9, 9, 6)), target, {"max_lag": 3}, "propose enter-joint autoleave=false r3 v4"),
             (view(three), target, {}, "propose simple l4"),
             (view(joint), target, {}, "propose leave-joint"),
-            (view(three, running=(1, 2, 3)), three, {"down": [9]}, "done"),
+            (view(three, started=(1, 2, 3)), three, {"down": [9]}, "done"),
         ]:
             self.assertEqual(str(confscript.next_action(to, known, Strategy.LEARNERS_FIRST, **options)), text)
         wait = confscript.next_action(target, view(learning, indexes=(9, 9, 9, 2)), Strategy.ONE_AT_A_TIME)
         self.assertEqual(wait, confscript.Wait(confscript.WaitReason.BEHIND, (4,), 9, (2,)))
         propose = confscript.next_action(target, view(three), Strategy.LEARNERS_FIRST)
         self.assertEqual(propose.stage, confscript.stages(three, target, Strategy.LEARNERS_FIRST).stages[0])
-        for call, status, number in [
-            (lambda: confscript.next_action(target, view(three), Strategy.SHORTEST), "STRATEGY_MAY_STALL", 0),
-            (lambda: confscript.next_action(target, view(three), Strategy.LEARNERS_FIRST, down=[0]), "ZERO_ID", 0),
-            (lambda: confscript.next_action(Configuration(), view(three), Strategy.LEARNERS_FIRST), "NO_VOTER", 2),
-            (lambda: confscript.next_action(joint, view(three), Strategy.ONE_AT_A_TIME), "JOINT_TARGET", 0),
+        wrong = Configuration((1,), learners=(1,))
+        for to, known, strategy, down, status, number, text in [
+            (target, view(three), Strategy.SHORTEST, (), "STRATEGY_MAY_STALL", 0, "by this strategy the cluster may stall"),
+            (Configuration(), view(three), Strategy.LEARNERS_FIRST, (), "NO_VOTER", 2, "the target: no incoming voter"),
+            (wrong, view(three), Strategy.LEARNERS_FIRST, (), "LEARNER_AND_VOTER", 1, "the target: a learner is a voter (id 1)"),
+            (target, view(wrong), Strategy.LEARNERS_FIRST, (), "LEARNER_AND_VOTER", 1, "the configuration: a learner is a voter (id 1)"),
+            (target, view(three), Strategy.LEARNERS_FIRST, iter([2, 2, 0]), "ZERO_ID", 0, "down: the id 0"),
+            (target, view(three, started=iter([1, 0])), Strategy.LEARNERS_FIRST, (), "ZERO_ID", 0, "started: the id 0"),
+            (target, view(three, retired=[0]), Strategy.LEARNERS_FIRST, (), "ZERO_ID", 0, "retired: the id 0"),
+            (joint, view(three), Strategy.ONE_AT_A_TIME, (), "JOINT_TARGET", 0, "the target is joint"),
         ]:
             with self.assertRaises(confscript.Refused) as raised:
-                call()
-            self.assertEqual((raised.exception.status.name, raised.exception.number), (status, number))
+                confscript.next_action(to, known, strategy, down=down)
+            self.assertEqual((raised.exception.status.name, raised.exception.number, str(raised.exception)), (status, number, text))
         with self.assertRaises(OverflowError):
             confscript.next_action(target, view(three, -1), Strategy.LEARNERS_FIRST)
 

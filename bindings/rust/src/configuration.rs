@@ -102,7 +102,7 @@ impl FromStr for Configuration {
     fn from_str(text: &str) -> Result<Configuration, Error> {
         let spaced = text.replace('(', " ( ").replace(')', " ) ").replace('=', " = ");
         let tokens: Vec<&str> = spaced.split_ascii_whitespace().collect();
-        printed(&tokens).ok_or(Error { code: Status::BadPrinted as u32, number: 0 })
+        printed(&tokens).ok_or(Error { code: Status::BadPrinted as u32, number: 0, part: "" })
     }
 }
 

@@ -59,27 +59,69 @@ extern "C" {
     fn confscript_version() -> u32;
     fn confscript_status_text(status: u32, out: *mut u8, out_len: usize) -> Answer;
     fn confscript_plan(
-        configuration: *const u8, configuration_len: usize, target: *const u8, target_len: usize, strategy: u32, output: u32, down: *const u64, down_len: usize, out: *mut u8,
+        configuration: *const u8,
+        configuration_len: usize,
+        target: *const u8,
+        target_len: usize,
+        strategy: u32,
+        output: u32,
+        down: *const u64,
+        down_len: usize,
+        out: *mut u8,
         out_len: usize,
     ) -> Answer;
-    fn confscript_apply(configuration: *const u8, configuration_len: usize, plan: *const u8, plan_len: usize, out: *mut u8, out_len: usize) -> Answer;
+    fn confscript_apply(
+        configuration: *const u8,
+        configuration_len: usize,
+        plan: *const u8,
+        plan_len: usize,
+        out: *mut u8,
+        out_len: usize,
+    ) -> Answer;
     fn confscript_check(configuration: *const u8, configuration_len: usize) -> Answer;
     fn confscript_committed(incoming: *const u64, incoming_len: usize, outgoing: *const u64, outgoing_len: usize) -> u64;
     fn confscript_vote(incoming: *const u8, incoming_len: usize, outgoing: *const u8, outgoing_len: usize) -> Answer;
     fn confscript_restore(configuration: *const u64, configuration_len: usize, out: *mut u64, out_len: usize) -> Answer;
     fn confscript_step(
-        configuration: *const u64, configuration_len: usize, step: u32, changes: *const Change, changes_len: usize, out: *mut u64, out_len: usize,
+        configuration: *const u64,
+        configuration_len: usize,
+        step: u32,
+        changes: *const Change,
+        changes_len: usize,
+        out: *mut u64,
+        out_len: usize,
     ) -> Answer;
     fn confscript_stages(
-        configuration: *const u64, configuration_len: usize, target: *const u64, target_len: usize, strategy: u32, down: *const u64, down_len: usize, out: *mut u64,
+        configuration: *const u64,
+        configuration_len: usize,
+        target: *const u64,
+        target_len: usize,
+        strategy: u32,
+        down: *const u64,
+        down_len: usize,
+        out: *mut u64,
         out_len: usize,
     ) -> Answer;
     fn confscript_next(
-        configuration: *const u64, configuration_len: usize, target: *const u64, target_len: usize, strategy: u32, down: *const u64, down_len: usize, view: *const u64,
-        view_len: usize, out: *mut u64, out_len: usize,
+        configuration: *const u64,
+        configuration_len: usize,
+        target: *const u64,
+        target_len: usize,
+        strategy: u32,
+        down: *const u64,
+        down_len: usize,
+        view: *const u64,
+        view_len: usize,
+        out: *mut u64,
+        out_len: usize,
     ) -> Answer;
     fn confscript_may_be_down(
-        incoming: *const u64, incoming_len: usize, outgoing: *const u64, outgoing_len: usize, down: *const u64, down_len: usize,
+        incoming: *const u64,
+        incoming_len: usize,
+        outgoing: *const u64,
+        outgoing_len: usize,
+        down: *const u64,
+        down_len: usize,
     ) -> Answer;
 }
 
@@ -89,7 +131,10 @@ fn check_library() {
     static IS_CHECKED: AtomicBool = AtomicBool::new(false);
     if cfg!(feature = "system") && !IS_CHECKED.load(Ordering::Relaxed) {
         let (major, minor, patch) = (version() / 10000, version() / 100 % 100, version() % 100);
-        assert!(alloc::format!("{major}.{minor}") == EXPECTED, "confscript: the library has version {major}.{minor}.{patch}, and this crate is for version {EXPECTED}");
+        assert!(
+            alloc::format!("{major}.{minor}") == EXPECTED,
+            "confscript: the library has version {major}.{minor}.{patch}, and this crate is for version {EXPECTED}"
+        );
         IS_CHECKED.store(true, Ordering::Relaxed);
     }
 }
@@ -138,7 +183,11 @@ pub enum StepKind {
 }
 
 fn number(answer: Answer) -> Result<u64, Error> {
-    if answer.status == DONE { Ok(answer.number) } else { Err(Error::of(&answer)) }
+    if answer.status == DONE {
+        Ok(answer.number)
+    } else {
+        Err(Error::of(&answer))
+    }
 }
 
 // What a call writes to a buffer. If that is too small, the call is made again with a larger one.
@@ -163,7 +212,11 @@ fn written(call: impl Fn(&mut [u8]) -> Answer) -> Result<String, Error> {
 
 // The configuration that a call writes, from a configuration and this number of changes, and the members that are catching up in
 // it. The buffer has the length of the macro CONFSCRIPT_STEP_ROOM of confscript.h.
-fn configured(from: &Configuration, changes: usize, call: impl Fn(&[u64], &mut [u64]) -> Answer) -> Result<(Configuration, Vec<u64>), Error> {
+fn configured(
+    from: &Configuration,
+    changes: usize,
+    call: impl Fn(&[u64], &mut [u64]) -> Answer,
+) -> Result<(Configuration, Vec<u64>), Error> {
     check_library();
     let numbers = from.numbers();
     let mut out = vec![0; 6 + 2 * (numbers.len() - 6 + changes)];
@@ -188,7 +241,16 @@ pub fn plan_by(options: Options<'_>, configuration: &str, target: &str) -> Resul
     // SAFETY: each pointer is a slice's, and so not null, and the count its length.
     written(|out| unsafe {
         confscript_plan(
-            configuration.as_ptr(), configuration.len(), target.as_ptr(), target.len(), strategy as u32, output as u32, down.as_ptr(), down.len(), out.as_mut_ptr(), out.len(),
+            configuration.as_ptr(),
+            configuration.len(),
+            target.as_ptr(),
+            target.len(),
+            strategy as u32,
+            output as u32,
+            down.as_ptr(),
+            down.len(),
+            out.as_mut_ptr(),
+            out.len(),
         )
     })
 }
@@ -196,7 +258,9 @@ pub fn plan_by(options: Options<'_>, configuration: &str, target: &str) -> Resul
 /// The ConfState line of the configuration after the steps of a plan. A single step is a plan of one line.
 pub fn apply(configuration: &str, steps: &str) -> Result<String, Error> {
     // SAFETY: as in `plan_by`.
-    written(|out| unsafe { confscript_apply(configuration.as_ptr(), configuration.len(), steps.as_ptr(), steps.len(), out.as_mut_ptr(), out.len()) })
+    written(|out| unsafe {
+        confscript_apply(configuration.as_ptr(), configuration.len(), steps.as_ptr(), steps.len(), out.as_mut_ptr(), out.len())
+    })
 }
 
 /// What is wrong with the configuration of a ConfState line, if anything is.

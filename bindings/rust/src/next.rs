@@ -1,12 +1,14 @@
 //! What to do next on the way of a plan.
 use crate::configuration::Ids;
-use crate::{confscript_next, filled, ConfChangeTransition, ConfChangeType, ConfChangeV2, Configuration, Error, Stage, Strategy};
+use crate::{
+    confscript_next, filled, restore, ConfChangeTransition, ConfChangeType, ConfChangeV2, Configuration, Error, Stage, Status, Strategy,
+};
 use alloc::vec::Vec;
 use core::fmt;
 
-/// How [`next`] goes to a target. [`Strategy::Shortest`], the default strategy, is refused: its new voters vote with empty
+/// How [`next`] goes to a target. There is no default: by [`Strategy::Shortest`], which is refused, new voters vote with empty
 /// logs.
-#[derive(Clone, Copy, Debug, Default, PartialEq, Eq, Hash)]
+#[derive(Clone, Copy, Debug, PartialEq, Eq, Hash)]
 pub struct DriveOptions<'a> {
     /// `LearnersFirst` or `OneAtATime`.
     pub strategy: Strategy,
@@ -15,6 +17,13 @@ pub struct DriveOptions<'a> {
     /// How many of the committed entries a member that has caught up may lack. With 0 it must have all of them, which
     /// under load hardly any member ever has.
     pub max_lag: u64,
+}
+
+impl DriveOptions<'_> {
+    /// By this strategy, with no ids down and no lag.
+    pub fn by(strategy: Strategy) -> Self {
+        DriveOptions { strategy, down: &[], max_lag: 0 }
+    }
 }
 
 /// What is known of a member: what [`next`] looks at of raft's `Progress`.
@@ -46,8 +55,8 @@ pub struct View {
     pub pending_conf_index: u64,
     /// The members. If one is listed twice, its first index counts.
     pub progress: Vec<MemberView>,
-    /// The servers that were started, and not stopped for good.
-    pub running: Vec<u64>,
+    /// The servers that were started, and not stopped for good, whether they are up or not.
+    pub started: Vec<u64>,
     /// The servers that were stopped for good.
     pub retired: Vec<u64>,
 }
@@ -80,7 +89,7 @@ pub struct Waited {
     /// The last index at which it is known to have the leader's log.
     pub matched: u64,
     /// The index that it has to have, if the reason is `Behind` or `Pending`, else 0.
-    pub index: u64,
+    pub needed: u64,
 }
 
 /// Why to wait.
@@ -123,10 +132,10 @@ pub enum StuckReason {
 /// let member = |id| MemberView { id, matched: 60, recent_active: true };
 /// let mut view = View { conf_state: voters(&[1, 2, 3]), conf_index: 57, lead: 1, commit: 60, ..Default::default() };
 /// view.progress = vec![member(1), member(2), member(3)];
-/// view.running = vec![1, 2, 3];
-/// let options = DriveOptions { strategy: Strategy::LearnersFirst, ..Default::default() };
+/// view.started = vec![1, 2, 3];
+/// let options = DriveOptions::by(Strategy::LearnersFirst);
 /// assert_eq!(next(options, &voters(&[1, 2, 4]), &view)?.to_string(), "start 4");
-/// view.running.push(4);
+/// view.started.push(4);
 /// assert_eq!(next(options, &voters(&[1, 2, 4]), &view)?.to_string(), "propose simple l4");
 /// # Ok::<(), confscript::Error>(())
 /// ```
@@ -136,28 +145,53 @@ pub fn next(options: DriveOptions<'_>, target: &Configuration, view: &View) -> R
     // SAFETY: each pointer is a slice's or a vector's, and so not null, and the count its length.
     let numbers = filled(|out| unsafe {
         confscript_next(
-            from.as_ptr(), from.len(), to.as_ptr(), to.len(), strategy as u32, down.as_ptr(), down.len(), known.as_ptr(), known.len(), out.as_mut_ptr(), out.len(),
+            from.as_ptr(),
+            from.len(),
+            to.as_ptr(),
+            to.len(),
+            strategy as u32,
+            down.as_ptr(),
+            down.len(),
+            known.as_ptr(),
+            known.len(),
+            out.as_mut_ptr(),
+            out.len(),
         )
-    })?;
+    })
+    .map_err(|error| Error { part: part_of(error, options, target, view), ..error })?;
     Ok(Action::of(&numbers, options, view))
+}
+
+// The part of what is asked that an error is about; empty if its number says that, or if it is about none.
+fn part_of(error: Error, options: DriveOptions<'_>, target: &Configuration, view: &View) -> &'static str {
+    if error.status() == Status::NoVoter {
+        return "";
+    }
+    let configurations = [("the configuration", &view.conf_state), ("the target", target)];
+    if let Some((part, _)) = configurations.into_iter().find(|(_, each)| matches!(restore(each), Err(why) if why.code == error.code)) {
+        return part;
+    }
+    let members: Vec<u64> = view.progress.iter().map(|member| member.id).collect();
+    let lists = [("down", options.down), ("the progress", &members), ("started", &view.started), ("retired", &view.retired)];
+    lists.iter().find(|(_, ids)| error.status() == Status::ZeroId && ids.contains(&0)).map_or("", |(part, _)| *part)
 }
 
 impl View {
     // The view as an array (`enum confscript_view_part`).
     fn numbers(&self, max_lag: u64) -> Vec<u64> {
-        let counts = [self.progress.len() as u64, self.running.len() as u64, self.retired.len() as u64];
+        let counts = [self.progress.len() as u64, self.started.len() as u64, self.retired.len() as u64];
         let mut numbers = Vec::from([self.conf_index, self.lead, self.commit, self.pending_conf_index, max_lag]);
         numbers.extend(counts);
         numbers.extend(self.progress.iter().flat_map(|member| [member.id, member.matched, member.recent_active.into()]));
-        numbers.extend(&self.running);
+        numbers.extend(&self.started);
         numbers.extend(&self.retired);
         numbers
     }
 
     // An id that is waited for until it has this index.
-    fn waited(&self, id: u64, index: u64) -> Waited {
+    fn waited(&self, id: u64, needed: u64) -> Waited {
         let matched = self.progress.iter().find(|member| member.id == id).map_or(0, |member| member.matched);
-        Waited { id, matched, index }
+        Waited { id, matched, needed }
     }
 }
 
@@ -172,12 +206,12 @@ impl Action {
             3 => Action::Propose(Stage::of(rest, !options.down.is_empty()).0),
             4 => {
                 let why = WAIT_REASONS[reason as usize - 1];
-                let index = match why {
+                let needed = match why {
                     WaitReason::Pending => view.pending_conf_index,
                     WaitReason::Behind => view.conf_index.max(view.commit.saturating_sub(options.max_lag)),
                     _ => 0,
                 };
-                Action::Wait(why, rest.iter().map(|id| view.waited(*id, index)).collect())
+                Action::Wait(why, rest.iter().map(|id| view.waited(*id, needed)).collect())
             }
             5 => Action::Stuck(STUCK_REASONS[reason as usize - 7], rest.to_vec()),
             _ => Action::Done,
@@ -231,13 +265,15 @@ fn wait_text(f: &mut fmt::Formatter<'_>, why: WaitReason, waited: &[Waited]) -> 
     let ids = Ids(&list);
     match why {
         WaitReason::NoLeader => write!(f, "there is no leader: waiting for {ids}"),
-        WaitReason::Pending => write!(f, "the change at index {} is not applied: waiting for {ids}", waited.first().map_or(0, |each| each.index)),
+        WaitReason::Pending => {
+            write!(f, "the change at index {} is not applied: waiting for {ids}", waited.first().map_or(0, |each| each.needed))
+        }
         WaitReason::Heard => write!(f, "{ids} named as down, but heard from"),
         WaitReason::Unheard => write!(f, "not heard from {ids}"),
         WaitReason::Leaving => write!(f, "the joint configuration is left automatically: waiting for {ids}"),
         WaitReason::Behind => {
-            for (at, Waited { id, matched, index }) in waited.iter().enumerate() {
-                write!(f, "{}{id} has not caught up: {matched} of {index}", if at == 0 { "" } else { ", " })?;
+            for (at, Waited { id, matched, needed }) in waited.iter().enumerate() {
+                write!(f, "{}{id} has not caught up: {matched} of {needed}", if at == 0 { "" } else { ", " })?;
             }
             Ok(())
         }

@@ -1,6 +1,6 @@
 //! Plans as proposals to a raft library.
-use crate::{confscript_stages, filled, step, Change, ChangeKind, Configuration, Error, Options, StepKind};
 use crate::configuration::Set;
+use crate::{confscript_stages, filled, step, Change, ChangeKind, Configuration, Error, Options, StepKind};
 use alloc::vec::Vec;
 use core::fmt;
 
@@ -62,7 +62,7 @@ pub struct Stage {
     /// How many ids may be down there, whichever they are.
     pub may_be_down: Option<u64>,
     /// How many while members are catching up; `None` if nothing commits then.
-    pub while_catching_up: Option<u64>,
+    pub until_then: Option<u64>,
     /// How many besides those in [`Options::down`], while members are catching up. It is `None` if nothing commits then,
     /// and if no ids are down.
     pub may_be_down_besides: Option<u64>,
@@ -101,7 +101,15 @@ pub fn stages(options: Options<'_>, configuration: &Configuration, target: &Conf
     // SAFETY: each pointer is a slice's or a vector's, and so not null, and the count its length.
     let numbers = filled(|out| unsafe {
         confscript_stages(
-            from.as_ptr(), from.len(), to.as_ptr(), to.len(), strategy as u32, down.as_ptr(), down.len(), out.as_mut_ptr(), out.len(),
+            from.as_ptr(),
+            from.len(),
+            to.as_ptr(),
+            to.len(),
+            strategy as u32,
+            down.as_ptr(),
+            down.len(),
+            out.as_mut_ptr(),
+            out.len(),
         )
     })?;
     let mut rest = &numbers[2..];
@@ -123,13 +131,14 @@ impl Stage {
         let (conf_state, catching_up, rest) = Configuration::of(rest);
         let transition = [ConfChangeTransition::Auto, ConfChangeTransition::Implicit, ConfChangeTransition::Explicit][head[0] as usize];
         let types = [ConfChangeType::AddNode, ConfChangeType::RemoveNode, ConfChangeType::UpdateNode, ConfChangeType::AddLearnerNode];
-        let changes = changes.chunks(2).map(|change| ConfChangeSingle { change_type: types[change[0] as usize], node_id: change[1] }).collect();
+        let changes =
+            changes.chunks(2).map(|change| ConfChangeSingle { change_type: types[change[0] as usize], node_id: change[1] }).collect();
         let stage = Stage {
             conf_change: ConfChangeV2 { transition, changes },
             conf_state,
             catching_up,
             may_be_down: count(head[1]),
-            while_catching_up: count(head[2]),
+            until_then: count(head[2]),
             may_be_down_besides: if are_down { count(head[3]) } else { None },
         };
         (stage, rest)
@@ -142,7 +151,7 @@ impl fmt::Display for Stage {
         if !self.catching_up.is_empty() {
             write!(out, ", catching up {}", Set(&self.catching_up))?;
         }
-        let counts = [("may be down", self.may_be_down), ("until then", self.while_catching_up), ("besides", self.may_be_down_besides)];
+        let counts = [("may be down", self.may_be_down), ("until then", self.until_then), ("besides", self.may_be_down_besides)];
         for (what, count) in counts {
             if let Some(count) = count {
                 write!(out, ", {what} {count}")?;

@@ -79,11 +79,39 @@ pub enum Status {
 
 impl Status {
     const ALL: [Status; 33] = [
-        Status::NoMemory, Status::BadConfState, Status::RepeatedId, Status::NotAConfiguration, Status::NoVoter, Status::BadLine, Status::NotAMember, Status::AlreadyJoint,
-        Status::ZeroVoterJoint, Status::NotJoint, Status::SimpleInJoint, Status::RemovedAllVoters, Status::MoreThanOneVoter, Status::ZeroId,
-        Status::NextNotOutgoing, Status::NextAndIncoming, Status::LearnerAndVoter, Status::AddedAgain, Status::NotJointButAutoLeave, Status::DifferentLengths, Status::BadVote,
-        Status::NoQuorum, Status::BadStrategy, Status::JointTarget, Status::BadStep, Status::BadChange, Status::BadOutput, Status::UnknownForm,
-        Status::BadPrinted, Status::BadJson, Status::BadChangeList, Status::DownNotAMember, Status::StrategyMayStall,
+        Status::NoMemory,
+        Status::BadConfState,
+        Status::RepeatedId,
+        Status::NotAConfiguration,
+        Status::NoVoter,
+        Status::BadLine,
+        Status::NotAMember,
+        Status::AlreadyJoint,
+        Status::ZeroVoterJoint,
+        Status::NotJoint,
+        Status::SimpleInJoint,
+        Status::RemovedAllVoters,
+        Status::MoreThanOneVoter,
+        Status::ZeroId,
+        Status::NextNotOutgoing,
+        Status::NextAndIncoming,
+        Status::LearnerAndVoter,
+        Status::AddedAgain,
+        Status::NotJointButAutoLeave,
+        Status::DifferentLengths,
+        Status::BadVote,
+        Status::NoQuorum,
+        Status::BadStrategy,
+        Status::JointTarget,
+        Status::BadStep,
+        Status::BadChange,
+        Status::BadOutput,
+        Status::UnknownForm,
+        Status::BadPrinted,
+        Status::BadJson,
+        Status::BadChangeList,
+        Status::DownNotAMember,
+        Status::StrategyMayStall,
     ];
 
     /// The status with this number in `confscript.h`.
@@ -93,16 +121,17 @@ impl Status {
 }
 
 /// The error of a call that is refused: its status, and the number that `confscript.h` gives with it. Its text names the
-/// id, text, line, step or change that the number denotes.
+/// id, text, line, step or change that the number denotes, and of [`next`](crate::next) the part that is wrong.
 #[derive(Clone, Copy, Debug, PartialEq, Eq, Hash)]
 pub struct Error {
     pub(crate) code: u32,
     pub(crate) number: u64,
+    pub(crate) part: &'static str,
 }
 
 impl Error {
     pub(crate) fn of(answer: &Answer) -> Error {
-        Error { code: answer.status, number: answer.number }
+        Error { code: answer.status, number: answer.number, part: "" }
     }
 
     /// Why the call is refused.
@@ -121,15 +150,24 @@ impl Error {
         self.number
     }
 
-    // What the number denotes, before the text of the status.
+    // The part, or what the number denotes, before the text of the status.
     fn write_place(&self, out: &mut fmt::Formatter<'_>) -> fmt::Result {
         use Status::*;
+        if !self.part.is_empty() {
+            return write!(out, "{}: ", self.part);
+        }
         match (self.status(), self.number) {
             (_, 0) => Ok(()),
-            (BadConfState | NotAConfiguration | NoVoter | UnknownForm | BadPrinted | BadJson | BadChangeList, 1) => out.write_str("the configuration: "),
-            (BadConfState | NotAConfiguration | NoVoter | UnknownForm | BadPrinted | BadJson | BadChangeList, _) => out.write_str("the target: "),
+            (BadConfState | NotAConfiguration | NoVoter | UnknownForm | BadPrinted | BadJson | BadChangeList, 1) => {
+                out.write_str("the configuration: ")
+            }
+            (BadConfState | NotAConfiguration | NoVoter | UnknownForm | BadPrinted | BadJson | BadChangeList, _) => {
+                out.write_str("the target: ")
+            }
             (BadLine, line) => write!(out, "line {line}: "),
-            (AlreadyJoint | ZeroVoterJoint | NotJoint | SimpleInJoint | RemovedAllVoters | MoreThanOneVoter, step) => write!(out, "step {step}: "),
+            (AlreadyJoint | ZeroVoterJoint | NotJoint | SimpleInJoint | RemovedAllVoters | MoreThanOneVoter, step) => {
+                write!(out, "step {step}: ")
+            }
             (BadChange, change) => write!(out, "change {change}: "),
             _ => Ok(()),
         }
@@ -139,7 +177,9 @@ impl Error {
     fn write_id(&self, out: &mut fmt::Formatter<'_>) -> fmt::Result {
         use Status::*;
         match (self.status(), self.number) {
-            (RepeatedId | NextNotOutgoing | NextAndIncoming | LearnerAndVoter | NotAMember | AddedAgain | DownNotAMember, id @ 1..) => write!(out, " (id {id})"),
+            (RepeatedId | NextNotOutgoing | NextAndIncoming | LearnerAndVoter | NotAMember | AddedAgain | DownNotAMember, id @ 1..) => {
+                write!(out, " (id {id})")
+            }
             (Unknown, number @ 1..) => write!(out, " ({number})"),
             _ => Ok(()),
         }

@@ -1,7 +1,8 @@
 //! Tests the calls of the binding from a Rust program.
 use confscript::{
-    apply, apply_conf_change, check, committed, committed_index, may_be_down, next, plan, plan_by, restore, stages, step, tally_votes, version, vote, Action, Change,
-    ChangeKind, Configuration, DriveOptions, Error, MemberView, Options, Output, Status, StepKind, Strategy, UnknownName, View, VoteResult,
+    apply, apply_conf_change, check, committed, committed_index, may_be_down, next, plan, plan_by, restore, stages, step, tally_votes,
+    version, vote, Action, Change, ChangeKind, Configuration, DriveOptions, Error, MemberView, Options, Output, Status, StepKind, Strategy,
+    UnknownName, View, VoteResult, WaitReason,
 };
 
 const NOW: &str = "Voters:[1 2 3] VotersOutgoing:[] Learners:[] LearnersNext:[] AutoLeave:false";
@@ -81,7 +82,10 @@ fn refuses() {
         assert_eq!(refused(plan(now, target)), expected);
     }
     assert_eq!(refused(apply(NOW, "leave-joint")), why(Status::NotJoint, 1, "step 1: can't leave a non-joint config"));
-    assert_eq!(refused(apply(NOW, "simple v4\nx")), why(Status::BadLine, 2, "line 2: not a step: expected simple l4 l5, enter-joint autoleave=false r1 v4, or leave-joint"));
+    assert_eq!(
+        refused(apply(NOW, "simple v4\nx")),
+        why(Status::BadLine, 2, "line 2: not a step: expected simple l4 l5, enter-joint autoleave=false r1 v4, or leave-joint")
+    );
     assert_eq!(refused(check(&NOW.replace("1 2", "0 2"))), why(Status::ZeroId, 0, "the id 0"));
     assert_eq!(check(NOW), Ok(()));
 }
@@ -142,10 +146,18 @@ fn counts_by_id() {
 
 #[test]
 fn prints_values() {
-    let all = Configuration { voters: vec![2, 1], voters_outgoing: vec![u64::MAX, 3], learners: vec![5], learners_next: vec![3], auto_leave: true };
+    let all = Configuration {
+        voters: vec![2, 1],
+        voters_outgoing: vec![u64::MAX, 3],
+        learners: vec![5],
+        learners_next: vec![3],
+        auto_leave: true,
+    };
     assert_eq!(all.to_string(), "voters=(1 2)&&(3 18446744073709551615) learners=(5) learners_next=(3) autoleave");
     assert_eq!(voters(&[]).to_string(), "voters=()");
-    for (strategy, name) in [(Strategy::Shortest, "shortest"), (Strategy::LearnersFirst, "learners-first"), (Strategy::OneAtATime, "one-at-a-time")] {
+    for (strategy, name) in
+        [(Strategy::Shortest, "shortest"), (Strategy::LearnersFirst, "learners-first"), (Strategy::OneAtATime, "one-at-a-time")]
+    {
         assert_eq!((strategy.to_string().as_str(), name.parse()), (name, Ok(strategy)));
     }
     for (output, name) in [(Output::Steps, "steps"), (Output::Table, "table"), (Output::Json, "json")] {
@@ -153,21 +165,52 @@ fn prints_values() {
     }
     assert_eq!(("Shortest".parse::<Strategy>(), "".parse::<Output>()), (Err(UnknownName), Err(UnknownName)));
     assert_eq!([VoteResult::Pending, VoteResult::Lost, VoteResult::Won].map(|it| it.to_string()), ["VotePending", "VoteLost", "VoteWon"]);
-    assert_eq!(std::collections::HashSet::from([voters(&[1, 3]), voters(&[3, 1]), voters(&[1]), Configuration { auto_leave: true, ..voters(&[1]) }]).len(), 3);
+    assert_eq!(
+        std::collections::HashSet::from([
+            voters(&[1, 3]),
+            voters(&[3, 1]),
+            voters(&[1]),
+            Configuration { auto_leave: true, ..voters(&[1]) }
+        ])
+        .len(),
+        3
+    );
 }
 
 // A configuration is read from each text that the program reads, and from no other one.
 #[test]
 fn reads_printed_configurations() {
-    let all = Configuration { voters: vec![1, 2], voters_outgoing: vec![3, u64::MAX], learners: vec![5], learners_next: vec![3], auto_leave: true };
+    let all = Configuration {
+        voters: vec![1, 2],
+        voters_outgoing: vec![3, u64::MAX],
+        learners: vec![5],
+        learners_next: vec![3],
+        auto_leave: true,
+    };
     for configuration in [voters(&[]), voters(&[7]), all.clone(), Configuration { learners: vec![2], ..voters(&[1]) }] {
         assert_eq!(configuration.to_string().parse(), Ok(configuration));
     }
     let text = " voters =( 02 1)&& (18446744073709551615 3)\tlearners=(5)learners_next=(3)  autoleave\n";
     assert_eq!((text.parse(), plan(text, &all.to_string()).as_deref()), (Ok(all), Ok("nothing to do\n")));
     for text in [
-        "", "voters", "voters=", "voters=(1", "voters=(1))", "voters=(1,2)", "voters=(1 x)", "voters=(+1)", "voters=(-1)", "voters=(18446744073709551616)", "voters=(1)&&()",
-        "voters=(1) learners=()", "voters=(1) learners_next=(2) learners=(3)", "voters=(1) autoleave autoleave", "voters=(1) voters=(1)", "learners=(1)", "(1)", "voters=(1) autoleav",
+        "",
+        "voters",
+        "voters=",
+        "voters=(1",
+        "voters=(1))",
+        "voters=(1,2)",
+        "voters=(1 x)",
+        "voters=(+1)",
+        "voters=(-1)",
+        "voters=(18446744073709551616)",
+        "voters=(1)&&()",
+        "voters=(1) learners=()",
+        "voters=(1) learners_next=(2) learners=(3)",
+        "voters=(1) autoleave autoleave",
+        "voters=(1) voters=(1)",
+        "learners=(1)",
+        "(1)",
+        "voters=(1) autoleav",
     ] {
         let (status, number, why) = refused(text.parse::<Configuration>());
         assert_eq!((status, number), (Status::BadPrinted, 0), "{text:?}");
@@ -188,7 +231,10 @@ fn steps() {
     assert_eq!(joint, Configuration { voters_outgoing: vec![1, 2, 3], auto_leave: true, ..voters(&[2, 3, 4]) });
     assert_eq!(catching_up, [4]);
     assert_eq!(step(&joint, StepKind::LeaveJoint, &[]), Ok((voters(&[2, 3, 4]), vec![])));
-    assert_eq!(refused(step(&joint, StepKind::Simple, &[])), why(Status::SimpleInJoint, 0, "can't apply simple config change in joint config"));
+    assert_eq!(
+        refused(step(&joint, StepKind::Simple, &[])),
+        why(Status::SimpleInJoint, 0, "can't apply simple config change in joint config")
+    );
     let many: Vec<Change> = (1..=500).map(|id| change(ChangeKind::Learner, id)).collect();
     assert_eq!(step(&voters(&[501]), StepKind::Simple, &many).unwrap().0.learners, (1..=500).collect::<Vec<_>>());
 }
@@ -208,19 +254,23 @@ fn stages_a_plan() {
     let (five, last) = (voters(&[5, 4, 3, 2, 1]), voters(&[3, 4, 5, 6, 7]));
     let plan = stages(Options { strategy: Strategy::LearnersFirst, ..Options::default() }, &five, &last).unwrap();
     let lines: Vec<String> = plan.stages.iter().map(|it| it.to_string()).collect();
-    assert_eq!(lines, [
-        "Auto AddLearnerNode(6) -> voters=(1 2 3 4 5) learners=(6), catching up (6), may be down 2, until then 2",
-        "Auto AddLearnerNode(7) -> voters=(1 2 3 4 5) learners=(6 7), catching up (7), may be down 2, until then 2",
-        "Explicit RemoveNode(1) RemoveNode(2) AddNode(6) AddNode(7) -> voters=(3 4 5 6 7)&&(1 2 3 4 5), may be down 2, until then 2",
-        "Auto -> voters=(3 4 5 6 7), may be down 2, until then 2",
-    ]);
+    assert_eq!(
+        lines,
+        [
+            "Auto AddLearnerNode(6) -> voters=(1 2 3 4 5) learners=(6), catching up (6), may be down 2, until then 2",
+            "Auto AddLearnerNode(7) -> voters=(1 2 3 4 5) learners=(6 7), catching up (7), may be down 2, until then 2",
+            "Explicit RemoveNode(1) RemoveNode(2) AddNode(6) AddNode(7) -> voters=(3 4 5 6 7)&&(1 2 3 4 5), may be down 2, until then 2",
+            "Auto -> voters=(3 4 5 6 7), may be down 2, until then 2",
+        ]
+    );
     assert_eq!((&plan.stages[3].conf_state, plan.stalls), (&last, false));
 }
 
 // Each proposal leads to the configuration of its stage, the last one to the target.
 #[test]
 fn stages_lead() {
-    let next = Configuration { learners: vec![5], learners_next: vec![u64::MAX], voters_outgoing: vec![1, 2, u64::MAX], ..voters(&[2, 1 << 53]) };
+    let next =
+        Configuration { learners: vec![5], learners_next: vec![u64::MAX], voters_outgoing: vec![1, 2, u64::MAX], ..voters(&[2, 1 << 53]) };
     let left = Configuration { voters_outgoing: vec![1, 2], auto_leave: true, ..voters(&[3, 4]) };
     let states = [voters(&[u64::MAX]), Configuration { learners: vec![4], ..voters(&[1, 2, 3]) }, next, left];
     for now in &states {
@@ -249,17 +299,20 @@ fn stages_with_ids_down() {
     let plan = stages(options(&[1, 2]), &voters(&[1, 2, 3]), &voters(&[1, 2, 3])).unwrap();
     assert!(plan.stages.is_empty() && plan.stalls);
     let plan = stages(options(&[1]), &voters(&[1, 2, 3]), &voters(&[2, 3, 4])).unwrap();
-    assert_eq!((plan.stages.len(), plan.stages[0].may_be_down, plan.stages[0].may_be_down_besides, plan.stalls), (2, Some(1), Some(0), false));
+    assert_eq!(
+        (plan.stages.len(), plan.stages[0].may_be_down, plan.stages[0].may_be_down_besides, plan.stalls),
+        (2, Some(1), Some(0), false)
+    );
     let plan = stages(options(&[2]), &voters(&[1]), &voters(&[1, 2])).unwrap();
     assert_eq!((plan.stages[0].may_be_down, plan.stages[0].may_be_down_besides, plan.stalls), (Some(0), None, true));
     let plan = stages(Options::default(), &voters(&[1]), &voters(&[1, 2])).unwrap();
-    assert_eq!((plan.stages[0].may_be_down, plan.stages[0].while_catching_up, &plan.stages[0].catching_up), (Some(0), None, &vec![2]));
+    assert_eq!((plan.stages[0].may_be_down, plan.stages[0].until_then, &plan.stages[0].catching_up), (Some(0), None, &vec![2]));
 }
 
 // A view in which the members have these indexes, those that are silent are not heard from, and 9 is committed.
-fn view(conf_state: Configuration, lead: u64, indexes: &[u64], silent: &[u64], running: &[u64]) -> View {
+fn view(conf_state: Configuration, lead: u64, indexes: &[u64], silent: &[u64], started: &[u64]) -> View {
     let progress = (1..).zip(indexes).map(|(id, matched)| MemberView { id, matched: *matched, recent_active: !silent.contains(&id) });
-    View { conf_state, conf_index: 5, lead, commit: 9, progress: progress.collect(), running: running.to_vec(), ..View::default() }
+    View { conf_state, conf_index: 5, lead, commit: 9, progress: progress.collect(), started: started.to_vec(), ..View::default() }
 }
 
 #[test]
@@ -276,7 +329,12 @@ fn next_actions() {
         (view(three.clone(), 1, &all, &[], &four), &target, &[3], "3 named as down, but heard from"),
         (view(three.clone(), 0, &all, &[3], &four), &target, &[], "there is no leader: waiting for 3"),
         (pending, &target, &[], "the change at index 10 is not applied: waiting for 2"),
-        (view(three.clone(), 1, &all[..3], &[], &four), &voters(&[3, 4]), &[4], "with 4 down, nothing commits in a configuration on the way"),
+        (
+            view(three.clone(), 1, &all[..3], &[], &four),
+            &voters(&[3, 4]),
+            &[4],
+            "with 4 down, nothing commits in a configuration on the way",
+        ),
         (retired, &target, &[], "stopped for good, and not used again: 4"),
         (view(three.clone(), 1, &all, &[], &four[..3]), &target, &[], "start 4"),
         (view(three.clone(), 1, &all, &[], &four), &three, &[], "stop 4 for good"),
@@ -284,7 +342,7 @@ fn next_actions() {
         (view(joint.clone(), 3, &all, &[], &four), &target, &[], "transfer leadership to 1"),
         (view(three.clone(), 1, &all, &[3], &four[..3]), &three, &[], "not heard from 3"),
         (view(learning.clone(), 1, &[9, 9, 9, 2], &[], &four), &target, &[], "4 has not caught up: 2 of 6"),
-        (view(learning, 1, &[9, 9, 9, 6], &[], &four), &target, &[], "propose enter-joint autoleave=false r3 v4"),
+        (view(learning.clone(), 1, &[9, 9, 9, 6], &[], &four), &target, &[], "propose enter-joint autoleave=false r3 v4"),
         (view(three.clone(), 1, &all, &[], &four), &target, &[], "propose simple l4"),
         (view(joint.clone(), 1, &all, &[], &four), &target, &[], "propose leave-joint"),
         (view(three.clone(), 1, &all, &[], &four[..3]), &three, &[9], "done"),
@@ -294,10 +352,45 @@ fn next_actions() {
     }
     let known = view(three.clone(), 1, &all, &[], &four);
     let plan = stages(Options { strategy: Strategy::LearnersFirst, ..Options::default() }, &three, &target).unwrap();
-    let first = DriveOptions { strategy: Strategy::LearnersFirst, ..DriveOptions::default() };
+    let first = DriveOptions::by(Strategy::LearnersFirst);
     assert_eq!(next(first, &target, &known), Ok(Action::Propose(plan.stages[0].clone())));
-    assert_eq!(refused(next(DriveOptions::default(), &target, &known)), why(Status::StrategyMayStall, 0, "by this strategy the cluster may stall"));
-    assert_eq!(refused(next(first, &voters(&[]), &known)), why(Status::NoVoter, 2, "the target: no incoming voter"));
+    let (one_at_a_time, waiting) = (DriveOptions::by(Strategy::OneAtATime), view(learning, 1, &[9, 9, 9, 2], &[], &four));
+    match next(one_at_a_time, &target, &waiting) {
+        Ok(Action::Wait(WaitReason::Behind, waited)) => {
+            assert_eq!((waited.len(), waited[0].id, waited[0].matched, waited[0].needed), (1, 4, 2, 9))
+        }
+        other => panic!("{other:?}"),
+    }
+}
+
+#[test]
+fn refuses_next() {
+    let (one, wrong) = (voters(&[1]), Configuration { learners: vec![1], ..voters(&[1]) });
+    let joint = Configuration { voters_outgoing: vec![2], ..voters(&[1]) };
+    let known = view(one.clone(), 1, &[9], &[], &[1]);
+    let (first, one_at_a_time) = (DriveOptions::by(Strategy::LearnersFirst), DriveOptions::by(Strategy::OneAtATime));
+    for (options, target, view, expected) in [
+        (
+            DriveOptions::by(Strategy::Shortest),
+            &one,
+            known.clone(),
+            why(Status::StrategyMayStall, 0, "by this strategy the cluster may stall"),
+        ),
+        (first, &voters(&[]), known.clone(), why(Status::NoVoter, 2, "the target: no incoming voter")),
+        (first, &wrong, known.clone(), why(Status::LearnerAndVoter, 1, "the target: a learner is a voter (id 1)")),
+        (
+            first,
+            &one,
+            View { conf_state: wrong.clone(), ..known.clone() },
+            why(Status::LearnerAndVoter, 1, "the configuration: a learner is a voter (id 1)"),
+        ),
+        (DriveOptions { down: &[2, 2, 0], ..first }, &one, known.clone(), why(Status::ZeroId, 0, "down: the id 0")),
+        (first, &one, View { started: vec![1, 0], ..known.clone() }, why(Status::ZeroId, 0, "started: the id 0")),
+        (first, &one, View { retired: vec![0], ..known.clone() }, why(Status::ZeroId, 0, "retired: the id 0")),
+        (one_at_a_time, &joint, known.clone(), why(Status::JointTarget, 0, "the target is joint")),
+    ] {
+        assert_eq!(refused(next(options, target, &view)), expected);
+    }
 }
 
 // The numbers are more than those of the first buffer.
@@ -317,7 +410,12 @@ fn refuses_stages() {
         (Options { down: &[0], ..Options::default() }, voters(&[1]), voters(&[2]), why(Status::ZeroId, 0, "the id 0")),
         (Options::default(), voters(&[7, 1, 7]), voters(&[2]), why(Status::RepeatedId, 7, "an id is named twice (id 7)")),
         (Options::default(), voters(&[1]), invalid, why(Status::LearnerAndVoter, 2, "a learner is a voter (id 2)")),
-        (Options { down: &[1, 9], ..Options::default() }, voters(&[1]), voters(&[2]), why(Status::DownNotAMember, 9, "down and not a member (id 9)")),
+        (
+            Options { down: &[1, 9], ..Options::default() },
+            voters(&[1]),
+            voters(&[2]),
+            why(Status::DownNotAMember, 9, "down and not a member (id 9)"),
+        ),
         (Options::default(), voters(&[]), voters(&[2]), why(Status::NoVoter, 1, "the configuration: no incoming voter")),
         (Options::default(), voters(&[1]), voters(&[]), why(Status::NoVoter, 2, "the target: no incoming voter")),
         (one_at_a_time, voters(&[1]), joint, why(Status::JointTarget, 0, "the target is joint")),

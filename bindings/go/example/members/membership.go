@@ -3,13 +3,10 @@ package main
 import (
 	"errors"
 	"fmt"
-	"log"
-	"math"
 	"time"
 
 	"confscript"
 
-	"go.etcd.io/etcd/raft"
 	pb "go.etcd.io/etcd/raft/raftpb"
 )
 
@@ -62,13 +59,16 @@ func (c *cluster) lead(target confscript.ConfState) error {
 // RawNode, which proposes at once, so that no change comes between the view and the proposal. A proposal may be dropped, lost,
 // or replaced by an empty entry: then the next view is as if it had not been made.
 func (c *cluster) next(target confscript.ConfState) (id uint64, now confscript.ConfState, action confscript.Action, err error) {
-	s, running := c.foremost(), c.ids()
+	s, started := c.foremost(), c.ids()
 	if s == nil {
 		return 0, now, nil, errors.New("no server runs")
 	}
 	s.do(func() {
-		view := s.view()
-		view.Running, view.Retired, now = running, c.retired, view.ConfState
+		var view confscript.View
+		if view, err = s.views.View(); err != nil {
+			return
+		}
+		view.Started, view.Retired, now = started, c.retired, view.ConfState
 		options := confscript.DriveOptions{Strategy: confscript.LearnersFirst, Down: c.down, MaxLag: maxLag}
 		if action, err = confscript.Next(options, target, view); err != nil {
 			return
@@ -101,48 +101,6 @@ func (c *cluster) foremost() *server {
 		})
 	}
 	return foremost
-}
-
-// view returns what the server knows of its cluster. If it does not lead, no leader is known.
-func (s *server) view() confscript.View {
-	status := s.node.Status()
-	state, err := confscript.ConfStateOf(&s.state)
-	if err != nil {
-		log.Fatal(err)
-	}
-	view := confscript.View{
-		ConfState: state, ConfIndex: s.known, Commit: status.Commit, PendingConfIndex: s.pending(),
-		Progress: map[uint64]confscript.Progress{},
-	}
-	if status.RaftState != raft.StateLeader {
-		return view
-	}
-	view.Lead = s.id
-	for id, progress := range status.Progress {
-		view.Progress[id] = confscript.Progress{Match: progress.Match, RecentActive: progress.RecentActive || id == s.id}
-	}
-	if last, _ := s.storage.LastIndex(); last < s.known {
-		s.node.Propose(nil) // an entry, by which the others get to know that the change is committed
-	}
-	return view
-}
-
-// pending returns the index of a change in the log that is not applied, or 0. Raft lets only one into a leader's log.
-func (s *server) pending() uint64 {
-	last, err := s.storage.LastIndex()
-	if err != nil || last == s.applied {
-		return 0
-	}
-	entries, err := s.storage.Entries(s.applied+1, last+1, math.MaxUint64)
-	if err != nil {
-		log.Fatal(err)
-	}
-	for _, entry := range entries {
-		if entry.Type != pb.EntryNormal {
-			return entry.Index
-		}
-	}
-	return 0
 }
 
 func describe(state confscript.ConfState) string {

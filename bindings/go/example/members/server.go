@@ -7,6 +7,8 @@ import (
 	"math"
 	"time"
 
+	"confscript"
+
 	"go.etcd.io/etcd/raft"
 	pb "go.etcd.io/etcd/raft/raftpb"
 )
@@ -24,9 +26,9 @@ type server struct {
 	quit    chan struct{}
 	done    chan struct{}
 
+	views   *confscript.Views
 	applied uint64       // the index of the last entry that it has applied
 	state   pb.ConfState // the configuration after that entry
-	known   uint64       // who has this index knows that configuration, while this server leads
 	lines   []string
 }
 
@@ -61,14 +63,15 @@ func startServer(id uint64, name string, send func(pb.Message) bool) (*server, e
 	if err != nil {
 		return nil, err
 	}
-	s.restore(snapshot)
-	s.node, err = raft.NewRawNode(&raft.Config{
-		ID: id, Storage: storage, Applied: s.applied, ElectionTick: 10, HeartbeatTick: 1, CheckQuorum: true, PreVote: true,
+	config := &raft.Config{
+		ID: id, Storage: storage, Applied: snapshot.Metadata.Index, ElectionTick: 10, HeartbeatTick: 1, CheckQuorum: true, PreVote: true,
 		MaxSizePerMsg: math.MaxUint64, MaxInflightMsgs: 256, Logger: &raft.DefaultLogger{Logger: log.New(io.Discard, "", 0)},
-	})
-	if err != nil {
+	}
+	if s.node, err = raft.NewRawNode(config); err != nil {
 		return nil, err
 	}
+	s.views = confscript.NewViews[raft.Status, pb.Entry](s.node, storage, config.ElectionTick)
+	s.restore(snapshot)
 	go s.run()
 	return s, nil
 }
@@ -88,12 +91,18 @@ func (s *server) run() {
 			return
 		case <-ticker.C:
 			s.node.Tick()
+			s.views.Ticked()
 		case message := <-s.inbox:
-			s.node.Step(message) // an error says that the message is out of date
+			s.receive(message)
 		case call := <-s.calls:
 			call()
 		}
 	}
+}
+
+func (s *server) receive(message pb.Message) {
+	s.node.Step(message) // an error says that the message is out of date
+	s.views.Heard(message.From)
 }
 
 // do runs a call on the server's goroutine, and reports whether it did: a server that has stopped runs none.
@@ -119,9 +128,6 @@ func (s *server) stop() error {
 // after ApplyConfChange: until then raft lets no further change through.
 func (s *server) handle(ready raft.Ready) {
 	s.save(ready)
-	if ready.SoftState != nil && ready.SoftState.RaftState == raft.StateLeader {
-		s.known, _ = s.storage.LastIndex() // that of its first entry
-	}
 	for _, message := range ready.Messages {
 		sent := s.send(message)
 		if !sent {
@@ -156,6 +162,7 @@ func (s *server) save(ready raft.Ready) {
 		return
 	}
 	s.keep(saved)
+	s.views.Saved()
 	if saved.Received != nil {
 		s.restore(ready.Snapshot)
 	}
@@ -173,7 +180,8 @@ func (s *server) keep(saved record) {
 
 // restore takes over what a snapshot has.
 func (s *server) restore(snapshot pb.Snapshot) {
-	s.applied, s.state, s.lines = snapshot.Metadata.Index, snapshot.Metadata.ConfState, nil
+	s.applied, s.lines = snapshot.Metadata.Index, nil
+	s.become(snapshot.Metadata.ConfState)
 	if len(snapshot.Data) > 0 {
 		if err := json.Unmarshal(snapshot.Data, &s.lines); err != nil {
 			log.Fatal(err)
@@ -196,12 +204,16 @@ func (s *server) apply(entry pb.Entry) {
 	if err := change.Unmarshal(entry.Data); err != nil {
 		log.Fatal(err)
 	}
-	s.state = *s.node.ApplyConfChange(change)
-	last, _ := s.storage.LastIndex()
-	s.known = last + 1 // an append says what is committed, so who has an entry that comes after this knows of the change
+	s.become(*s.node.ApplyConfChange(change))
 	data, err := json.Marshal(s.lines)
 	if err != nil {
 		log.Fatal(err)
 	}
 	s.keep(record{Taken: marshaled(&pb.Snapshot{Metadata: pb.SnapshotMetadata{Index: s.applied, Term: entry.Term, ConfState: s.state}, Data: data})})
+}
+
+// become takes over the configuration after the last entry that is applied.
+func (s *server) become(state pb.ConfState) {
+	s.state = state
+	s.views.Applied(s.applied, &state)
 }

@@ -86,9 +86,7 @@ func TestView(t *testing.T) {
 		return func() error {
 			for _, kind := range kinds {
 				last, _ := s.storage.LastIndex()
-				if err := s.node.Step(pb.Message{Type: kind, From: 2, To: 1, Term: 2, Index: last}); err != nil {
-					return err
-				}
+				s.receive(pb.Message{Type: kind, From: 2, To: 1, Term: 2, Index: last})
 				for s.node.HasReady() {
 					s.handle(s.node.Ready())
 				}
@@ -103,11 +101,11 @@ func TestView(t *testing.T) {
 		want  string // the configuration, its index, the leader, the commit index, that of a change that is pending, and the members
 	}{
 		{"it campaigns", s.node.Campaign, "voters=(1 2) 0 0 1 0 map[]"},
-		{"it is elected", answers(pb.MsgPreVoteResp, pb.MsgVoteResp), "voters=(1 2) 2 1 1 0 map[1:{2 true} 2:{0 false}]"},
+		{"it is elected", answers(pb.MsgPreVoteResp, pb.MsgVoteResp), "voters=(1 2) 2 1 1 0 map[1:{2 true} 2:{0 true}]"},
 		{"its first entry is committed", answers(pb.MsgAppResp), "voters=(1 2) 2 1 2 0 map[1:{2 true} 2:{2 true}]"},
 		{"it proposes a change", func() error { return s.node.ProposeConfChange(adding) }, "voters=(1 2) 2 1 2 3 map[1:{3 true} 2:{2 true}]"},
-		{"the change is committed", answers(pb.MsgAppResp), "voters=(1 2) learners=(3) 4 1 3 0 map[1:{3 true} 2:{3 true} 3:{0 true}]"},
-		{"an entry after it is", answers(pb.MsgAppResp), "voters=(1 2) learners=(3) 4 1 4 0 map[1:{4 true} 2:{4 true} 3:{0 true}]"},
+		{"the change is committed", answers(pb.MsgAppResp), "voters=(1 2) learners=(3) 4 1 3 0 map[1:{3 true} 2:{3 true} 3:{0 false}]"},
+		{"an entry after it is", answers(pb.MsgAppResp), "voters=(1 2) learners=(3) 4 1 4 0 map[1:{4 true} 2:{4 true} 3:{0 false}]"},
 	} {
 		if err := row.does(); err != nil {
 			t.Fatal(row.event, err)
@@ -115,7 +113,10 @@ func TestView(t *testing.T) {
 		for s.node.HasReady() {
 			s.handle(s.node.Ready())
 		}
-		view := s.view()
+		view, err := s.views.View()
+		if err != nil {
+			t.Fatal(row.event, err)
+		}
 		if found := fmt.Sprint(view.ConfState, " ", view.ConfIndex, view.Lead, view.Commit, view.PendingConfIndex, view.Progress); found != row.want {
 			t.Errorf("%s: %s, and not %s", row.event, found, row.want)
 		}
