@@ -43,6 +43,11 @@ class Report:
         fine = all(view.answers(member) and not view.is_cut_off(member) for member in view.members) and not self.alarms and view.leader() and self.takes_writes
         return 0 if fine else DEGRADED
 
+    def is_past(self):
+        """Whether another member leads by now: a read waits while one is elected, and who was up before that may be down."""
+        leader = self.view.leader()
+        return self.takes_writes and not (leader and self.view.answers(leader)) and self.cluster.look().leader() != leader
+
     def is_list_confirmed(self):
         """Whether a majority confirmed the list of members. Servers of 3.4 give what they have also where there is no leader."""
         return self.cluster.is_confirmed and self.view.leader() is not None
@@ -203,10 +208,15 @@ def show(cluster, form, limit):
     return show_stopped(stopped, form, cluster) if stopped else show_report(report, form)
 
 
+def report_of(cluster):
+    return Report(cluster, cluster.look_until_known(cluster.etcdctl.seconds(LOOKING)))
+
+
 def looked_at(cluster):
-    """The report of a look, or why there is none."""
+    """The report of a look, or why there is none. It looks once more if another member was elected meanwhile."""
     try:
-        return Report(cluster, cluster.look_until_known(cluster.etcdctl.seconds(LOOKING))), None
+        report = report_of(cluster)
+        return report_of(cluster) if report.is_past() else report, None
     except Stop as reason:
         return None, reason
 

@@ -8,6 +8,7 @@ from clusters import ENVIRONMENT
 from runs import TOP, built_program
 
 LOCAL = f"{TOP}/examples/etcd/local"
+ENDPOINTS = "http://127.0.0.1:11379,http://127.0.0.1:12379,http://127.0.0.1:13379"
 
 
 def commands(text):
@@ -16,8 +17,20 @@ def commands(text):
     return [" ".join(line.split()) for line in lines if line.startswith("  ")]
 
 
+def let_lead(name):
+    """Moves leadership to a server."""
+    etcdctl = ["etcdctl", f"--endpoints={ENDPOINTS}"]
+    environment = {**ENVIRONMENT, "ETCDCTL_API": "3"}
+    members = subprocess.run([*etcdctl, "member", "list"], env=environment, stdout=subprocess.PIPE, text=True, check=True).stdout
+    id = next(line.split(", ")[0] for line in members.splitlines() if line.split(", ")[2] == name)
+    status = subprocess.run([*etcdctl, "endpoint", "status"], env=environment, stdout=subprocess.PIPE, text=True, check=True).stdout
+    if not any(id in line and ", true, " in line for line in status.splitlines()):
+        subprocess.run([*etcdctl, "move-leader", id], env=environment, stdout=subprocess.DEVNULL, check=True)
+
+
 def cluster_to_try():
-    """A server is killed and replaced by the commands that are printed. At the end of input the servers end, and their data is gone."""
+    """A server is killed and replaced by the commands that are printed. It leads, so another one is elected while its status is
+    asked. At the end of input the servers end, and their data is gone."""
     with subprocess.Popen([LOCAL], env={**ENVIRONMENT, "LC_ALL": "C"}, stdin=subprocess.PIPE, stdout=subprocess.PIPE, stderr=subprocess.STDOUT, text=True) as it, \
             tempfile.TemporaryDirectory() as folder:
         shown = ""
@@ -27,6 +40,7 @@ def cluster_to_try():
                 raise Broken(f"it has ended:\n{shown}")
             shown += line
         kill, status, replace = commands(shown)
+        let_lead("n3")
         environment = {**ENVIRONMENT, "CONFSCRIPT": os.environ.get("CONFSCRIPT") or built_program(), "PATH": f"{TOP}:{os.environ['PATH']}"}
         for command, end in ((kill, ""), (status, "No further failure is tolerated."), (f"{replace} --yes", "done: the voters are n1, n2 and n4")):
             run = subprocess.run(["bash", "-c", command], cwd=folder, env=environment, stdin=subprocess.DEVNULL, stdout=subprocess.PIPE,
