@@ -180,7 +180,8 @@ static void texts(void) {
         "auto-leave without outgoing voters", "the counts do not match the length", "a vote is neither 0, 1 nor 2",
         "the voters are no quorum", "unknown strategy", "the target is joint", "unknown step", "unknown kind of change", "unknown output",
         "no form of a configuration: expected voters=(1 2 3) learners=(4), a ConfState line, or JSON of a ConfState or of etcdctl member list", "not a printed configuration: expected voters=(1 2)&&(1 2 3) learners=(4) learners_next=(3) autoleave, without what is empty, with spaces between ids", "not the JSON of a configuration: expected voters, voters_outgoing, learners, learners_next and auto_leave, or etcdctl member list -w json, with decimal numbers as ids", "not a list of changes: expected changes as r1 v4 l5, or a configuration as voters=(1 2 3), a ConfState line, or JSON",
-        "down and not a member", "by this strategy the cluster may stall", "unknown status"};
+        "down and not a member", "by this strategy the cluster may stall", "the target has auto-leave: raft leaves it by itself",
+        "there is a leader, and the index of the configuration is 0", "the leader is a member, and the view has no progress of it", "unknown status"};
     room = ROOM;
     for (code = 0; code < sizeof words / sizeof *words; code++)
         expect(words[code], status_text, CONFSCRIPT_STATUS_DONE, strlen(words[code]), words[code]);
@@ -837,13 +838,24 @@ static void refused_next(void) {
     NO_NEXT("next: counts of the view that wrap around", NEVER, CONFSCRIPT_STATUS_DIFFERENT_LENGTHS, 0);
     VIEW(5, 1, 9, 0, 0, 1, 0, 0, 1, 9, 2);
     NO_NEXT("next: no flag of a member", NEVER, CONFSCRIPT_STATUS_DIFFERENT_LENGTHS, 0);
+    VIEW(5, 1, 9, 0, 0, 1, 1, 1, 0, 9, 1, 0, 2);
+    NO_NEXT("next: the id 0 is a member", NEVER, CONFSCRIPT_STATUS_ZERO_ID, 0);
     VIEW(5, 1, 9, 0, 0, 1, 1, 1, 1, 9, 1, 0, 2);
     NO_NEXT("next: the id 0 runs", NEVER, CONFSCRIPT_STATUS_ZERO_ID, 0);
     VIEW(5, 1, 9, 0, 0, 1, 1, 1, 1, 9, 1, 2, 0);
     NO_NEXT("next: the id 0 is retired", NEVER, CONFSCRIPT_STATUS_ZERO_ID, 0);
-    VIEW(5, 1, 9, 0, 0, 1, 1, 0, 1, 9, 1, 1);
+    VIEW(0, 1, 9, 0, 0, 1, 1, 0, 1, 9, 1, 1);
     NO_NEXT("next: the shortest plan", ALWAYS, CONFSCRIPT_STATUS_STRATEGY_MAY_STALL, 0);
     strategy = CONFSCRIPT_STRATEGY_ONE_AT_A_TIME;
+    TARGET(1, 1, 1, 0, 0, 0, 2, 1);
+    NO_NEXT("next: raft leaves the target", ALWAYS, CONFSCRIPT_STATUS_AUTO_LEAVE_TARGET, 0);
+    TARGET(0, 0, 0, 0, 0, 0);
+    NO_NEXT("next: a leader without an index", ALWAYS, CONFSCRIPT_STATUS_NO_CONF_INDEX, 0);
+    GIVEN(0, 1, 0, 0, 0, 0, 1);
+    VIEW(5, 1, 9, 0, 0, 1, 1, 0, 2, 9, 1, 1);
+    NO_NEXT("next: a leader without its progress", ALWAYS, CONFSCRIPT_STATUS_NO_LEADER_PROGRESS, 0);
+    GIVEN(0, 0, 0, 1, 0, 0, 1);
+    VIEW(5, 1, 9, 0, 0, 1, 1, 0, 1, 9, 1, 1);
     NO_NEXT("next: the first has no voter", ALWAYS, CONFSCRIPT_STATUS_NO_VOTER, 1);
     GIVEN(0, 1, 0, 0, 0, 0, 1);
     NO_NEXT("next: the second has no voter", ALWAYS, CONFSCRIPT_STATUS_NO_VOTER, 2);

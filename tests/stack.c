@@ -31,6 +31,11 @@ static void check(void) { confscript_check(bytes(line), strlen(line)); }
 static void stages(void) {
     confscript_stages(configuration, CONFSCRIPT_PART_IDS + MANY, target, CONFSCRIPT_PART_IDS + MANY, strategy, ids, 3, numbers, 1 << 16);
 }
+/* A view of the MANY members, of which each was heard from, and with MANY servers that run. */
+static uint64_t view[CONFSCRIPT_VIEW_FIRST + 4 * MANY];
+static void next(void) {
+    confscript_next(configuration, CONFSCRIPT_PART_IDS + MANY, target, CONFSCRIPT_PART_IDS + MANY, strategy, ids, 3, view, CONFSCRIPT_VIEW_FIRST + 4 * MANY, numbers, 1 << 16);
+}
 static void restore(void) { confscript_restore(configuration, CONFSCRIPT_PART_IDS + MANY, numbers, 1 << 16); }
 static void step(void) {
     confscript_step(configuration, CONFSCRIPT_PART_IDS + MANY, CONFSCRIPT_STEP_IMPLICIT, changes, MANY, numbers, 1 << 16);
@@ -59,10 +64,10 @@ static size_t taken(void (*call)(void)) {
     return ROOM - unused;
 }
 
-/* The most that was taken of each of the three that the header states. */
-static size_t most[3];
-static const size_t stated[3] = {CONFSCRIPT_STACK, CONFSCRIPT_STACK_TEXT, CONFSCRIPT_STACK_NESTED};
-enum { NUMBERS, TEXT, NESTED };
+/* The most that was taken of each of the four that the header states. */
+enum { NUMBERS, NEXT, TEXT, NESTED, KINDS };
+static size_t most[KINDS];
+static const size_t stated[KINDS] = {CONFSCRIPT_STACK, CONFSCRIPT_STACK_NEXT, CONFSCRIPT_STACK_TEXT, CONFSCRIPT_STACK_NESTED};
 
 static void report(const char *name, void (*call)(void), int kind) {
     /* The thread itself takes some of it, and so does the first call of a function of another library. */
@@ -95,7 +100,12 @@ int main(void) {
         changes[i].kind = CONFSCRIPT_CHANGE_VOTER;
         changes[i].id = i + 501;
         ballots[i] = i % 3;
+        view[CONFSCRIPT_VIEW_FIRST + 3 * i] = view[CONFSCRIPT_VIEW_FIRST + 3 * MANY + i] = i + 1;
+        view[CONFSCRIPT_VIEW_FIRST + 3 * i + 1] = 9;
+        view[CONFSCRIPT_VIEW_FIRST + 3 * i + 2] = i >= 3;
     }
+    view[CONFSCRIPT_VIEW_CONF_INDEX] = 5, view[CONFSCRIPT_VIEW_LEAD] = 501, view[CONFSCRIPT_VIEW_COMMIT] = 9;
+    view[CONFSCRIPT_VIEW_MEMBERS] = view[CONFSCRIPT_VIEW_RUNNING] = MANY;
     for (strategy = 0; strategy < 3; strategy++) {
         for (output = 0; output < 3; output++) {
             first = line, second = "r1 r2 v2000 v2001 l2002";
@@ -106,6 +116,7 @@ int main(void) {
             report("plan of members", plan, TEXT);
         }
         report("stages", stages, NUMBERS);
+        report("next", next, NEXT);
     }
     /* JSON that is nested: deeper than it may be, and at each depth before that. */
     first = "voters=(1)", second = nested, strategy = output = 0;

@@ -11,8 +11,9 @@
  * docs/SPECIFICATION.md has both forms, and what each change does.
  *
  * A program that embeds the library passes numbers instead: an index or a vote of each voter, and a configuration as an
- * array (enum confscript_part). confscript_stages writes a plan as an array (enum confscript_stages_part). The other
- * calls with numbers allocate nothing while no list has more than eight items, or an id twice.
+ * array (enum confscript_part). confscript_stages writes a plan as an array (enum confscript_stages_part), and
+ * confscript_next an action (enum confscript_action_part); these two allocate. The other calls with numbers allocate
+ * nothing while no list has more than eight items, or an id twice.
  *
  * Each call but confscript_version and confscript_committed returns a status and a number. A call keeps no state: it
  * reads its arguments, and writes only to `out`. The caller must keep these rules, since no call checks them:
@@ -21,8 +22,9 @@
  * - `out` overlaps no other argument. While the call runs, nothing else uses `out`, and nothing changes what the other
  *   pointers point to. These may overlap each other.
  * - malloc, realloc and free belong to one allocator, which aligns a block as malloc of the C library does.
- * - The stack of the thread has room for the call: CONFSCRIPT_STACK bytes, or CONFSCRIPT_STACK_TEXT if it reads a text. JSON
- *   that is nested takes more, up to CONFSCRIPT_STACK_NESTED; deeper than 127 it is refused.
+ * - The stack of the thread has room for the call: CONFSCRIPT_STACK bytes, CONFSCRIPT_STACK_NEXT for confscript_next, or
+ *   CONFSCRIPT_STACK_TEXT if it reads a text. JSON that is nested takes more, up to CONFSCRIPT_STACK_NESTED; deeper than
+ *   127 it is refused.
  * - No call comes from a signal handler, or from the forked child of a process with threads. Otherwise any thread may
  *   call, also at the same time as others.
  * - The processor is an x86-64 of level v2, or an arm64, as the library was built for.
@@ -39,8 +41,12 @@
 #define CONFSCRIPT_VERSION_PATCH 0
 #define CONFSCRIPT_VERSION (CONFSCRIPT_VERSION_MAJOR * 10000 + CONFSCRIPT_VERSION_MINOR * 100 + CONFSCRIPT_VERSION_PATCH)
 
-/* How many bytes of its thread's stack a call takes at most: with numbers, with a text, and with JSON nested 127 deep. */
+/*
+ * How many bytes of its thread's stack a call takes at most: with numbers, confscript_next, with a text, and with JSON nested
+ * 127 deep.
+ */
 #define CONFSCRIPT_STACK 16384
+#define CONFSCRIPT_STACK_NEXT 40960
 #define CONFSCRIPT_STACK_TEXT 32768
 #define CONFSCRIPT_STACK_NESTED 81920
 
@@ -130,7 +136,13 @@ enum confscript_status {
        id. */
     CONFSCRIPT_STATUS_DOWN_NOT_A_MEMBER = 33,
     /* confscript_next: the strategy is CONFSCRIPT_STRATEGY_SHORTEST, by which new voters vote with empty logs. */
-    CONFSCRIPT_STATUS_STRATEGY_MAY_STALL = 34
+    CONFSCRIPT_STATUS_STRATEGY_MAY_STALL = 34,
+    /* confscript_next: the target has auto-leave, so raft leaves it by itself. */
+    CONFSCRIPT_STATUS_AUTO_LEAVE_TARGET = 35,
+    /* confscript_next: there is a leader, and the number CONFSCRIPT_VIEW_CONF_INDEX is 0. */
+    CONFSCRIPT_STATUS_NO_CONF_INDEX = 36,
+    /* confscript_next: the leader is a member of the configuration, and the view lists no member with its id. */
+    CONFSCRIPT_STATUS_NO_LEADER_PROGRESS = 37
 };
 
 /* How a plan goes from one configuration to another. */
@@ -239,9 +251,9 @@ enum confscript_stage_part {
  * from raft's Status, and a tool from what the members report.
  */
 enum confscript_view_part {
-    /* Who has this index knows that the configuration is in force. For a leader that applies a change: its last index
-       plus one; for one that begins to lead: its last index. If a match is what the member has applied: the index of
-       the change itself. */
+    /* Who has this index knows that the configuration is in force. With a leader it is not 0. For a leader that applies
+       a change: its last index plus one; for one that begins to lead: its last index. If a match is what the member has
+       applied: the index of the change itself. */
     CONFSCRIPT_VIEW_CONF_INDEX = 0,
     CONFSCRIPT_VIEW_LEAD = 1,               /* who leads, or 0 */
     CONFSCRIPT_VIEW_COMMIT = 2,             /* the leader's commit index */
@@ -437,9 +449,10 @@ struct confscript_answer confscript_stages(const uint64_t *configuration, size_t
  * `configuration` is the one that the leader has applied. The strategy is CONFSCRIPT_STRATEGY_LEARNERS_FIRST or
  * CONFSCRIPT_STRATEGY_ONE_AT_A_TIME; by the shortest plan new voters vote with empty logs. `down` has the ids that do
  * not come back: a member that is merely silent is not down. Unlike in confscript_stages, an id that is a member of
- * neither configuration is ignored. `view` is what else is known, as an enum confscript_view_part; if it lists a member
- * twice, its first match counts. The configurations are checked as by confscript_stages. The number is how many numbers
- * are written.
+ * neither configuration is ignored; but if it leads, or is a member that was heard from, the action is to wait until it
+ * is not named as down any more. `view` is what else is known, as an enum confscript_view_part; if it lists a member
+ * twice, its first match counts, and a leader that is a member is listed. The configurations are checked as by
+ * confscript_stages, and the target has no auto-leave. The number is how many numbers are written.
  */
 struct confscript_answer confscript_next(const uint64_t *configuration, size_t configuration_len, const uint64_t *target,
                                          size_t target_len, uint32_t strategy, const uint64_t *down, size_t down_len,

@@ -115,7 +115,7 @@ var statuses = []Status{
 	ErrNoMemory, ErrBadConfState, ErrRepeatedID, ErrNotAConfiguration, ErrNoVoter, ErrBadLine, ErrNotAMember, ErrAlreadyJoint, ErrZeroVoterJoint, ErrNotJoint,
 	ErrSimpleInJoint, ErrRemovedAllVoters, ErrMoreThanOneVoter, ErrZeroID, ErrNextNotOutgoing, ErrNextAndIncoming, ErrLearnerAndVoter, ErrAddedAgain,
 	ErrNotJointButAutoLeave, ErrDifferentLengths, ErrBadVote, ErrNoQuorum, ErrBadStrategy, ErrJointTarget, ErrBadStep, ErrBadChange, ErrBadOutput,
-	ErrUnknownForm, ErrBadPrinted, ErrBadJSON, ErrBadChangeList, ErrDownNotAMember, ErrStrategyMayStall,
+	ErrUnknownForm, ErrBadPrinted, ErrBadJSON, ErrBadChangeList, ErrDownNotAMember, ErrStrategyMayStall, ErrAutoLeaveTarget, ErrNoConfIndex, ErrNoLeaderProgress,
 }
 
 // TestStatuses looks at each number from that of ErrNoMemory on: it has a name here if the library has a text for it.

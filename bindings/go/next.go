@@ -223,7 +223,7 @@ func waitFor(reason WaitReason, ids []uint64, options DriveOptions, view View) W
 	case WaitPending:
 		wait.Needed = view.PendingConfIndex
 	case WaitBehind:
-		wait.Needed = view.ConfIndex
+		wait.Needed = view.known()
 		if view.Commit > options.MaxLag && view.Commit-options.MaxLag > wait.Needed {
 			wait.Needed = view.Commit - options.MaxLag
 		}
@@ -234,6 +234,19 @@ func waitFor(reason WaitReason, ids []uint64, options DriveOptions, view View) W
 		wait.Matched = append(wait.Matched, view.Progress[id].Match)
 	}
 	return wait
+}
+
+// known returns which index a member has to have to know the configuration, as far as this leader can tell: one that does not
+// vote may not add the entry after a change.
+func (view View) known() uint64 {
+	for _, list := range [][]uint64{view.ConfState.Voters, view.ConfState.VotersOutgoing} {
+		for _, id := range list {
+			if id == view.Lead {
+				return view.ConfIndex
+			}
+		}
+	}
+	return view.ConfIndex - 1
 }
 
 func (start Start) String() string { return "start " + listed(start.IDs) }

@@ -66,6 +66,16 @@ func TestNext(t *testing.T) {
 		{first, target, plain, "propose simple l4"},
 		{first, target, at(joint, 1, map[uint64]int{1: 9, 2: 9, 3: 4, 4: 9}, 1, 2, 3, 4), "propose leave-joint"},
 		{down(9), three, at(three, 1, map[uint64]int{1: 9, 2: 9, 3: 9}, 1, 2, 3), "done"},
+		// A removed leader cannot add the entry after its removal, which others know by the one before.
+		{first, three, with(at(three, 4, map[uint64]int{1: 9, 2: 9, 3: 9}, 1, 2, 3, 4), func(view *View) { view.ConfIndex = 10 }), "transfer leadership to 1"},
+		{first, three, with(at(three, 4, map[uint64]int{1: 9, 2: 10, 3: -9}, 1, 2, 3, 4), func(view *View) { view.ConfIndex = 12 }), "not heard from 3"},
+		{down(3), three, with(at(three, 4, map[uint64]int{1: 9, 2: 10}, 1, 2, 3, 4), func(view *View) { view.ConfIndex = 12 }), "1 has not caught up: 9 of 11, 2 has not caught up: 10 of 11"},
+		// Who is silent or was stopped for good neither votes nor starts again.
+		{first, ConfState{Voters: ids(1, 2, 3)}, at(ConfState{Voters: ids(1, 2), Learners: ids(3)}, 1, map[uint64]int{1: 9, 2: 9, 3: -9}, 1, 2, 3), "not heard from 3"},
+		{first, ConfState{Voters: ids(1, 2)}, with(at(ConfState{Voters: ids(1, 2), Learners: ids(3)}, 1, map[uint64]int{1: 9, 2: 9, 3: -9}, 1, 2), func(view *View) { view.Retired = ids(3) }), "propose simple r3"},
+		// No server stops while a newer leader may have it, or a member does not know that it is removed.
+		{first, three, at(three, 1, map[uint64]int{1: 9, 2: -9, 3: -9}, 1, 2, 3, 4), "not heard from 2 3"},
+		{first, ConfState{Voters: ids(2, 3), Learners: ids(1)}, at(ConfState{Voters: ids(2, 3), Learners: ids(1)}, 2, map[uint64]int{1: 4, 2: 9, 3: 9}, 1, 2, 3, 4), "1 has not caught up: 4 of 9"},
 	} {
 		action, err := Next(row.options, row.target, row.view)
 		if err != nil || action.String() != row.want {
@@ -137,6 +147,10 @@ func TestNextIsRefused(t *testing.T) {
 		{first, ConfState{Voters: ids(0)}, view, ErrZeroID, "the target: "},
 		{first, state, with(view, func(view *View) { view.Started = ids(1, 0) }), ErrZeroID, "started: "},
 		{first, state, with(view, func(view *View) { view.Retired = ids(0) }), ErrZeroID, "retired: "},
+		{first, state, with(view, func(view *View) { view.Progress = map[uint64]Progress{0: {}, 1: {Match: 9}} }), ErrZeroID, "the progress: "},
+		{first, state, with(view, func(view *View) { view.ConfIndex = 0 }), ErrNoConfIndex, ""},
+		{first, state, with(view, func(view *View) { view.Progress = nil }), ErrNoLeaderProgress, ""},
+		{first, ConfState{Voters: ids(1), VotersOutgoing: ids(2), AutoLeave: true}, view, ErrAutoLeaveTarget, ""},
 		{DriveOptions{Strategy: OneAtATime}, ConfState{Voters: ids(1), VotersOutgoing: ids(2)}, view, ErrJointTarget, ""},
 	} {
 		action, err := Next(row.options, row.target, row.view)

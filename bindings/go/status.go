@@ -49,6 +49,9 @@ const (
 	ErrBadChangeList        Status = C.CONFSCRIPT_STATUS_BAD_CHANGE_LIST
 	ErrDownNotAMember       Status = C.CONFSCRIPT_STATUS_DOWN_NOT_A_MEMBER
 	ErrStrategyMayStall     Status = C.CONFSCRIPT_STATUS_STRATEGY_MAY_STALL
+	ErrAutoLeaveTarget      Status = C.CONFSCRIPT_STATUS_AUTO_LEAVE_TARGET
+	ErrNoConfIndex          Status = C.CONFSCRIPT_STATUS_NO_CONF_INDEX
+	ErrNoLeaderProgress     Status = C.CONFSCRIPT_STATUS_NO_LEADER_PROGRESS
 )
 
 // Error returns what the status means, in words.

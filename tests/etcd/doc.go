@@ -11,7 +11,8 @@
 //   - what etcd's own quick checks ask of confchange is asked of confscript (quick_test.go),
 //   - rules that etcd's raft leaves to a program are broken, one by one, until two members have applied different entries
 //     (schedules_test.go),
-//   - a model of what to do next (next.go) leads a store from target to target under faults (store.go),
+//   - a model of what to do next (next.go) answers as confscript.Next, which leads a store from target to target under faults
+//     (store.go),
 //   - random runs keep these rules from outside, and are held against the invariants that then hold (trial.go, observer.go).
 //
 // All that is left to chance comes from seeds, etcd's election timeouts too (election_timeouts.go). No test looks at the

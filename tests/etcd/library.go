@@ -45,38 +45,6 @@ func fromLibrary(action library.Action) answer {
 	}
 }
 
-// toLibrary returns an answer as the library gives it, with a stage that is to be proposed.
-func toLibrary(a answer, stages []library.Stage) library.Action {
-	switch a.Action {
-	case "start":
-		return library.Start{IDs: a.IDs}
-	case "stop":
-		return library.Stop{IDs: a.IDs}
-	case "transfer":
-		return library.Transfer{To: a.IDs[0]}
-	case "propose":
-		return library.Propose{Stage: stages[0]}
-	case "wait":
-		wait := library.Wait{IDs: a.IDs, Matched: make([]uint64, len(a.IDs))}
-		for reason, name := range waitReasons {
-			if name == a.Why {
-				wait.Reason = reason
-			}
-		}
-		return wait
-	case "stuck":
-		stuck := library.Stuck{IDs: a.IDs}
-		for reason, name := range stuckReasons {
-			if name == a.Why {
-				stuck.Reason = reason
-			}
-		}
-		return stuck
-	default:
-		return library.Done{}
-	}
-}
-
 var (
 	strategyNames = map[string]library.Strategy{"learners-first": library.LearnersFirst, "one-at-a-time": library.OneAtATime}
 	waitReasons   = map[library.WaitReason]string{

@@ -207,7 +207,7 @@ var rows = []row{
 	func(s *situation) *answer {
 		return ifAny("start", "", without(both(union(s.membersAfter, s.members), members(s.Target)), s.voters, s.Down, s.Running))
 	},
-	// 10. Who is no member, now or at the target, runs; each member knows the configuration, and a quorum is heard from.
+	// 10. Ids that are not members, now or at the target, run; each member knows the configuration, and a quorum is heard from.
 	func(s *situation) *answer {
 		if len(s.lacking(s.ConfIndex, without(s.members, s.Down))) > 0 || tolerance(s.ConfState, without(both(s.voters, s.heard), s.Down)) < 0 {
 			return nil

@@ -54,6 +54,7 @@ func TestCases(t *testing.T) {
 			if s.isRefused() != (row.want == "") {
 				t.Fatalf("it is refused: %v", s.isRefused())
 			}
+			compareWithLibrary(t, s)
 			if row.want == "" {
 				return
 			}

@@ -151,7 +151,7 @@ func brokenPromise(t *testing.T, planner *planner, s *situation, rows []row) str
 		case len(both(a.IDs, union(s.voters, s.Running, s.Down, s.Retired))) > 0:
 			return "an id starts that may not"
 		case len(without(a.IDs, members(s.Target))) > 0 || len(without(a.IDs, s.members, s.membersAfter)) > 0:
-			return "an id starts that is no member, or does not stay one"
+			return "an id starts that is not a member, or does not stay one"
 		case again(func(v *view) { v.Running = union(v.Running, a.IDs) }).Action == "start":
 			return "it starts twice"
 		}

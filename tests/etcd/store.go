@@ -259,19 +259,18 @@ func (d *store) expectDone(leader *replica) {
 	d.isDone = true
 }
 
-// next returns what to do next as the table of next.go says, and demands that the library answers by its own.
+// next returns what to do next as the library says, and demands that the table of next.go says so too.
 func (d *store) next(options library.DriveOptions, target library.ConfState, v library.View) (library.Action, error) {
-	ids := union(members(toRaft(v.ConfState)), members(toRaft(target)))
-	stages, stalls, err := library.Stages(library.Options{Strategy: options.Strategy, Down: both(options.Down, ids)}, v.ConfState, target)
+	lines, stalls, err := pathOf(options.Strategy, toRaft(v.ConfState), toRaft(target), options.Down)
 	if err != nil {
 		return nil, err
 	}
-	s := newSituation(viewOf(v), task{Target: toRaft(target), Down: options.Down, MaxLag: options.MaxLag}, toLines(stages), stalls)
-	action, err := library.Next(options, target, v)
-	if wanted, row := s.ofLibrary(); err != nil || !isSameAnswer(fromLibrary(action), wanted) {
-		return nil, fmt.Errorf("row %d says %v, the library %v, %v, to %+v", row, wanted, action, err, s)
-	}
-	found, row := answerTo(s, rows)
+	s := newSituation(viewOf(v), task{Target: toRaft(target), Down: options.Down, MaxLag: options.MaxLag}, lines, stalls)
+	wanted, row := answerTo(s, rows)
 	d.seen[fmt.Sprint("row ", row)]++
-	return toLibrary(found, stages), nil
+	action, err := library.Next(options, target, v)
+	if err == nil && !isSameAnswer(fromLibrary(action), wanted) {
+		err = fmt.Errorf("row %d says %v, the library %v, to %+v", row, wanted, action, s)
+	}
+	return action, err
 }

@@ -17,8 +17,8 @@ var kindsOfStores = []string{
 	"a death", "all crash", "two parts", "one is cut off", "one is not heard", "a snapshot", "a log is cut", "a log is cut while joint", "a read", "no view",
 }
 
-// TestStore leads stores to 12 targets each, 300 in all or as many as the environment variable PLANS says, as the table says.
-// Every plan arrives, but for what ETCD names.
+// TestStore leads stores to 12 targets each, 300 in all or as many as the environment variable PLANS says, as the library
+// says. Every plan arrives, but for what ETCD names.
 func TestStore(t *testing.T) {
 	count := 300
 	if given, err := strconv.Atoi(os.Getenv("PLANS")); err == nil {

@@ -83,6 +83,9 @@ class Status(IntEnum):
     BAD_CHANGE_LIST = 32
     DOWN_NOT_A_MEMBER = 33
     STRATEGY_MAY_STALL = 34
+    AUTO_LEAVE_TARGET = 35
+    NO_CONF_INDEX = 36
+    NO_LEADER_PROGRESS = 37
 
 
 _TEXTS = {
@@ -653,7 +656,9 @@ def _part_of(refused: Refused, target: Configuration, view: View, down: Iterable
 
 def _wait(reason: WaitReason, ids: Tuple[int, ...], view: View, max_lag: int) -> Wait:
     """A wait, with the index that it waits for."""
-    index = {WaitReason.PENDING: view.pending_conf_index, WaitReason.BEHIND: max(view.conf_index, view.commit - max_lag)}.get(reason)
+    # A leader that does not vote may not add the entry after a change.
+    known = view.conf_index - (view.lead not in (*view.conf_state.voters, *view.conf_state.voters_outgoing))
+    index = {WaitReason.PENDING: view.pending_conf_index, WaitReason.BEHIND: max(known, view.commit - max_lag)}.get(reason)
     if index is None:
         return Wait(reason, ids)
     return Wait(reason, ids, index, tuple(view.progress.get(id, MemberView()).match for id in ids))

@@ -175,6 +175,7 @@ class Calls(unittest.TestCase):
             (view(three), target, {}, "propose simple l4"),
             (view(joint), target, {}, "propose leave-joint"),
             (view(three, started=(1, 2, 3)), three, {"down": [9]}, "done"),
+            (view(three, 4, indexes=(9, 9, 9))._replace(conf_index=11), three, {}, "1 has not caught up: 9 of 10, 2 has not caught up: 9 of 10, 3 has not caught up: 9 of 10"),
         ]:
             self.assertEqual(str(confscript.next_action(to, known, Strategy.LEARNERS_FIRST, **options)), text)
         wait = confscript.next_action(target, view(learning, indexes=(9, 9, 9, 2)), Strategy.ONE_AT_A_TIME)
@@ -190,11 +191,20 @@ class Calls(unittest.TestCase):
             (target, view(three), Strategy.LEARNERS_FIRST, iter([2, 2, 0]), "ZERO_ID", 0, "down: the id 0"),
             (target, view(three, started=iter([1, 0])), Strategy.LEARNERS_FIRST, (), "ZERO_ID", 0, "started: the id 0"),
             (target, view(three, retired=[0]), Strategy.LEARNERS_FIRST, (), "ZERO_ID", 0, "retired: the id 0"),
+            (target, view(three)._replace(progress={0: MemberView(), 1: MemberView(9, True)}), Strategy.LEARNERS_FIRST, (), "ZERO_ID", 0, "the progress: the id 0"),
             (joint, view(three), Strategy.ONE_AT_A_TIME, (), "JOINT_TARGET", 0, "the target is joint"),
         ]:
             with self.assertRaises(confscript.Refused) as raised:
                 confscript.next_action(to, known, strategy, down=down)
             self.assertEqual((raised.exception.status.name, raised.exception.number, str(raised.exception)), (status, number, text))
+        for to, known, status in [
+            (target, view(three)._replace(conf_index=0), "NO_CONF_INDEX"),
+            (target, view(three)._replace(progress={2: MemberView(9, True)}), "NO_LEADER_PROGRESS"),
+            (leaving, view(three), "AUTO_LEAVE_TARGET"),
+        ]:
+            with self.assertRaises(confscript.Refused) as raised:
+                confscript.next_action(to, known, Strategy.LEARNERS_FIRST)
+            self.assertEqual(raised.exception.status.name, status)
         with self.assertRaises(OverflowError):
             confscript.next_action(target, view(three, -1), Strategy.LEARNERS_FIRST)
 

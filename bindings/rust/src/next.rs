@@ -188,6 +188,13 @@ impl View {
         numbers
     }
 
+    // Which index a member has to have to know the configuration, as far as this leader can tell: one that does not vote may not
+    // add the entry after a change.
+    fn known(&self) -> u64 {
+        let votes = self.conf_state.voters.contains(&self.lead) || self.conf_state.voters_outgoing.contains(&self.lead);
+        self.conf_index - u64::from(!votes)
+    }
+
     // An id that is waited for until it has this index.
     fn waited(&self, id: u64, needed: u64) -> Waited {
         let matched = self.progress.iter().find(|member| member.id == id).map_or(0, |member| member.matched);
@@ -208,7 +215,7 @@ impl Action {
                 let why = WAIT_REASONS[reason as usize - 1];
                 let needed = match why {
                     WaitReason::Pending => view.pending_conf_index,
-                    WaitReason::Behind => view.conf_index.max(view.commit.saturating_sub(options.max_lag)),
+                    WaitReason::Behind => view.known().max(view.commit.saturating_sub(options.max_lag)),
                     _ => 0,
                 };
                 Action::Wait(why, rest.iter().map(|id| view.waited(*id, needed)).collect())

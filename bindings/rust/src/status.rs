@@ -75,10 +75,16 @@ pub enum Status {
     DownNotAMember = 33,
     /// By the strategy a new voter votes with an empty log, so that the cluster may stall.
     StrategyMayStall = 34,
+    /// The target has auto-leave, so raft leaves it by itself.
+    AutoLeaveTarget = 35,
+    /// There is a leader, and `conf_index` is 0.
+    NoConfIndex = 36,
+    /// The leader is a member, and `progress` does not list it.
+    NoLeaderProgress = 37,
 }
 
 impl Status {
-    const ALL: [Status; 33] = [
+    const ALL: [Status; 36] = [
         Status::NoMemory,
         Status::BadConfState,
         Status::RepeatedId,
@@ -112,6 +118,9 @@ impl Status {
         Status::BadChangeList,
         Status::DownNotAMember,
         Status::StrategyMayStall,
+        Status::AutoLeaveTarget,
+        Status::NoConfIndex,
+        Status::NoLeaderProgress,
     ];
 
     /// The status with this number in `confscript.h`.

@@ -346,6 +346,12 @@ fn next_actions() {
         (view(three.clone(), 1, &all, &[], &four), &target, &[], "propose simple l4"),
         (view(joint.clone(), 1, &all, &[], &four), &target, &[], "propose leave-joint"),
         (view(three.clone(), 1, &all, &[], &four[..3]), &three, &[9], "done"),
+        (
+            View { conf_index: 12, ..view(three.clone(), 4, &[9, 9, 9], &[], &four) },
+            &three,
+            &[],
+            "1 has not caught up: 9 of 11, 2 has not caught up: 9 of 11, 3 has not caught up: 9 of 11",
+        ),
     ] {
         let options = DriveOptions { strategy: Strategy::LearnersFirst, down, max_lag: 3 };
         assert_eq!(next(options, to, &known).unwrap().to_string(), text);
@@ -387,9 +393,23 @@ fn refuses_next() {
         (DriveOptions { down: &[2, 2, 0], ..first }, &one, known.clone(), why(Status::ZeroId, 0, "down: the id 0")),
         (first, &one, View { started: vec![1, 0], ..known.clone() }, why(Status::ZeroId, 0, "started: the id 0")),
         (first, &one, View { retired: vec![0], ..known.clone() }, why(Status::ZeroId, 0, "retired: the id 0")),
+        (
+            first,
+            &one,
+            View { progress: vec![known.progress[0], MemberView::default()], ..known.clone() },
+            why(Status::ZeroId, 0, "the progress: the id 0"),
+        ),
         (one_at_a_time, &joint, known.clone(), why(Status::JointTarget, 0, "the target is joint")),
     ] {
         assert_eq!(refused(next(options, target, &view)), expected);
+    }
+    let leaving = Configuration { auto_leave: true, ..joint.clone() };
+    for (target, view, status) in [
+        (&one, View { conf_index: 0, ..known.clone() }, Status::NoConfIndex),
+        (&one, View { progress: vec![], ..known.clone() }, Status::NoLeaderProgress),
+        (&leaving, known.clone(), Status::AutoLeaveTarget),
+    ] {
+        assert_eq!(next(first, target, &view).unwrap_err().status(), status);
     }
 }
 

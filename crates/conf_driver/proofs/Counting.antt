@@ -8,9 +8,10 @@ use Rattle.quorum_sets.specs.Voters.{Voters, is_quorum}
 use Rattle.quorum_sets.proofs.Offered.{count_by-none, has-ascending, has-union, is_quorum-without}
 use Rattle.conf_change.specs.Configuration.{Configuration, is_joint, voters_of}
 use Rattle.conf_plan.specs.OnTheWay.{IsAsTolerant}
-use Rattle.conf_driver.specs.IdSets.{◌∖◌}
-use Rattle.conf_driver.specs.Situation.{is_less, tolerance, voter_ids}
-use Rattle.conf_driver.proofs.IdsByMember.{has-without, in-without, up-unless_down}
+use Rattle.conf_driver.specs.IdSets.{◌∩◌, ◌∖◌}
+use Rattle.conf_driver.specs.Situation.{is_less, tolerance}
+use Rattle.conf_driver.specs.View.{voter_ids}
+use Rattle.conf_driver.proofs.IdsByMember.{has-common, has-without, in-without, up-unless_down}
 
 -- ---- what is said of counting
 abbrev pub Fits : Type 0
@@ -112,3 +113,9 @@ quorum-grows fits commits fewer c down up none quorum =
       | inl is_down ↦ is_down
       | inr not_down ↦ absurd (both_ways _ (in-without (voter_ids c) up id here).1 (up-unless_down (voter_ids c) down up id none (has-union c.incoming c.outgoing id ∙ voter) not_down))
     ]) (Tolerates-from_commits fits commits (voters_of c) down (sym (is_quorum-not_down c down) ∙ quorum)))
+
+-- a quorum is one by its voters alone
+pub is_quorum-of_voters : (c : Configuration) (up : Ids) → is_quorum (voters_of c) (voter_ids c ∩ up) ≡ is_quorum (voters_of c) up
+is_quorum-of_voters c up =
+    is_quorum-without (voters_of c) (voter_ids c ∖ up) (voter_ids c ∩ up) (λ q voter. grind (arith, voter, has-without (voter_ids c) up q, has-common (voter_ids c) up q, has-union c.incoming c.outgoing q))
+    ∙ sym (is_quorum-up c up)

@@ -1,11 +1,13 @@
 -- Which row answers.
 use Rattle.std.proofs.Common.{◌≡◌, ℕ, Bool, true, false, ◌||◌, List, [], ◌∷◌, map, refl, sym, ap, ◌∙◌, arith}
 use Rattle.std.specs.Prelude.{Option, Some, None, IfSome, nat_eq, option_map, unwrap_or, if◌then◌else◌}
-use Rattle.quorum_sets.specs.Ids.{Ids}
+use Rattle.quorum_sets.specs.Ids.{Ids, has, is_empty}
+use Rattle.conf_change.specs.Configuration.{member_ids}
 use Rattle.conf_change.specs.declared.step.Step.{Step}
+use Rattle.conf_driver.specs.IdSets.{◌∪◌, ◌∩◌, ◌∖◌, least_of, or_second}
 use Rattle.conf_driver.specs.Next.{answer_in, propose_first}
 use Rattle.conf_driver.specs.Rows as row
-use Rattle.conf_driver.specs.Rows.{done_or_wait, first_of, wait_for}
+use Rattle.conf_driver.specs.Rows.{done_or_wait, first_of, if_any, wait_for}
 use Rattle.conf_driver.specs.declared.action.Action.{Action}
 use Rattle.conf_driver.specs.declared.action.Action.TheVariants.{Start, Stop, Transfer, Propose, Wait, Stuck, Done}
 use Rattle.conf_driver.specs.declared.situation.Situation.{Situation}
@@ -28,9 +30,16 @@ by-if : (may : ℕ → Bool) (holds : Bool) (one other : Option Action) → Answ
 by-if may true one other of_one of_other = of_one
 by-if may false one other of_one of_other = of_other
 
+by-if_any : (may : ℕ → Bool) (ids : Ids) (answer : Ids → Action) → may (kind (answer ids)) ≡ true → AnswersBy may (if_any ids answer)
+by-if_any may ids answer is = by-if may (is_empty ids) None (Some (answer ids)) tt is
+
 by-transfer : (id : Option ℕ) → AnswersBy (nat_eq 2) (option_map Transfer id)
 by-transfer None = tt
 by-transfer (Some id) = refl
+
+by-transfer_or_wait : (to : Option ℕ) (other : Action) → kind other ≡ 4 → AnswersBy (λ k. nat_eq 2 k || nat_eq 4 k) (Some (unwrap_or (option_map Transfer to) other))
+by-transfer_or_wait None other waits = ap (λ k. nat_eq 2 k || nat_eq 4 k) waits
+by-transfer_or_wait (Some id) other waits = refl
 
 pub kind-wait_for : (s : Situation) (ids : Ids) → kind (wait_for s ids) ≡ 4
 kind-wait_for s ids = grind arith
@@ -47,10 +56,11 @@ Row = Option Action × (ℕ → Bool)
 
 abbrev rows : Situation → List Row
 rows s =
-    (row.quorum_lost s, nat_eq 5) ∷ (row.down_is_heard s, nat_eq 4) ∷ (row.no_leader s, nat_eq 4) ∷ (row.outgoing_leads s, nat_eq 2) ∷ (row.is_pending s, nat_eq 4)
+    (row.quorum_lost s, nat_eq 5) ∷ (row.down_is_heard s, nat_eq 4) ∷ (row.no_leader s, nat_eq 4)
+    ∷ (row.nonvoter_leads s, λ k. nat_eq 2 k || nat_eq 4 k) ∷ (row.leader_is_dropped s, nat_eq 2) ∷ (row.is_pending s, nat_eq 4)
     ∷ (row.path_stalls s, nat_eq 5) ∷ (row.id_is_reused s, nat_eq 5) ∷ (row.not_started s, nat_eq 0) ∷ (row.not_stopped s, nat_eq 1) ∷ (row.is_leaving s, nat_eq 4)
-    ∷ (row.leader_leaves s, nat_eq 2) ∷ (row.successor_lags s, nat_eq 4) ∷ (row.at_target s, λ k. nat_eq 4 k || nat_eq 6 k) ∷ (row.voter_is_behind s, nat_eq 4)
-    ∷ (row.no_quorum_is_up s, nat_eq 4) ∷ (row.voter_is_silent s, nat_eq 4) ∷ []
+    ∷ (row.leader_leaves s, nat_eq 2) ∷ (row.successor_lags s, nat_eq 4) ∷ (row.at_target s, λ k. nat_eq 4 k || nat_eq 6 k) ∷ (row.new_voter_lags s, nat_eq 4)
+    ∷ (row.voter_is_behind s, nat_eq 4) ∷ (row.no_quorum_is_up s, nat_eq 4) ∷ (row.voter_is_silent s, nat_eq 4) ∷ []
 
 abbrev HaveKinds : List Row → Type 0
 HaveKinds [] = Unit {0}
@@ -65,8 +75,13 @@ kind-down_is_heard s = grind (arith, kind-wait_for s, kind-done_or_wait s, by-tr
 kind-no_leader : (s : Situation) → AnswersBy (nat_eq 4) (row.no_leader s)
 kind-no_leader s = grind (arith, kind-wait_for s, kind-done_or_wait s, by-transfer)
 
-kind-outgoing_leads : (s : Situation) → AnswersBy (nat_eq 2) (row.outgoing_leads s)
-kind-outgoing_leads s = grind (arith, kind-wait_for s, kind-done_or_wait s, by-transfer)
+kind-nonvoter_leads : (s : Situation) → AnswersBy (λ k. nat_eq 2 k || nat_eq 4 k) (row.nonvoter_leads s)
+kind-nonvoter_leads s =
+    by-if (λ k. nat_eq 2 k || nat_eq 4 k) (has s.voters s.lead) None _ tt
+    (by-transfer_or_wait (or_second (least_of (s.before.incoming ∩ s.up ∩ s.target.incoming)) (least_of (s.before.incoming ∩ s.up))) (wait_for s (s.before.incoming ∖ s.down)) (kind-wait_for s (s.before.incoming ∖ s.down)))
+
+kind-leader_is_dropped : (s : Situation) → AnswersBy (nat_eq 2) (row.leader_is_dropped s)
+kind-leader_is_dropped s = grind (arith, kind-wait_for s, kind-done_or_wait s, by-transfer)
 
 kind-is_pending : (s : Situation) → AnswersBy (nat_eq 4) (row.is_pending s)
 kind-is_pending s = grind (arith, kind-wait_for s, kind-done_or_wait s, by-transfer)
@@ -78,7 +93,7 @@ kind-id_is_reused : (s : Situation) → AnswersBy (nat_eq 5) (row.id_is_reused s
 kind-id_is_reused s = grind (arith, kind-wait_for s, kind-done_or_wait s, by-transfer)
 
 kind-not_started : (s : Situation) → AnswersBy (nat_eq 0) (row.not_started s)
-kind-not_started s = grind (arith, kind-wait_for s, kind-done_or_wait s, by-transfer)
+kind-not_started s = by-if_any (nat_eq 0) ((member_ids s.after ∪ s.members) ∩ member_ids s.target ∖ s.voters ∖ s.down ∖ s.running) Start refl
 
 kind-not_stopped : (s : Situation) → AnswersBy (nat_eq 1) (row.not_stopped s)
 kind-not_stopped s = grind (arith, kind-wait_for s, kind-done_or_wait s, by-transfer)
@@ -95,6 +110,9 @@ kind-successor_lags s = grind (arith, kind-wait_for s, kind-done_or_wait s, by-t
 kind-at_target : (s : Situation) → AnswersBy (λ k. nat_eq 4 k || nat_eq 6 k) (row.at_target s)
 kind-at_target s = grind (arith, kind-wait_for s, kind-done_or_wait s, by-transfer)
 
+kind-new_voter_lags : (s : Situation) → AnswersBy (nat_eq 4) (row.new_voter_lags s)
+kind-new_voter_lags s = grind (arith, kind-wait_for s, kind-done_or_wait s, by-transfer)
+
 kind-voter_is_behind : (s : Situation) → AnswersBy (nat_eq 4) (row.voter_is_behind s)
 kind-voter_is_behind s = grind (arith, kind-wait_for s, kind-done_or_wait s, by-transfer)
 
@@ -105,7 +123,7 @@ kind-voter_is_silent : (s : Situation) → AnswersBy (nat_eq 4) (row.voter_is_si
 kind-voter_is_silent s = grind (arith, kind-wait_for s, kind-done_or_wait s, by-transfer)
 
 rows-have_kinds : (s : Situation) → HaveKinds (rows s)
-rows-have_kinds s = (kind-quorum_lost s, (kind-down_is_heard s, (kind-no_leader s, (kind-outgoing_leads s, (kind-is_pending s, (kind-path_stalls s, (kind-id_is_reused s, (kind-not_started s, (kind-not_stopped s, (kind-is_leaving s, (kind-leader_leaves s, (kind-successor_lags s, (kind-at_target s, (kind-voter_is_behind s, (kind-no_quorum_is_up s, (kind-voter_is_silent s, tt))))))))))))))))
+rows-have_kinds s = (kind-quorum_lost s, (kind-down_is_heard s, (kind-no_leader s, (kind-nonvoter_leads s, (kind-leader_is_dropped s, (kind-is_pending s, (kind-path_stalls s, (kind-id_is_reused s, (kind-not_started s, (kind-not_stopped s, (kind-is_leaving s, (kind-leader_leaves s, (kind-successor_lags s, (kind-at_target s, (kind-new_voter_lags s, (kind-voter_is_behind s, (kind-no_quorum_is_up s, (kind-voter_is_silent s, tt))))))))))))))))))
 
 -- ---- the first row that answers
 -- what an answer leads to: from a row of its kind, if none before it answers, or from the last one

@@ -1,20 +1,16 @@
 -- The sets of the table by their members.
-use Rattle.std.proofs.Common.{◌≡◌, ℕ, true, false, not, ◌&&◌, sym, ap, ◌∙◌, arith, inl, inr}
-use Rattle.std.proofs.lemmas.Bool.{and_parts, cases_Bool, not-true}
+use Rattle.std.proofs.Common.{◌≡◌, ℕ, true, false, not, ◌&&◌, [], ◌∷◌, sym, ap, ◌∙◌, arith, inl, inr}
+use Rattle.std.proofs.lemmas.Bool.{and_parts, cases_Bool, not-true, or_left, or_right}
 use Rattle.quorum_sets.specs.Ids.{Ids, ascending, has, is_empty, no_ids}
-use Rattle.quorum_sets.proofs.Offered.{has-ascending, has-ids_where, has-no_ids, has-same_ids}
+use Rattle.quorum_sets.proofs.Offered.{has-ascending, has-ids_of, has-ids_where, has-no_ids, has-same_ids, has-union}
 use Rattle.conf_change.proofs.Offered.{has-none_in_empty, is_empty-no_ids}
-use Rattle.conf_driver.specs.IdSets.{◌∩◌, ◌∖◌}
+use Rattle.conf_driver.specs.IdSets.{◌∪◌, ◌∩◌, ◌∖◌, just}
 
 pub has-common : (a b : Ids) (q : ℕ) → has (a ∩ b) q ≡ (has a q && has b q)
 has-common a b q = grind (arith, has-ids_where (has b) (ascending a) q, has-ascending a q)
 
 pub has-without : (a b : Ids) (q : ℕ) → has (a ∖ b) q ≡ (has a q && not (has b q))
 has-without a b q = grind (arith, has-ids_where (λ id. not (has b id)) (ascending a) q, has-ascending a q)
-
--- what is left without those that are left without others is common to both
-pub without-without : (a b : Ids) → (a ∖ (a ∖ b)) ≡ (a ∩ b)
-without-without a b = has-same_ids _ _ (λ q. grind (arith, has-without a (a ∖ b) q, has-without a b q, has-common a b q))
 
 pub in-without : (a b : Ids) (q : ℕ) → has (a ∖ b) q ≡ true → (has a q ≡ true) × (has b q ≡ false)
 in-without a b q here = let parts = and_parts _ _ (sym (has-without a b q) ∙ here) in (parts.0, not-true _ parts.1)
@@ -55,3 +51,19 @@ common-is_empty a b apart = is_empty-from_none (a ∩ b) (λ q. elim (cases_Bool
   | inl here ↦ grind (arith, apart q here, has-common a b q)
   | inr other ↦ grind (arith, other, has-common a b q)
 ])
+
+-- ---- unions, and the set of one id
+pub union-left : (a b : Ids) (q : ℕ) → has a q ≡ true → has (a ∪ b) q ≡ true
+union-left a b q here = has-union a b q ∙ or_left _ (has b q) here
+
+pub union-right : (a b : Ids) (q : ℕ) → has b q ≡ true → has (a ∪ b) q ≡ true
+union-right a b q here = has-union a b q ∙ or_right (has a q) _ here
+
+pub union-neither : (a b : Ids) (q : ℕ) → has a q ≡ false → has b q ≡ false → has (a ∪ b) q ≡ false
+union-neither a b q not_first not_second = grind (arith, not_first, not_second, has-union a b q)
+
+pub has-just : (id : ℕ) → has (just id) id ≡ true
+has-just id = grind (arith, has-ids_of (id ∷ []) id)
+
+pub has-just_other : (id q : ℕ) → (q ≡ id → ⊥) → has (just id) q ≡ false
+has-just_other id q other = grind (arith, has-ids_of (id ∷ []) q, other)

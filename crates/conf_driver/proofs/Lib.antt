@@ -1,15 +1,36 @@
+pub mod Answered
+pub mod AnswersSay
+pub mod Chains
+pub mod Counted
 pub mod Counting
+pub mod Falling
 pub mod FirstAnswer
 pub mod FirstRow
 pub mod FirstStep
+pub mod Hopes
 pub mod IdsByMember
+pub mod KeptIds
+pub mod LeaderOff
+pub mod Leaders
+pub mod Matches
+pub mod Moments
+pub mod NearerByAnswer
+pub mod Needed
+pub mod PathStalls
+pub mod Possible
 pub mod Proposed
-pub mod RemovedIds
 pub mod RowAnswers
+pub mod RowsNone
 pub mod RowsPassed
+pub mod Said
 pub mod ServersAnswered
+pub mod Sizes
+pub mod StuckBy
 pub mod Transfers
+pub mod TwoParts
+pub mod VoterIds
 pub mod Waiting
 pub mod Ways
 pub mod WhoIsUp
+mod ArrivalExamples
 mod WorkedExamples

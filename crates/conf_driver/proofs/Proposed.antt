@@ -14,7 +14,8 @@ pub record IsProposed (s : Situation) (steps : List Step) (step : Step) : Type 0
   pub quorum_lost : row.quorum_lost s ≡ None
   pub down_is_heard : row.down_is_heard s ≡ None
   pub no_leader : row.no_leader s ≡ None
-  pub outgoing_leads : row.outgoing_leads s ≡ None
+  pub nonvoter_leads : row.nonvoter_leads s ≡ None
+  pub leader_is_dropped : row.leader_is_dropped s ≡ None
   pub is_pending : row.is_pending s ≡ None
   pub path_stalls : row.path_stalls s ≡ None
   pub id_is_reused : row.id_is_reused s ≡ None
@@ -24,6 +25,7 @@ pub record IsProposed (s : Situation) (steps : List Step) (step : Step) : Type 0
   pub leader_leaves : row.leader_leaves s ≡ None
   pub successor_lags : row.successor_lags s ≡ None
   pub at_target : row.at_target s ≡ None
+  pub new_voter_lags : row.new_voter_lags s ≡ None
   pub voter_is_behind : row.voter_is_behind s ≡ None
   pub no_quorum_is_up : row.no_quorum_is_up s ≡ None
   pub voter_is_silent : row.voter_is_silent s ≡ None
@@ -31,23 +33,25 @@ pub record IsProposed (s : Situation) (steps : List Step) (step : Step) : Type 0
 
 pub IsProposed-from_answer : (s : Situation) (steps : List Step) (step : Step) → answer_in s steps ≡ Propose step → IsProposed s steps step
 IsProposed-from_answer s steps step is =
-    by_rows (IsProposed s steps step) s steps (Propose step) (λ a b c d e f g h i j k l m n o p last. record {
+    by_rows (IsProposed s steps step) s steps (Propose step) (λ a b c d e f g h i j k l m n o p q r last. record {
       quorum_lost = a;
       down_is_heard = b;
       no_leader = c;
-      outgoing_leads = d;
-      is_pending = e;
-      path_stalls = f;
-      id_is_reused = g;
-      not_started = h;
-      not_stopped = i;
-      is_leaving = j;
-      leader_leaves = k;
-      successor_lags = l;
-      at_target = m;
-      voter_is_behind = n;
-      no_quorum_is_up = o;
-      voter_is_silent = p;
+      nonvoter_leads = d;
+      leader_is_dropped = e;
+      is_pending = f;
+      path_stalls = g;
+      id_is_reused = h;
+      not_started = i;
+      not_stopped = j;
+      is_leaving = k;
+      leader_leaves = l;
+      successor_lags = m;
+      at_target = n;
+      new_voter_lags = o;
+      voter_is_behind = p;
+      no_quorum_is_up = q;
+      voter_is_silent = r;
       last = last;
     }) is
 

@@ -32,13 +32,13 @@ pub none-if : (test : Bool) (given : Option Action) → (if test then given else
 none-if true given is holds = is
 none-if false given is holds = absurd (cc)
 
+pub holds-from_none : (test : Bool) (a : Action) → (if test then None else Some a) ≡ None → test ≡ true
+holds-from_none true a is = refl
+holds-from_none false a is = absurd (cc)
+
 pub when-none : (holds : Bool) (answer : Action) → when holds answer ≡ None → holds ≡ false
 when-none true answer is = absurd (cc)
 when-none false answer is = refl
 
 pub if_any-none : (ids : Ids) (answer : Ids → Action) → if_any ids answer ≡ None → is_empty ids ≡ true
-if_any-none ids answer is = by_test (is_empty ids) is
-  where
-    by_test : (test : Bool) → (if test then None else Some (answer ids)) ≡ None → test ≡ true
-    by_test true is = refl
-    by_test false is = absurd (cc)
+if_any-none ids answer is = holds-from_none (is_empty ids) (answer ids) is

@@ -1,9 +1,10 @@
 -- Which row waits, and whom it names.
 use Rattle.std.proofs.Common.{◌≡◌, ℕ, Bool, true, false, not, ◌||◌, List, [], ◌∷◌, refl, sym, ap, ◌∙◌, arith, inl, inr, ◌⊎◌}
-use Rattle.std.specs.Prelude.{Option, Some, None, length, nat_eq, slice_get, option_map, if◌then◌else◌}
-use Rattle.std.proofs.lemmas.Bool.{both_ways, cases_Bool, cond-false, cond-true, not-true}
+use Rattle.std.specs.Prelude.{Option, Some, None, length, nat_eq, slice_get, option_map, unwrap_or, if◌then◌else◌}
+use Rattle.std.proofs.lemmas.Bool.{both_ways, cases_Bool, cond-false, cond-true, not-true, or_left}
 use Rattle.quorum_sets.specs.Ids.{Ids, ascending, has, is_empty}
 use Rattle.quorum_sets.specs.Voters.{is_quorum}
+use Rattle.quorum_sets.proofs.Offered.{has-union}
 use Rattle.conf_change.specs.Configuration.{is_joint, voters_of}
 use Rattle.conf_change.specs.declared.step.Step.{Step}
 use Rattle.conf_driver.specs.IdSets.{◌∪◌, ◌∩◌, ◌∖◌, least_of, or_else, or_second}
@@ -16,58 +17,75 @@ use Rattle.conf_driver.specs.declared.action.Action.TheVariants.{Done, Transfer,
 use Rattle.conf_driver.specs.declared.action.WaitReason.{WaitReason}
 use Rattle.conf_driver.specs.declared.action.WaitReason.TheVariants.{Unheard, Behind}
 use Rattle.conf_driver.specs.declared.situation.Situation.{Situation}
+use Rattle.conf_driver.proofs.Counting.{quorum-has_voter}
 use Rattle.conf_driver.proofs.FirstRow.{by_rows}
-use Rattle.conf_driver.proofs.IdsByMember.{in-common, in-second, in-without, not-in_second}
+use Rattle.conf_driver.proofs.IdsByMember.{has-without, in-common, in-second, in-without, not-in_second}
 use Rattle.conf_driver.proofs.RowAnswers.{if_any-some, none-unless, some-if, some-unless, when-some}
 use Rattle.conf_driver.proofs.RowsPassed.{has_step-passed, quorum-passed}
 
 -- ---- the rows that wait
--- what has been passed where a row on the step answers
+-- what has been passed where a row waits for members: unless the leader does not vote, no change is pending, and raft is
+-- to leave nothing by itself
 pub record IsPassed (s : Situation) : Type 0 where
   pub quorum_lost : row.quorum_lost s ≡ None
   pub no_leader : row.no_leader s ≡ None
-  pub is_pending : row.is_pending s ≡ None
-  pub is_leaving : row.is_leaving s ≡ None
+  pub later : has s.voters s.lead ≡ true → (row.is_pending s ≡ None) × (row.is_leaving s ≡ None)
 
 -- the row that waits, and what those before it have passed
 pub data Waits (s : Situation) (given : Option Action) : Type 0 where
   ByHeard : row.down_is_heard s ≡ given → Waits s given
   ByLeader : row.quorum_lost s ≡ None → row.no_leader s ≡ given → Waits s given
-  ByPending : row.down_is_heard s ≡ None → row.is_pending s ≡ given → Waits s given
-  ByLeaving : row.down_is_heard s ≡ None → row.is_leaving s ≡ given → Waits s given
+  ByNonvoter : IsPassed s → row.nonvoter_leads s ≡ given → Waits s given
+  ByPending : row.down_is_heard s ≡ None → row.nonvoter_leads s ≡ None → row.is_pending s ≡ given → Waits s given
+  ByLeaving : row.down_is_heard s ≡ None → row.nonvoter_leads s ≡ None → row.is_leaving s ≡ given → Waits s given
   BySuccessor : IsPassed s → row.leader_leaves s ≡ None → row.successor_lags s ≡ given → Waits s given
   ByTarget : IsPassed s → row.at_target s ≡ given → Waits s given
+  ByNewVoter : IsPassed s → row.new_voter_lags s ≡ given → Waits s given
   ByBehind : IsPassed s → row.voter_is_behind s ≡ given → Waits s given
   ByQuorum : IsPassed s → row.no_quorum_is_up s ≡ given → Waits s given
   BySilent : IsPassed s → row.at_target s ≡ None → row.voter_is_silent s ≡ given → Waits s given
 
-wait_not_last : {P : Type 0} (steps : List Step) (why : WaitReason) (ids : Ids) → propose_first steps ≡ Wait why ids → P
+pub wait_not_last : {P : Type 0} (steps : List Step) (why : WaitReason) (ids : Ids) → propose_first steps ≡ Wait why ids → P
 wait_not_last [] why ids is = absurd (cc)
 wait_not_last (step ∷ steps) why ids is = absurd (cc)
 
 passed : (s : Situation) → row.quorum_lost s ≡ None → row.no_leader s ≡ None → row.is_pending s ≡ None → row.is_leaving s ≡ None → IsPassed s
-passed s a c e j = record { quorum_lost = a; no_leader = c; is_pending = e; is_leaving = j }
+passed s a c f k = record { quorum_lost = a; no_leader = c; later = λ leads. (f, k) }
+
+-- the row answers, so the leader does not vote
+passed_early : (s : Situation) (why : WaitReason) (ids : Ids) → row.quorum_lost s ≡ None → row.no_leader s ≡ None → row.nonvoter_leads s ≡ Some (Wait why ids) → IsPassed s
+passed_early s why ids a c here = record {
+  quorum_lost = a;
+  no_leader = c;
+  later = λ leads. absurd (both_ways _ (some-unless (has s.voters s.lead) _ (Wait why ids) here).0 leads);
+}
 
 pub Waits-from_answer : (s : Situation) (steps : List Step) (why : WaitReason) (ids : Ids) → answer_in s steps ≡ Wait why ids → Waits s (Some (Wait why ids))
 Waits-from_answer s steps why ids is = by_rows (Waits s (Some (Wait why ids))) s steps (Wait why ids) (λ a. (
   λ here. ByHeard here,
   λ b. (
     λ here. ByLeader a here,
-    λ c d. (
-      λ here. ByPending b here,
-      λ e f g h i. (
-        λ here. ByLeaving b here,
-        λ j k. (
-          λ here. BySuccessor (passed s a c e j) k here,
-          λ l. (
-            λ here. ByTarget (passed s a c e j) here,
+    λ c. (
+      λ here. ByNonvoter (passed_early s why ids a c here) here,
+      λ d e. (
+        λ here. ByPending b d here,
+        λ f g h i j. (
+          λ here. ByLeaving b d here,
+          λ k l. (
+            λ here. BySuccessor (passed s a c f k) l here,
             λ m. (
-              λ here. ByBehind (passed s a c e j) here,
+              λ here. ByTarget (passed s a c f k) here,
               λ n. (
-                λ here. ByQuorum (passed s a c e j) here,
+                λ here. ByNewVoter (passed s a c f k) here,
                 λ o. (
-                  λ here. BySilent (passed s a c e j) m here,
-                  λ p last. wait_not_last steps why ids last,
+                  λ here. ByBehind (passed s a c f k) here,
+                  λ p. (
+                    λ here. ByQuorum (passed s a c f k) here,
+                    λ q. (
+                      λ here. BySilent (passed s a c f k) n here,
+                      λ r last. wait_not_last steps why ids last,
+                    ),
+                  ),
                 ),
               ),
             ),
@@ -104,7 +122,7 @@ none-second None None is = refl
 none-second None (Some y) is = absurd (cc)
 none-second (Some x) b is = absurd (cc)
 
-none-to_lead : (s : Situation) (ids : Ids) → transfer_to_one s ids ≡ None → is_empty ids ≡ true
+pub none-to_lead : (s : Situation) (ids : Ids) → transfer_to_one s ids ≡ None → is_empty ids ≡ true
 none-to_lead s ids is = empty-list (ascending ids) (none-second (least_of (ids ∩ s.target.incoming)) (least_of ids) is)
 
 -- ---- who is behind, and who is not heard from
@@ -170,13 +188,41 @@ pub record IsOfOneView (s : Situation) : Type 0 where
 
 pub names-successor : (s : Situation) (why : WaitReason) (ids : Ids) → IsOfOneView s → row.leader_leaves s ≡ None → row.successor_lags s ≡ Some (Wait why ids) → NamesLagging s why ids
 names-successor s why ids sets stays is =
-    let could = s.voters ∩ s.leaders_after in
-    let given = some-unless (has s.leaders_after s.lead) (if_any (could ∖ s.down) (wait_for s)) (Wait why ids) is in
+    let could = s.voters ∩ s.voters_after in
+    let given = some-unless (has s.voters_after s.lead) (if_any (could ∖ s.down) (wait_for s)) (Wait why ids) is in
     let row = if_any-some (could ∖ s.down) (wait_for s) (Wait why ids) given.1 in
-    let none_left = none-to_lead s (could ∩ s.up) (none-unless (has s.leaders_after s.lead) (transfer_to_one s (could ∩ s.up)) stays given.0) in
+    let none_left = none-to_lead s (could ∩ s.up) (none-unless (has s.voters_after s.lead) (transfer_to_one s (could ∩ s.up)) stays given.0) in
     names-wait_for s (could ∖ s.down) ids why row.1 row.0 (λ id here.
     let parts = in-without could s.down id here in
-    record { not_down = parts.1; not_up = not-in_second could s.up id none_left parts.0; member = sets.voters id (in-common s.voters s.leaders_after id parts.0).0 })
+    record { not_down = parts.1; not_up = not-in_second could s.up id none_left parts.0; member = sets.voters id (in-common s.voters s.voters_after id parts.0).0 })
+
+-- where leadership does not move, the other answer waits
+pub waits-unless_moved : (to : Option ℕ) (other : Action) (why : WaitReason) (ids : Ids) → unwrap_or (option_map Transfer to) other ≡ Wait why ids
+    → (option_map Transfer to ≡ None) × (other ≡ Wait why ids)
+waits-unless_moved None other why ids is = (refl, is)
+waits-unless_moved (Some id) other why ids is = absurd (cc)
+
+pub some_wait : (a : Action) (why : WaitReason) (ids : Ids) → Some a ≡ Some (Wait why ids) → a ≡ Wait why ids
+some_wait a why ids is = cc
+
+pub names-nonvoter : (s : Situation) (why : WaitReason) (ids : Ids) → IsOfOneView s → row.quorum_lost s ≡ None → row.nonvoter_leads s ≡ Some (Wait why ids) → NamesLagging s why ids
+names-nonvoter s why ids sets counts is =
+    let incoming = s.before.incoming in
+    let ready = incoming ∩ s.up in
+    let counted = incoming ∖ s.down in
+    let given = some-unless (has s.voters s.lead) (Some (unwrap_or (transfer_to_one s ready) (wait_for s counted))) (Wait why ids) is in
+    let waits = waits-unless_moved (or_second (least_of (ready ∩ s.target.incoming)) (least_of ready)) (wait_for s counted) why ids (some_wait _ why ids given.1) in
+    let some : is_empty counted ≡ false = elim (cases_Bool (is_empty counted)) [
+      | inl none ↦ absurd (quorum-has_voter s.before (s.voters ∖ s.down) (quorum-passed s counts) (λ x here. grind (arith, in-second incoming s.down x none here, has-without s.voters s.down x)))
+      | inr some ↦ some
+    ] in
+    names-wait_for s counted ids why waits.1 some (λ id here.
+    let parts = in-without incoming s.down id here in
+    record {
+      not_down = parts.1;
+      not_up = not-in_second incoming s.up id (none-to_lead s ready waits.0) parts.0;
+      member = sets.needed id (has-union incoming s.before.learners id ∙ or_left _ _ parts.0);
+    })
 
 in-needed : (s : Situation) (id : ℕ) → IsOfOneView s → has (needed_at_target s) id ≡ true → has s.members id ≡ true
 in-needed s id sets here = elim (cases_Bool (is_empty (s.running ∖ s.members))) [
@@ -184,7 +230,7 @@ in-needed s id sets here = elim (cases_Bool (is_empty (s.running ∖ s.members))
   | inr some ↦ ap (λ t. has t id) (sym (cond-false (is_empty (s.running ∖ s.members)) (s.before.incoming ∪ s.before.learners) s.members some)) ∙ here
 ]
 
-done_or_wait-waits : (s : Situation) (set ids : Ids) (why : WaitReason) → done_or_wait s set ≡ Wait why ids → (is_empty set ≡ false) × (wait_for s set ≡ Wait why ids)
+pub done_or_wait-waits : (s : Situation) (set ids : Ids) (why : WaitReason) → done_or_wait s set ≡ Wait why ids → (is_empty set ≡ false) × (wait_for s set ≡ Wait why ids)
 done_or_wait-waits s set ids why is = by_test (is_empty set) is
   where
     by_test : (test : Bool) → (if test then Done else wait_for s set) ≡ Wait why ids → (test ≡ false) × (wait_for s set ≡ Wait why ids)
@@ -203,6 +249,14 @@ names-target s why ids sets is =
     let row = when-some (not s.has_step) (done_or_wait s set) (Wait why ids) is in
     let waits = done_or_wait-waits s set ids why row.1 in
     names-wait_for s set ids why waits.1 waits.0 (λ id here. lags-from_rest s (needed_at_target s) id (λ q. in-needed s q sets) here)
+
+pub names-new_voter : (s : Situation) (why : WaitReason) (ids : Ids) → row.new_voter_lags s ≡ Some (Wait why ids) → NamesLagging s why ids
+names-new_voter s why ids is =
+    let known = s.voters_after ∩ s.members in
+    let set = known ∖ s.voters ∖ s.down ∖ s.up in
+    let row = if_any-some set (wait_for s) (Wait why ids) is in
+    names-wait_for s set ids why row.1 row.0
+    (λ id here. lags-from_rest s (known ∖ s.voters) id (λ q in_it. (in-common s.voters_after s.members q (in-without known s.voters q in_it).0).1) here)
 
 pub names-behind : (s : Situation) (why : WaitReason) (ids : Ids) → row.voter_is_behind s ≡ Some (Wait why ids) → NamesLagging s why ids
 names-behind s why ids is =

@@ -1,14 +1,14 @@
 -- Who is up and has caught up, by member.
-use Rattle.std.proofs.Common.{◌≡◌, ℕ, ◌≤◌, ◌<◌, true, false, not, ◌&&◌, sym, ap, ◌∙◌, arith}
+use Rattle.std.proofs.Common.{◌≡◌, ℕ, ◌≤◌, ◌<◌, true, false, not, ◌&&◌, sym, ap, ◌∙◌, arith, inl, inr}
 use Rattle.std.specs.Prelude.{nat_le}
-use Rattle.std.proofs.lemmas.Bool.{leb-true, leb-false}
+use Rattle.std.proofs.lemmas.Bool.{and_from, both_ways, cases_Bool, leb-true, leb-false}
 use Rattle.quorum_sets.specs.Ids.{Ids, ascending, has, is_empty}
 use Rattle.quorum_sets.proofs.Offered.{has-ascending, has-ids_where}
 use Rattle.conf_change.specs.Configuration.{is_member, member_ids}
 use Rattle.conf_change.proofs.Offered.{has-all_members, has-none_in_empty}
 use Rattle.conf_driver.specs.IdSets.{◌∩◌, ◌∖◌}
 use Rattle.conf_driver.specs.View.{ViewState, caught_up_index, having, heard_from, lacking, match_of, up_and_caught_up}
-use Rattle.conf_driver.proofs.IdsByMember.{has-common, has-without}
+use Rattle.conf_driver.proofs.IdsByMember.{has-common, has-without, in-without}
 
 pub has-having : (view : ViewState) (index : ℕ) (ids : Ids) (id : ℕ) → has (having view index ids) id ≡ (nat_le index (match_of view id) && has ids id)
 has-having view index ids id = has-ids_where (λ x. nat_le index (match_of view x)) (ascending ids) id ∙ ap (λ b. nat_le index (match_of view id) && b) (sym (has-ascending ids id))
@@ -37,3 +37,13 @@ pub lacks-not_up : (down : Ids) (view : ViewState) (id : ℕ) → is_member view
 lacks-not_up down view id member heard not_down not_up =
     let test : nat_le (caught_up_index view) (match_of view id) ≡ false = grind (arith, member, heard, not_down, not_up, has-up down view id) in
     leb-false _ _ test
+
+-- an id that lacks an index has less
+pub less-lacking : (view : ViewState) (index : ℕ) (ids : Ids) (id : ℕ) → has (lacking view index ids) id ≡ true → (has ids id ≡ true) × (match_of view id < index)
+less-lacking view index ids id here =
+    let parts = in-without ids (having view index ids) id here in
+    let less : nat_le index (match_of view id) ≡ false = elim (cases_Bool (nat_le index (match_of view id))) [
+      | inl has_it ↦ absurd (both_ways _ parts.1 (has-having view index ids id ∙ and_from _ _ has_it parts.0))
+      | inr less ↦ less
+    ] in
+    (parts.0, leb-false index (match_of view id) less)

@@ -9,3 +9,8 @@ pub mod Servers
 pub mod AtTarget
 pub mod Waits
 pub mod WayToTarget
+pub mod Moment
+pub mod CarriedOut
+pub mod Nearer
+pub mod MayPropose
+pub mod Hopeful

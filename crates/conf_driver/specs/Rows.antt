@@ -1,10 +1,11 @@
 -- The table of `next`: the first row that applies is the answer. Each definition is a row, in order.
-use Rattle.std.specs.Prelude.{Bool, not, ◌&&◌, ◌||◌, List, [], ◌∷◌, nat_eq, Option, Some, None, option_map, if◌then◌else◌}
-use Rattle.quorum_sets.specs.Ids.{Ids, has, is_empty}
+use Rattle.std.specs.Prelude.{Bool, not, ◌&&◌, ◌||◌, List, [], ◌∷◌, nat_eq, Option, Some, None, option_map, unwrap_or, if◌then◌else◌}
+use Rattle.quorum_sets.specs.Ids.{Ids, has, is_empty, no_ids}
 use Rattle.quorum_sets.specs.Voters.{is_quorum}
 use Rattle.conf_change.specs.Configuration.{voters_of, member_ids, is_joint}
 use Rattle.conf_driver.specs.IdSets.{◌∪◌, ◌∩◌, ◌∖◌, just, or_else, least_of, or_second}
-use Rattle.conf_driver.specs.Situation.{voter_ids, tolerance, is_less}
+use Rattle.conf_driver.specs.Situation.{tolerance, is_less}
+use Rattle.conf_driver.specs.View.{voter_ids}
 use Rattle.conf_driver.specs.declared.action.Action.{Action}
 use Rattle.conf_driver.specs.declared.action.Action.TheVariants.{Start, Stop, Transfer, Wait, Stuck, Done}
 use Rattle.conf_driver.specs.declared.action.StuckReason.TheVariants.{QuorumLost, Stalls, Reused}
@@ -40,45 +41,62 @@ down_is_heard s = if_any (s.down ∩ (s.heard ∩ s.members ∪ just s.lead)) (W
 abbrev pub no_leader : Situation → Option Action
 no_leader s = when (nat_eq s.lead 0) (Wait NoLeader (or_else (s.voters ∖ s.down ∖ s.heard) (s.voters ∖ s.down)))
 
--- 4. a change is pending in a joint configuration, and the leader is no incoming voter while one could lead
-abbrev pub outgoing_leads : Situation → Option Action
-outgoing_leads s =
-    if s.is_pending && is_joint s.before && not (has s.before.incoming s.lead) then transfer_to_one s (s.before.incoming ∩ s.up) else None
+-- 4. the leader does not vote: an incoming voter that is up and has caught up is to lead, or one has to come
+abbrev pub nonvoter_leads : Situation → Option Action
+nonvoter_leads s =
+    if has s.voters s.lead then None
+    else Some (unwrap_or (transfer_to_one s (s.before.incoming ∩ s.up)) (wait_for s (s.before.incoming ∖ s.down)))
 
--- 5. a change is pending
+-- who is to lead while a change is pending: in a joint configuration an incoming voter, and if the target drops the
+-- leader, an incoming voter that stays
+abbrev pub successors : Situation → Ids
+successors s =
+    if is_joint s.before && not (has s.before.incoming s.lead) then s.before.incoming ∩ s.up
+    else if has (voter_ids s.target) s.lead then no_ids else s.before.incoming ∩ voter_ids s.target ∩ s.up
+
+-- 5. a change is pending, and the leader is soon to lose its vote, while one that keeps it could lead
+abbrev pub leader_is_dropped : Situation → Option Action
+leader_is_dropped s = if s.is_pending then transfer_to_one s (successors s) else None
+
+-- 6. a change is pending
 abbrev pub is_pending : Situation → Option Action
 is_pending s = when s.is_pending (Wait Pending (or_else s.lack_pending (just s.lead)))
 
 -- ---- whether the path can be taken
--- 6. the path stalls with the ids that are down
+-- 7. the path stalls with the ids that are down
 abbrev pub path_stalls : Situation → Option Action
 path_stalls s = when s.stalls (Stuck Stalls (s.down ∩ (s.voters ∪ voter_ids s.target)))
 
--- 7. the target adds an id that was stopped for good
+-- 8. the target has an id that does not vote now and was stopped for good
 abbrev pub id_is_reused : Situation → Option Action
-id_is_reused s = if_any ((member_ids s.target ∖ s.members) ∩ s.retired) (Stuck Reused)
+id_is_reused s = if_any ((member_ids s.target ∖ s.voters) ∩ s.retired) (Stuck Reused)
 
 -- ---- servers
--- 8. members, now or after the step, that are not voters now do not run
+-- 9. members of the target, which are members now or after the step and not voters now, do not run
 abbrev pub not_started : Situation → Option Action
-not_started s = if_any ((member_ids s.after ∪ s.members) ∖ s.voters ∖ s.down ∖ s.running) Start
+not_started s = if_any ((member_ids s.after ∪ s.members) ∩ member_ids s.target ∖ s.voters ∖ s.down ∖ s.running) Start
 
--- 9. a server that is not a member, now or of the target, runs, and each voter that is not down knows the configuration
+-- whether it is safe to stop servers: each member that is not down knows the configuration, and the voters that are heard
+-- from are a quorum
+abbrev pub may_stop : Situation → Bool
+may_stop s = is_empty s.lack_configuration && is_quorum (voters_of s.before) (s.voters ∩ s.heard ∖ s.down)
+
+-- 10. a server that is not a member, now or of the target, runs, and may be stopped
 abbrev pub not_stopped : Situation → Option Action
-not_stopped s = if is_empty s.lack_configuration then if_any (s.running ∖ s.members ∖ member_ids s.target) Stop else None
+not_stopped s = if may_stop s then if_any (s.running ∖ s.members ∖ member_ids s.target) Stop else None
 
 -- ---- leadership
--- 10. raft is to leave a joint configuration by itself
+-- 11. raft is to leave a joint configuration by itself
 abbrev pub is_leaving : Situation → Option Action
 is_leaving s = when (s.has_step && s.before.auto_leave) (Wait Leaving (or_else (s.voters ∖ s.down ∖ s.up) (just s.lead)))
 
--- 11. the leader may not lead after the step, and a voter that may is up and has caught up
+-- 12. the leader does not vote after the step, and a voter that does is up and has caught up
 abbrev pub leader_leaves : Situation → Option Action
-leader_leaves s = if has s.leaders_after s.lead then None else transfer_to_one s (s.voters ∩ s.leaders_after ∩ s.up)
+leader_leaves s = if has s.voters_after s.lead then None else transfer_to_one s (s.voters ∩ s.voters_after ∩ s.up)
 
--- 12. the same, and a voter that may is not down
+-- 13. the leader does not vote after the step, and a voter that does is not down
 abbrev pub successor_lags : Situation → Option Action
-successor_lags s = if has s.leaders_after s.lead then None else if_any (s.voters ∩ s.leaders_after ∖ s.down) (wait_for s)
+successor_lags s = if has s.voters_after s.lead then None else if_any (s.voters ∩ s.voters_after ∖ s.down) (wait_for s)
 
 -- ---- who has to have caught up
 -- the members that have to have caught up at the target: the incoming voters and the learners, and while a server is yet
@@ -90,19 +108,23 @@ needed_at_target s = if is_empty (s.running ∖ s.members) then s.before.incomin
 abbrev pub done_or_wait : Situation → Ids → Action
 done_or_wait s ids = if is_empty ids then Done else wait_for s ids
 
--- 13. the target is reached
+-- 14. the target is reached
 abbrev pub at_target : Situation → Option Action
 at_target s = when (not s.has_step) (done_or_wait s (needed_at_target s ∖ s.down ∖ s.up))
 
--- 14. a voter after the step is heard from, and has not caught up
+-- 15. a member that is to vote after the step, and does not yet, is not up or has not caught up
+abbrev pub new_voter_lags : Situation → Option Action
+new_voter_lags s = if_any (s.voters_after ∩ s.members ∖ s.voters ∖ s.down ∖ s.up) (wait_for s)
+
+-- 16. a voter after the step is heard from, and has not caught up
 abbrev pub voter_is_behind : Situation → Option Action
 voter_is_behind s = if_any (s.voters_after ∩ s.members ∩ s.heard ∖ s.down ∖ s.up) (Wait Behind)
 
--- 15. who is up and has caught up is no quorum
+-- 17. who is up and has caught up is no quorum
 abbrev pub no_quorum_is_up : Situation → Option Action
 no_quorum_is_up s = when (not (is_quorum (voters_of s.before) s.up)) (wait_for s (s.voters ∖ s.down ∖ s.up))
 
--- 16. a voter after the step is not heard from, and the step is a joint one or makes things worse
+-- 18. a voter after the step is not heard from, and the step is a joint one or makes things worse
 abbrev pub voter_is_silent : Situation → Option Action
 voter_is_silent s =
     if is_joint s.after || is_less (tolerance s.after s.up) (tolerance s.before s.up)
@@ -111,13 +133,14 @@ voter_is_silent s =
 -- ---- the table
 -- the rows but for the last one: propose the first step
 abbrev pub rows_of_view : Situation → List (Option Action)
-rows_of_view s = quorum_lost s ∷ down_is_heard s ∷ no_leader s ∷ outgoing_leads s ∷ is_pending s ∷ []
+rows_of_view s = quorum_lost s ∷ down_is_heard s ∷ no_leader s ∷ nonvoter_leads s ∷ leader_is_dropped s ∷ is_pending s ∷ []
 
 abbrev pub rows_of_path : Situation → List (Option Action)
 rows_of_path s = path_stalls s ∷ id_is_reused s ∷ not_started s ∷ not_stopped s ∷ is_leaving s ∷ []
 
 abbrev pub rows_of_step : Situation → List (Option Action)
-rows_of_step s = leader_leaves s ∷ successor_lags s ∷ at_target s ∷ voter_is_behind s ∷ no_quorum_is_up s ∷ voter_is_silent s ∷ []
+rows_of_step s =
+    leader_leaves s ∷ successor_lags s ∷ at_target s ∷ new_voter_lags s ∷ voter_is_behind s ∷ no_quorum_is_up s ∷ voter_is_silent s ∷ []
 
 -- the first answer, if there is one
 abbrev pub first_of : List (Option Action) → Option Action

@@ -1,21 +1,13 @@
 -- What the table of `next` looks at: the configurations before and after the first step of the path, and sets of ids.
-use Rattle.std.specs.Prelude.{ℕ, Bool, true, false, not, List, [], ◌∷◌, length, nat_eq, Option, Some, None, nat_lt, if◌then◌else◌}
+use Rattle.std.specs.Prelude.{ℕ, Bool, true, false, not, List, [], ◌∷◌, length, nat_eq, Option, Some, None, nat_lt}
 use Rattle.quorum_sets.specs.Ids.{Ids}
 use Rattle.quorum_sets.specs.Tolerance.{may_be_down}
 use Rattle.conf_change.specs.Configuration.{Configuration, voters_of, member_ids}
 use Rattle.conf_change.specs.declared.step.Step.{Step}
 use Rattle.plan_output.specs.Stages.{configuration_after_step}
-use Rattle.conf_driver.specs.IdSets.{◌∪◌, ◌∖◌}
-use Rattle.conf_driver.specs.View.{ViewState, heard_from, lacking, up_and_caught_up}
+use Rattle.conf_driver.specs.IdSets.{◌∖◌}
+use Rattle.conf_driver.specs.View.{ViewState, heard_from, lacking, up_and_caught_up, voter_ids}
 use Rattle.conf_driver.specs.declared.situation.Situation.{Situation}
-
--- the voters of a configuration, incoming and outgoing
-abbrev pub voter_ids : Configuration → Ids
-voter_ids c = c.incoming ∪ c.outgoing
-
--- who may lead once the configuration is reached: a voter, or with auto-leave, which raft soon leaves, an incoming one
-abbrev pub leader_ids : Configuration → Ids
-leader_ids c = if c.auto_leave then c.incoming else voter_ids c
 
 -- whether there is a step
 abbrev pub has_step : List Step → Bool
@@ -42,6 +34,7 @@ situation_of target down view steps stalls =
     let now = view.conf_state in
     let after = after_first now steps in
     let voters = voter_ids now in
+    let members = member_ids now in
     record {
       before = now;
       after = after;
@@ -49,9 +42,8 @@ situation_of target down view steps stalls =
       has_step = has_step steps;
       stalls = stalls;
       voters = voters;
-      members = member_ids now;
+      members = members;
       voters_after = voter_ids after;
-      leaders_after = leader_ids after;
       down = down;
       heard = heard_from view;
       up = up_and_caught_up down view;
@@ -60,5 +52,5 @@ situation_of target down view steps stalls =
       lead = view.lead;
       is_pending = not (nat_eq view.pending_conf_index 0);
       lack_pending = lacking view view.pending_conf_index (voters ∖ down);
-      lack_configuration = lacking view view.conf_index (voters ∖ down);
+      lack_configuration = lacking view view.conf_index (members ∖ down);
     }

@@ -4,11 +4,12 @@ ghost use Rattle.conf_change.specs.Configuration.{has_voter, is_valid};
 ghost use Rattle.conf_plan.specs.PathBy.{has_path, path_by};
 ghost use Rattle.plan_output.specs.Stages as stage_spec;
 ghost use Rattle.conf_driver.specs.Next as spec;
-ghost use Rattle.conf_driver.specs.Next.{next_of};
+ghost use Rattle.conf_driver.specs.Next.{IsWellPosed, next_of};
+ghost use Rattle.conf_driver.specs.View as view_spec;
 
 use crate::action::Action;
 use crate::situation::{Situation, situation_of};
-use crate::view::View;
+use crate::view::{View, lacks_conf_index, lacks_leader_progress};
 use conf_change::{Config, Step};
 use conf_plan::{NoPath, Path, Strategy, plan_by};
 use plan_output::stalls;
@@ -22,6 +23,15 @@ pub enum NextFault {
     /// By [`Strategy::Shortest`] new voters vote with empty logs, so the cluster may stall on the way.
     #[error("the strategy is shortest: its new voters may stall the cluster")]
     Shortest,
+    /// The target has auto-leave, so raft leaves it by itself.
+    #[error("the target has auto-leave: raft leaves it by itself")]
+    AutoLeaveTarget,
+    /// There is a leader, and `conf_index` is 0.
+    #[error("there is a leader, and conf_index is 0")]
+    NoConfIndex,
+    /// The leader is a member, and `progress` has no entry of it.
+    #[error("the leader is a member, and progress has no entry of it")]
+    NoLeaderProgress,
     /// The current configuration has no voter.
     #[error("no plan: the current configuration has no voter")]
     NoVoterNow,
@@ -49,7 +59,8 @@ impl From<NoMemory> for NextFault {
 /// What to do next on the way to a target, while these ids are down: the first row of the table that applies. Whoever
 /// leads calls it with what it knows now, does what it answers, and calls it again. A step is to be proposed at once, to
 /// the leader whose view this is. Ids that are down and members of neither configuration are ignored. Refused by
-/// [`Strategy::Shortest`], and where the strategy has no path.
+/// [`Strategy::Shortest`], for a target that raft leaves by itself, for a view of a leader that lacks the index of the
+/// configuration or its own progress, and where the strategy has no path.
 pub fn next(
     alloc: Global,
     strategy: Strategy,
@@ -62,18 +73,36 @@ pub fn next(
     ensures answer { IfOk result (λ action. action
         ≡ next_of strategy target.now down.now view.now) }
     ensures shortest { (result ≡ Err NextFault.Shortest) ↔ (strategy ≡ Strategy.Shortest) }
+    ensures auto_leave_target { (result ≡ Err NextFault.AutoLeaveTarget)
+        ↔ ((strategy ≢ Strategy.Shortest) × (target.now.auto_leave ≡ true)) }
+    ensures no_conf_index { (result ≡ Err NextFault.NoConfIndex)
+        ↔ ((strategy ≢ Strategy.Shortest) × (target.now.auto_leave ≡ false)
+        × (view_spec.lacks_conf_index view.now ≡ true)) }
+    ensures no_leader_progress { (result ≡ Err NextFault.NoLeaderProgress)
+        ↔ ((strategy ≢ Strategy.Shortest) × (target.now.auto_leave ≡ false)
+        × (view_spec.lacks_conf_index view.now ≡ false)
+        × (view_spec.lacks_leader_progress view.now ≡ true)) }
     ensures no_voter_now { (result ≡ Err NextFault.NoVoterNow)
-        ↔ ((strategy ≢ Strategy.Shortest) × (has_voter view.now.conf_state ≡ false)) }
+        ↔ (IsWellPosed strategy target.now view.now × (has_voter view.now.conf_state ≡ false)) }
     ensures no_voter_target { (result ≡ Err NextFault.NoVoterTarget)
-        ↔ ((strategy ≢ Strategy.Shortest) × (has_voter view.now.conf_state ≡ true)
+        ↔ (IsWellPosed strategy target.now view.now × (has_voter view.now.conf_state ≡ true)
         × (has_voter target.now ≡ false)) }
     ensures joint_target { (result ≡ Err NextFault.JointTarget)
-        ↔ ((strategy ≢ Strategy.Shortest) × (has_voter view.now.conf_state ≡ true)
+        ↔ (IsWellPosed strategy target.now view.now × (has_voter view.now.conf_state ≡ true)
         × (has_voter target.now ≡ true) × (has_path strategy view.now.conf_state target.now
         ≡ false)) }
 {
     if strategy == Strategy::Shortest {
         return Err(NextFault::Shortest);
+    }
+    if target.auto_leave {
+        return Err(NextFault::AutoLeaveTarget);
+    }
+    if lacks_conf_index(view) {
+        return Err(NextFault::NoConfIndex);
+    }
+    if lacks_leader_progress(view) {
+        return Err(NextFault::NoLeaderProgress);
     }
     match plan_by(alloc, strategy, &view.conf_state, target, Some(down)) {
         Ok(path) => Ok(answer_on(alloc, target, down, view, &path)?),

@@ -15,13 +15,15 @@ ghost use Rattle.conf_driver.specs.declared.action.WaitReason.TheVariants.{Behin
 ghost use Rattle.conf_driver.specs.declared.view.MemberView.{MemberView};
 ghost use Rattle.conf_driver.specs.AtTarget.{IsDone};
 ghost use Rattle.conf_driver.specs.IdSets.{◌∪◌, ◌∖◌};
-ghost use Rattle.conf_driver.specs.Leadership.{LeaderStays, MayTakeOver, after_first_step};
+ghost use Rattle.conf_driver.specs.Leadership.{MayTakeOver, after_first_step};
 ghost use Rattle.conf_driver.specs.Next.{next_of};
 ghost use Rattle.conf_driver.specs.Proposals.{CanAnswer, IsFirstOfPath, KeepsQuorum};
 ghost use Rattle.conf_driver.specs.Servers.{MayStart, MayStop};
-ghost use Rattle.conf_driver.specs.View.{ViewState, heard_from, up_and_caught_up};
+ghost use Rattle.conf_driver.specs.View.{ViewState, heard_from, up_and_caught_up, voter_ids};
 ghost use Rattle.conf_driver.specs.Waits.{HasCome, LacksWhatIsNamed};
 ghost use Rattle.conf_driver.specs.WayToTarget.{IsWay};
+
+pub mod arrival;
 
 use conf_plan::laws::{
     fewer_uncounted_tolerate_more, next_path_is_shorter, one_change_each_leads, paths_keep_promises,
@@ -46,22 +48,27 @@ pub fn proposals_are_accepted()
     proposed_step_leads_alike();
 }
 
-/// Leadership moves to a voter that is up and has caught up, and that may lead after the first step, or while a change is
-/// pending is an incoming voter. A step is proposed only if the leader may lead after it, or no voter that is not down
-/// may.
+/// Leadership moves only if it has to: from one that does not vote, that loses its vote by the first step, or while a change
+/// is pending, from one that is soon to lose it. It moves to a voter that is up and has caught up, and that votes after the
+/// first step, or in the first and the last of these cases is an incoming voter. A step is proposed only by a leader that
+/// votes after it.
 pub fn leadership_moves_to_who_may_lead()
     ensures transfer { (strategy : Strategy) (target : Configuration) (down : Ids)
         (view : ViewState) (id : ℕ)
         → next_of strategy target down view ≡ Transfer id
-        → MayTakeOver down view (after_first_step strategy target down view) id }
+        → MayTakeOver target down view (after_first_step strategy target down view) id }
     ensures proposal { (strategy : Strategy) (target : Configuration) (down : Ids)
         (view : ViewState) (step : Step)
-        → next_of strategy target down view ≡ Propose step
-        → LeaderStays down view (after_first_step strategy target down view) }
-{}
+        → CanAnswer strategy target view → next_of strategy target down view ≡ Propose step
+        → has (voter_ids (after_first_step strategy target down view)) view.lead ≡ true }
+{
+    one_change_each_leads();
+    steps_keep_quorums();
+}
 
 /// Nothing is kept between two calls, and nothing is done twice: once what was answered is done, the next answer is not
-/// to start, to stop, or to move leadership again.
+/// to start or to stop again. If a voter led and no change is pending, it is not to move leadership again; otherwise
+/// leadership moves twice at most.
 pub fn nothing_is_done_twice()
     ensures start { (strategy : Strategy) (target : Configuration) (down : Ids) (view : ViewState)
         (ids others : Ids)
@@ -74,14 +81,19 @@ pub fn nothing_is_done_twice()
         → next_of strategy target down (record view { running = view.running ∖ ids })
         ≢ Stop others }
     ensures transfer { (strategy : Strategy) (target : Configuration) (down : Ids)
-        (view : ViewState) (id other : ℕ)
+        (view : ViewState) (id other : ℕ) → has (voter_ids view.conf_state) view.lead ≡ true
+        → view.pending_conf_index ≡ 0
         → next_of strategy target down view ≡ Transfer id
         → next_of strategy target down (record view { lead = id }) ≢ Transfer other }
+    ensures twice { (strategy : Strategy) (target : Configuration) (down : Ids) (view : ViewState)
+        (id other third : ℕ) → next_of strategy target down view ≡ Transfer id
+        → next_of strategy target down (record view { lead = id }) ≡ Transfer other
+        → next_of strategy target down (record view { lead = other }) ≢ Transfer third }
 {}
 
-/// A server is stopped only if it is not a member on any path to the target and each voter that is not down knows the
-/// configuration in force. One is started only if it is a member now or of the target, does not run, does not vote, is not
-/// down, and is not added after it was stopped for good.
+/// A server is stopped only if it is not a member on any path to the target, each member that is not down knows the
+/// configuration in force, and the voters that are heard from are a quorum. One is started only if it is a member of the
+/// target, does not run, does not vote, is not down, and was not stopped for good.
 pub fn no_server_is_stopped_early()
     ensures stop { (strategy : Strategy) (target : Configuration) (down : Ids) (view : ViewState)
         (ids : Ids) (id : ℕ)
@@ -91,11 +103,6 @@ pub fn no_server_is_stopped_early()
         (ids : Ids) (id : ℕ)
         → next_of strategy target down view ≡ Start ids → has ids id ≡ true
         → MayStart target down view id }
-    ensures members { (strategy : Strategy) (target : Configuration) (down : Ids) (view : ViewState)
-        (ids : Ids) (id : ℕ)
-        → CanAnswer strategy target view → next_of strategy target down view ≡ Start ids
-        → has ids id ≡ true
-        → (is_member view.conf_state id || is_member target id) ≡ true }
 {
     one_change_each_leads();
 }
@@ -111,8 +118,9 @@ pub fn done_is_done()
 }
 
 /// While a step is made, who is up and has caught up is a quorum before and after it, and no fewer of them may fail than
-/// before it or at the target. New voters were learners. The voters after it that are heard from and not down have caught
-/// up, and where it enters a joint configuration, all that are not down have.
+/// before it or at the target. New voters were learners, and if they are not down, are up and have caught up. The voters
+/// after it that are heard from and not down have caught up, and where it enters a joint configuration, all that are not
+/// down have.
 pub fn steps_keep_quorums()
     ensures { (strategy : Strategy) (target : Configuration) (down : Ids) (view : ViewState)
         (step : Step)

@@ -5,7 +5,8 @@ ghost use Rattle.conf_driver.specs.Rows as spec;
 
 use crate::action::{Action, StuckReason, WaitReason};
 use crate::sets::{common, just, or_else, without};
-use crate::situation::{Situation, voter_ids};
+use crate::situation::Situation;
+use crate::view::voter_ids;
 use conf_change::union;
 use quorum_sets::{InlineIds, MemberSet, NoMemory};
 use std::alloc::Global;
@@ -44,7 +45,7 @@ impl Situation {
     fn id_is_reused(&self) -> Result<Option<Action>, NoMemory>
         ensures { IfOk result (λ answer. answer ≡ spec.id_is_reused self.now) }
     {
-        let added = without(&self.target.members()?, &self.members)?;
+        let added = without(&self.target.members()?, &self.voters)?;
         let reused = common(&added, &self.retired)?;
         if reused.len() == 0 {
             return Ok(None);
@@ -56,7 +57,8 @@ impl Situation {
         ensures { IfOk result (λ answer. answer ≡ spec.not_started self.now) }
     {
         let members = union(&self.after.members()?, &self.members)?;
-        let others = without(&members, &self.voters)?;
+        let staying = common(&members, &self.target.members()?)?;
+        let others = without(&staying, &self.voters)?;
         let absent = without(&without(&others, &self.down)?, &self.running)?;
         if absent.len() == 0 {
             return Ok(None);
@@ -67,7 +69,7 @@ impl Situation {
     fn not_stopped(&self) -> Result<Option<Action>, NoMemory>
         ensures { IfOk result (λ answer. answer ≡ spec.not_stopped self.now) }
     {
-        if self.lack_configuration.len() != 0 {
+        if !self.may_stop()? {
             return Ok(None);
         }
         let others = without(&self.running, &self.members)?;
@@ -76,6 +78,15 @@ impl Situation {
             return Ok(None);
         }
         Ok(Some(Action::Stop(gone)))
+    }
+
+    // Whether each member that is not down knows the configuration, and the voters that are heard from are a quorum.
+    fn may_stop(&self) -> Result<bool, NoMemory>
+        ensures { IfOk result (λ may. may ≡ spec.may_stop self.now) }
+    {
+        let heard = common(&self.voters, &self.heard)?;
+        let counted = without(&heard, &self.down)?;
+        Ok(self.lack_configuration.len() == 0 && self.is_quorum_before(&counted))
     }
 
     fn leaving(&self, alloc: Global) -> Result<Option<Action>, NoMemory>

@@ -1,4 +1,5 @@
-//! The rows of the table on whether the first step can be made: who may lead after it, and who has to have caught up.
+//! The rows of the table on whether the first step can be made: who votes after it and may lead, and who has to have
+//! caught up.
 ghost use Rattle.std.specs.Prelude.{◌≡◌, IfOk};
 ghost use Rattle.conf_driver.specs.Rows as spec;
 
@@ -23,6 +24,9 @@ impl Situation {
         if let Some(answer) = self.at_target()? {
             return Ok(Some(answer));
         }
+        if let Some(answer) = self.new_voter_lags()? {
+            return Ok(Some(answer));
+        }
         if let Some(answer) = self.voter_is_behind()? {
             return Ok(Some(answer));
         }
@@ -35,20 +39,20 @@ impl Situation {
     fn leader_leaves(&self) -> Result<Option<Action>, NoMemory>
         ensures { IfOk result (λ answer. answer ≡ spec.leader_leaves self.now) }
     {
-        if self.leaders_after.contains(self.lead) {
+        if self.voters_after.contains(self.lead) {
             return Ok(None);
         }
-        let could = common(&common(&self.voters, &self.leaders_after)?, &self.up)?;
+        let could = common(&common(&self.voters, &self.voters_after)?, &self.up)?;
         self.transfer_to_one(&could)
     }
 
     fn successor_lags(&self) -> Result<Option<Action>, NoMemory>
         ensures { IfOk result (λ answer. answer ≡ spec.successor_lags self.now) }
     {
-        if self.leaders_after.contains(self.lead) {
+        if self.voters_after.contains(self.lead) {
             return Ok(None);
         }
-        let staying = common(&self.voters, &self.leaders_after)?;
+        let staying = common(&self.voters, &self.voters_after)?;
         let could = without(&staying, &self.down)?;
         if could.len() == 0 {
             return Ok(None);
@@ -68,6 +72,18 @@ impl Situation {
             return Ok(Some(Action::Done));
         }
         Ok(Some(self.wait_for(lagging)?))
+    }
+
+    fn new_voter_lags(&self) -> Result<Option<Action>, NoMemory>
+        ensures { IfOk result (λ answer. answer ≡ spec.new_voter_lags self.now) }
+    {
+        let members = common(&self.voters_after, &self.members)?;
+        let new = without(&members, &self.voters)?;
+        let late = without(&without(&new, &self.down)?, &self.up)?;
+        if late.len() == 0 {
+            return Ok(None);
+        }
+        Ok(Some(self.wait_for(late)?))
     }
 
     fn voter_is_behind(&self) -> Result<Option<Action>, NoMemory>
@@ -110,18 +126,6 @@ impl Situation {
             union(&self.before.incoming, &self.before.learners)
         } else {
             self.members.try_clone()
-        }
-    }
-
-    // To wait for those of these ids that are not heard from, or if all are, until they have caught up.
-    fn wait_for(&self, ids: InlineIds) -> Result<Action, NoMemory>
-        ensures { IfOk result (λ answer. answer ≡ spec.wait_for self.now ids) }
-    {
-        let silent = without(&ids, &self.heard)?;
-        if silent.len() == 0 {
-            Ok(Action::Wait(WaitReason::Behind, ids))
-        } else {
-            Ok(Action::Wait(WaitReason::Unheard, silent))
         }
     }
 }

@@ -9,6 +9,7 @@ ghost use Rattle.conf_driver.specs.Rows as spec;
 use crate::action::{Action, StuckReason, WaitReason};
 use crate::sets::{common, just, or_else, without};
 use crate::situation::Situation;
+use crate::view::voter_ids;
 use conf_change::union;
 use quorum_sets::{InlineIds, MemberSet, NoMemory, is_quorum};
 use std::alloc::Global;
@@ -27,7 +28,10 @@ impl Situation {
         if let Some(answer) = self.no_leader()? {
             return Ok(Some(answer));
         }
-        if let Some(answer) = self.outgoing_leads()? {
+        if let Some(answer) = self.nonvoter_leads()? {
+            return Ok(Some(answer));
+        }
+        if let Some(answer) = self.leader_is_dropped(alloc)? {
             return Ok(Some(answer));
         }
         self.pending(alloc)
@@ -79,15 +83,43 @@ impl Situation {
         Ok(Some(Action::Wait(WaitReason::NoLeader, or_else(silent, counted))))
     }
 
-    fn outgoing_leads(&self) -> Result<Option<Action>, NoMemory>
-        ensures { IfOk result (λ answer. answer ≡ spec.outgoing_leads self.now) }
+    fn nonvoter_leads(&self) -> Result<Option<Action>, NoMemory>
+        ensures { IfOk result (λ answer. answer ≡ spec.nonvoter_leads self.now) }
     {
-        let now = &self.before;
-        if !self.is_pending || !now.is_joint() || now.incoming.contains(self.lead) {
+        if self.voters.contains(self.lead) {
             return Ok(None);
         }
-        let could = common(&self.before.incoming, &self.up)?;
-        self.transfer_to_one(&could)
+        let ready = common(&self.before.incoming, &self.up)?;
+        if let Some(answer) = self.transfer_to_one(&ready)? {
+            return Ok(Some(answer));
+        }
+        let counted = without(&self.before.incoming, &self.down)?;
+        Ok(Some(self.wait_for(counted)?))
+    }
+
+    fn leader_is_dropped(&self, alloc: Global) -> Result<Option<Action>, NoMemory>
+        ensures { IfOk result (λ answer. answer ≡ spec.leader_is_dropped self.now) }
+    {
+        if self.is_pending {
+            let successors = self.successors(alloc)?;
+            return self.transfer_to_one(&successors);
+        }
+        Ok(None)
+    }
+
+    // Who is to lead while a change is pending, if the leader is soon to lose its vote.
+    fn successors(&self, alloc: Global) -> Result<InlineIds, NoMemory>
+        ensures { IfOk result (λ ids. ids ≡ spec.successors self.now) }
+    {
+        let now = &self.before;
+        if now.is_joint() && !now.incoming.contains(self.lead) {
+            return common(&now.incoming, &self.up);
+        }
+        let staying = voter_ids(&self.target)?;
+        if staying.contains(self.lead) {
+            return Ok(InlineIds::empty(alloc));
+        }
+        common(&common(&now.incoming, &staying)?, &self.up)
     }
 
     fn pending(&self, alloc: Global) -> Result<Option<Action>, NoMemory>
@@ -109,6 +141,18 @@ impl Situation {
         match staying.at(0) {
             Some(id) => Ok(Some(Action::Transfer(id))),
             None => Ok(ids.at(0).map(Action::Transfer)),
+        }
+    }
+
+    // To wait for those of these ids that are not heard from, or if all are, until they have caught up.
+    pub(crate) fn wait_for(&self, ids: InlineIds) -> Result<Action, NoMemory>
+        ensures { IfOk result (λ answer. answer ≡ spec.wait_for self.now ids) }
+    {
+        let silent = without(&ids, &self.heard)?;
+        if silent.len() == 0 {
+            Ok(Action::Wait(WaitReason::Behind, ids))
+        } else {
+            Ok(Action::Wait(WaitReason::Unheard, silent))
         }
     }
 }

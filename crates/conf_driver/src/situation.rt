@@ -8,8 +8,8 @@ ghost use Rattle.conf_driver.specs.View as view_spec;
 ghost use Rattle.conf_driver.specs.Situation.{situation_of};
 
 use crate::sets::without;
-use crate::view::{View, heard_from, lacking, up_and_caught_up};
-use conf_change::{Config, Step, union};
+use crate::view::{View, heard_from, lacking, up_and_caught_up, voter_ids};
+use conf_change::{Config, Step};
 use conf_plan::Path;
 use plan_output::Stage;
 use quorum_sets::{InlineIds, MemberSet, NoMemory, may_be_down};
@@ -30,9 +30,8 @@ pub struct Situation {
     // The voters and the members now.
     pub(crate) voters: InlineIds,
     pub(crate) members: InlineIds,
-    // The voters after the step, and who may lead then.
+    // The voters after the step.
     pub(crate) voters_after: InlineIds,
-    pub(crate) leaders_after: InlineIds,
     // Who is down, who is heard from, and who is up and has caught up.
     pub(crate) down: InlineIds,
     pub(crate) heard: InlineIds,
@@ -45,7 +44,7 @@ pub struct Situation {
     // Whether a change is not applied, and the voters that are not down and lack its entry.
     pub(crate) is_pending: bool,
     pub(crate) lack_pending: InlineIds,
-    // The voters that are not down and do not know the configuration.
+    // The members that are not down and do not know the configuration.
     pub(crate) lack_configuration: InlineIds,
 }
 
@@ -63,10 +62,10 @@ pub(crate) fn situation_of(
     let configurations = configurations(alloc, target, view, path)?;
     let members = members_of(&configurations.0, &configurations.1)?;
     let servers = servers(down, view)?;
-    let lacking = lacking_voters(&members.0, down, view)?;
+    let lacking = lacking_members(&members.0, &members.1, down, view)?;
     let seen = seen(alloc, down, view)?;
     let (before, after, target) = configurations;
-    let (voters, members, voters_after, leaders_after) = members;
+    let (voters, members, voters_after) = members;
     let (down, running, retired) = servers;
     let (lack_pending, lack_configuration) = lacking;
     let (heard, up) = seen;
@@ -79,7 +78,6 @@ pub(crate) fn situation_of(
         voters,
         members,
         voters_after,
-        leaders_after,
         down,
         heard,
         up,
@@ -107,24 +105,17 @@ fn configurations(
     Ok((before, after, target.try_clone()?))
 }
 
-// The voters and the members before the step, the voters after it, and who may lead then.
+// The voters and the members before the step, and the voters after it.
 fn members_of(
     now: &Config<InlineIds>,
     after: &Config<InlineIds>,
-) -> Result<(InlineIds, InlineIds, InlineIds, InlineIds), NoMemory>
+) -> Result<(InlineIds, InlineIds, InlineIds), NoMemory>
     ensures { IfOk result (λ all. all
-        ≡ (
-          spec.voter_ids now.now,
-          member_ids now.now,
-          spec.voter_ids after.now,
-          spec.leader_ids
-              after.now,
-        )) }
+        ≡ (view_spec.voter_ids now.now, member_ids now.now, view_spec.voter_ids after.now)) }
 {
     let voters = voter_ids(now)?;
     let members = now.members()?;
-    let voters_after = voter_ids(after)?;
-    Ok((voters, members, voters_after, leader_ids(after)?))
+    Ok((voters, members, voter_ids(after)?))
 }
 
 // Who is heard from, and who is up and has caught up.
@@ -145,21 +136,23 @@ fn servers(down: &InlineIds, view: &View) -> Result<(InlineIds, InlineIds, Inlin
     Ok((down, running, view.retired.try_clone()?))
 }
 
-// The voters that are not down and lack the change that is pending, and those that do not know the configuration.
-fn lacking_voters(
+// Of those that are not down, the voters that lack the change that is pending, and the members that do not know the
+// configuration.
+fn lacking_members(
     voters: &InlineIds,
+    members: &InlineIds,
     down: &InlineIds,
     view: &View,
 ) -> Result<(InlineIds, InlineIds), NoMemory>
     ensures { IfOk result (λ all. all
         ≡ (
           view_spec.lacking view.now view.now.pending_conf_index (voters.now ∖ down.now),
-          view_spec.lacking view.now view.now.conf_index (voters.now ∖ down.now),
+          view_spec.lacking view.now view.now.conf_index (members.now ∖ down.now),
         )) }
 {
-    let counted = without(voters, down)?;
-    let lack_pending = lacking(view, view.pending_conf_index, &counted)?;
-    Ok((lack_pending, lacking(view, view.conf_index, &counted)?))
+    let lack_pending = lacking(view, view.pending_conf_index, &without(voters, down)?)?;
+    let lack_configuration = lacking(view, view.conf_index, &without(members, down)?)?;
+    Ok((lack_pending, lack_configuration))
 }
 
 // The configuration after the first step, if there is one.
@@ -186,24 +179,6 @@ fn after_step(
 {
     let stage = Stage::first(alloc, now)?.next(alloc, step)?;
     stage.config().try_clone()
-}
-
-// The voters of a configuration, incoming and outgoing.
-pub(crate) fn voter_ids(config: &Config<InlineIds>) -> Result<InlineIds, NoMemory>
-    ensures { IfOk result (λ ids. ids ≡ spec.voter_ids config.now) }
-{
-    union(&config.incoming, &config.outgoing)
-}
-
-// Who may lead once the configuration is reached.
-fn leader_ids(config: &Config<InlineIds>) -> Result<InlineIds, NoMemory>
-    ensures { IfOk result (λ ids. ids ≡ spec.leader_ids config.now) }
-{
-    if config.auto_leave {
-        config.incoming.try_clone()
-    } else {
-        voter_ids(config)
-    }
 }
 
 // How many of these ids may fail while the rest is a quorum of the configuration.

@@ -1,10 +1,11 @@
 //! What is known of a cluster, as etcd's raft names it. A leader fills it from raft's `Status`, a tool from what the
 //! members report.
-ghost use Rattle.std.specs.Prelude.{◌≡◌, ◌++◌, nat_lt, IfOk, OnOk};
+ghost use Rattle.std.specs.Prelude.{◌≡◌, ◌++◌, map, IfOk, OnOk};
+ghost use Rattle.quorum_sets.specs.Ids.{ascending, has};
 ghost use Rattle.conf_driver.specs.View as spec;
 
 use crate::sets::{common, without};
-use conf_change::Config;
+use conf_change::{Config, union};
 use quorum_sets::{IdList, InlineIds, MemberSet, NoMemory};
 use std::alloc::Global;
 use std::marker::Model;
@@ -25,8 +26,9 @@ pub struct MemberView {
 pub struct View {
     /// The configuration that the leader has applied.
     pub conf_state: Config<InlineIds>,
-    /// Who has this index knows that configuration. For a leader that applies a change, its last index plus one; for one
-    /// that begins to lead, its last index. If `matched` is what each member has applied, the index of the change.
+    /// Who has this index knows that configuration; with a leader it is not 0. For a leader that applies a change, its last
+    /// index plus one; for one that begins to lead, its last index. If `matched` is what each member has applied, the
+    /// index of the change.
     pub conf_index: u64,
     /// Who leads, or 0.
     pub lead: u64,
@@ -34,7 +36,8 @@ pub struct View {
     pub commit: u64,
     /// The index of a change in the leader's log that is not applied, or 0.
     pub pending_conf_index: u64,
-    /// The members. Of an id that is left out nothing is known; of one that is repeated, the first index counts.
+    /// The members. Of an id that is left out nothing is known; of one that is repeated, the first index counts. A leader
+    /// that is a member is one of them.
     pub progress: Vec<MemberView>,
     /// Who was started, and was not stopped for good.
     pub running: InlineIds,
@@ -85,38 +88,46 @@ fn add_if_heard(ids: &mut IdList, member: MemberView) -> Result<(), NoMemory>
     Ok(())
 }
 
-// The last index at which an id is known to have the leader's log.
-fn match_of(view: &View, id: u64) -> u64
-    ensures { result ≡ spec.match_of view.now id }
+// The last index at which an id is known to have the leader's log, if something is known of it.
+fn known_match(view: &View, id: u64) -> Option<u64>
+    ensures { result ≡ spec.known_match view.now id }
 {
     for member in view.progress.as_slice() {
         if member.id == id {
-            return member.matched;
+            return Some(member.matched);
         }
     }
-    0
+    None
+}
+
+// The last index at which each id of a set is known to have the leader's log, 0 if nothing is known of it.
+fn matches_of(view: &View, ids: &InlineIds) -> Result<IdList, NoMemory>
+    ensures { IfOk result (λ matches. matches.items
+        ≡ map (spec.match_of view.now) (ascending ids.now)) }
+{
+    let mut matches = IdList::from_elem(ids.allocator(), 0, ids.len())?;
+    // The first entry of an id is written last.
+    for index in (0..view.progress.len()).rev() {
+        let member = view.progress[index];
+        if let Ok(position) = ids.as_slice().binary_search(&member.id) {
+            matches.as_mut_slice()[position] = member.matched;
+        }
+    }
+    Ok(matches)
 }
 
 // The ids that are known to have the log up to an index.
 fn having(view: &View, index: u64, ids: &InlineIds) -> Result<InlineIds, NoMemory>
     ensures { IfOk result (λ having. having ≡ spec.having view.now index ids.now) }
 {
-    let mut having = ids.try_clone()?;
-    for position in 0..ids.len() {
-        if let Some(id) = ids.at(position) {
-            if lacks(view, index, id) {
-                having.remove(id);
-            }
+    let matches = matches_of(view, ids)?;
+    let mut having = IdList::new(ids.allocator());
+    for (position, id) in ids.as_slice().iter().enumerate() {
+        if matches.as_slice()[position] >= index {
+            having.push(*id)?;
         }
     }
-    Ok(having)
-}
-
-// Whether an id is not known to have the log up to an index.
-fn lacks(view: &View, index: u64, id: u64) -> bool
-    ensures { result ≡ nat_lt (spec.match_of view.now id) index }
-{
-    match_of(view, id) < index
+    InlineIds::of_list(ids.allocator(), having.as_slice())
 }
 
 // The other ids of the set.
@@ -126,12 +137,51 @@ pub(crate) fn lacking(view: &View, index: u64, ids: &InlineIds) -> Result<Inline
     without(ids, &having(view, index, ids)?)
 }
 
+// Whether the id votes.
+#[tactic(auto, using(crate::proofs::VoterIds::union_steps))]
+fn is_voter(config: &Config<InlineIds>, id: u64) -> bool
+    ensures { result ≡ has (spec.voter_ids config.now) id }
+{
+    config.incoming.contains(id) || config.outgoing.contains(id)
+}
+
+// Who has this index knows the configuration, as far as this leader can make it known.
+fn known_index(view: &View) -> u64
+    ensures { result ≡ spec.known_index view.now }
+{
+    if is_voter(&view.conf_state, view.lead) {
+        view.conf_index
+    } else {
+        view.conf_index.saturating_sub(1)
+    }
+}
+
 // Who has this index knows the configuration and lacks no more than `max_lag`.
 fn caught_up_index(view: &View) -> u64
     ensures { result ≡ spec.caught_up_index view.now }
 {
-    view.conf_index
-        .max(view.commit.saturating_sub(view.max_lag))
+    known_index(view).max(view.commit.saturating_sub(view.max_lag))
+}
+
+// Whether someone leads, and no index makes the configuration known.
+pub(crate) fn lacks_conf_index(view: &View) -> bool
+    ensures { result ≡ spec.lacks_conf_index view.now }
+{
+    view.lead != 0 && view.conf_index == 0
+}
+
+// Whether who leads is a member, and nothing is known of it.
+pub(crate) fn lacks_leader_progress(view: &View) -> bool
+    ensures { result ≡ spec.lacks_leader_progress view.now }
+{
+    view.conf_state.is_member(view.lead) && known_match(view, view.lead).is_none()
+}
+
+// The voters of a configuration, incoming and outgoing.
+pub(crate) fn voter_ids(config: &Config<InlineIds>) -> Result<InlineIds, NoMemory>
+    ensures { IfOk result (λ ids. ids ≡ spec.voter_ids config.now) }
+{
+    union(&config.incoming, &config.outgoing)
 }
 
 // The members that are up and have caught up.

@@ -1,16 +1,21 @@
 -- The configurations that a session keeps, and that an answer keeps what holds of every session.
 use Rattle.std.proofs.Common.{◌≡◌, ℕ, zero, suc, ◌-◌, ◌≤◌, Bool, true, false, cond, List, [], ◌∷◌, ◌++◌, length, take, drop, refl, sym, ap, ◌∙◌, subst, arith}
 use Rattle.std.specs.Prelude.{◌↔◌, Option, Some, None, unwrap_or, Result, Ok, Err, ⊤, slice_get}
+use Rattle.std.specs.List.{All}
 use Rattle.std.proofs.lemmas.List.{length-append, length-take, length-drop}
+use Rattle.std.proofs.lemmas.List.Elements.{All-nil, All-cons, All-head, All-tail, All-take}
+use Rattle.std.proofs.lemmas.Result.{IfOk-at_ok}
 use Rattle.dd_file.specs.DirectiveText.{DirectiveText}
 use Rattle.dd_file.specs.DirectiveLine.{ArgumentText}
 use Rattle.conf_change.specs.Acknowledgement.{ack_answer, changer_with_progress}
 use Rattle.conf_change.specs.ChangerState.{ChangerState}
 use Rattle.conf_change.specs.Changer.{IsSound, Accepts, moved_to, begun_with, new_changer, changer_after}
 use Rattle.conf_change.specs.ConfState.{ConfStateLists, Describes, restored}
-use Rattle.conf_change.specs.Configuration.{Configuration, has_voter, is_valid, has_voter_or_is_empty, is_restorable}
+use Rattle.conf_change.specs.Configuration.{Configuration, empty_configuration, has_voter, is_valid, has_voter_or_is_empty, is_restorable}
 use Rattle.conf_change.specs.Outcome.{outcome}
-use Rattle.conf_change.specs.Transition.{step_for}
+use Rattle.conf_change.specs.Transition.{step_for, step_kind_of, step_of}
+use Rattle.conf_change.specs.U64Lists.{HasU64Lists}
+use Rattle.conf_change.specs.declared.change.Change.{Change}
 use Rattle.conf_change.specs.declared.floor.Floor.{Floor}
 use Rattle.conf_change.specs.declared.acknowledgement.AckFault.{AckFault}
 use Rattle.conf_change.specs.declared.acknowledgement.AckFault.TheVariants.{NotMember, IndexTooLarge}
@@ -18,7 +23,10 @@ use Rattle.conf_change.specs.declared.progress.Progress.{Progress}
 use Rattle.conf_change.specs.declared.refused.Refused.{Refused}
 use Rattle.conf_change.specs.declared.step.Step.{Step}
 use Rattle.conf_change.specs.declared.step.Step.TheVariants.{Simple as SimpleStep, EnterJoint as EnterStep, LeaveJoint as LeaveStep}
+use Rattle.conf_change.specs.declared.step.StepKind.{StepKind}
+use Rattle.conf_change.specs.declared.step.StepKind.TheVariants as kind
 use Rattle.conf_plan.specs.Planned.{planned}
+use Rattle.conf_plan.specs.PlanSteps.{HasU64Ids}
 use Rattle.conf_plan.specs.Run.{IsRun, IsValidWithVoter, Takes, after_steps}
 use Rattle.conf_session.specs.SessionState.{SessionState, SessionChange, Nothing, Acknowledged, Stepped, Restored, Undone, LedTo, IsSession, new_session, current, after_directive}
 use Rattle.conf_session.specs.Input.{Input, read_input}
@@ -32,6 +40,7 @@ use Rattle.conf_session.specs.declared.commands.Command.{Command}
 use Rattle.conf_session.specs.declared.commands.Command.TheVariants.{Simple, EnterJoint, LeaveJoint, ConfChange, ConfState, Restore, Undo, Ack, CommitIndex, Committed, Vote, Unknown}
 use Rattle.conf_session.proofs.ReadValues.{steps-some}
 use Rattle.conf_session.proofs.ReplyLines.{and-first}
+use Rattle.conf_session.proofs.U64Ids.{HasU64Input, HasU64Saved, NameU64, empty-u64, input-u64, leave-u64, outcome-u64, planned-u64, restored-u64}
 
 -- ---- what the crates below say
 -- laws of conf_change
@@ -116,42 +125,62 @@ led-drop now (c ∷ kept) zero older led e =
     let same : older ≡ c = cc in rw same led.2
 led-drop now (c ∷ kept) (suc position) older led e = led-drop c kept position older led.2 e
 
+-- the kept configurations after those that are dropped, and the first of them
+dropped-u64 : (kept : List Configuration) (position : ℕ) (older : Configuration) → All HasU64Lists kept → slice_get kept position ≡ Some older → HasU64Lists older × All HasU64Lists (drop (suc position) kept)
+dropped-u64 [] position older small e = cc
+dropped-u64 (c ∷ kept) zero older small e =
+    let same : c ≡ older = cc in (subst HasU64Lists same (All-head HasU64Lists c kept small), All-tail HasU64Lists c kept small)
+dropped-u64 (c ∷ kept) (suc position) older small e = dropped-u64 kept position older (All-tail HasU64Lists c kept small) e
+
 -- an update that a command may make to a session
 abbrev IsDue : SessionState → SessionChange → Type 0
 IsDue session Nothing = ⊤
 IsDue session (Acknowledged after) = IsSound after.tracker × (after.tracker.config ≡ current session)
-IsDue session (Stepped after) = (step : Step) × Accepts session.changer step after
-IsDue session (Restored after) = IsSound after.tracker
+IsDue session (Stepped after) = (step : Step) × Accepts session.changer step after × HasU64Ids step
+IsDue session (Restored after) = IsSound after.tracker × HasU64Lists after.tracker.config
 IsDue session (Undone after count) = (1 ≤ count) × IsSound after.tracker × (slice_get session.kept (count - 1) ≡ Some after.tracker.config)
 
 due-stays : ChangeLaws → (session : SessionState) (update : SessionChange) → IsSession session → IsDue session update → IsSession (after_directive session update)
-due-stays laws session Nothing is due = record { sound = is.sound; few = is.few; led = is.led }
-due-stays laws session (Acknowledged after) is due = record { sound = due.0; few = is.few; led = rw due.1 is.led }
+due-stays laws session Nothing is due = record { sound = is.sound; few = is.few; led = is.led; u64_ids = is.u64_ids }
+due-stays laws session (Acknowledged after) is due = record { sound = due.0; few = is.few; led = rw due.1 is.led; u64_ids = rw due.1 is.u64_ids }
 due-stays laws session (Stepped after) is due =
     let accepts = due.1 in
+    let now = current session in
+    let small = All-head HasU64Lists now session.kept is.u64_ids in
     record {
       sound = rw accepts.whole (laws.step session.changer due.0 after.tracker.config is.sound accepts.configuration);
-      few = let n = length-take session.history (current session ∷ session.kept) in omega arith;
-      led = led-take after.tracker.config (current session ∷ session.kept) session.history (is.sound.restorable, record { step = due.0; gives = accepts.configuration }, is.led);
+      few = let n = length-take session.history (now ∷ session.kept) in omega arith;
+      led = led-take after.tracker.config (now ∷ session.kept) session.history (is.sound.restorable, record { step = due.0; gives = accepts.configuration }, is.led);
+      u64_ids = All-cons HasU64Lists after.tracker.config (take session.history (now ∷ session.kept)) (outcome-u64 now after.tracker.config due.0 small due.2 accepts.configuration)
+          (All-take HasU64Lists session.history (now ∷ session.kept) is.u64_ids);
     }
-due-stays laws session (Restored after) is due = record { sound = due; few = omega arith; led = tt }
+due-stays laws session (Restored after) is due = record { sound = due.0; few = omega arith; led = tt; u64_ids = All-cons HasU64Lists after.tracker.config [] due.1 (All-nil HasU64Lists) }
 due-stays laws session (Undone after count) is due =
     let some = due.0 in
     let same : suc (count - 1) ≡ count = omega arith in
+    let left = dropped-u64 session.kept (count - 1) after.tracker.config (All-tail HasU64Lists (current session) session.kept is.u64_ids) due.2 in
     record {
       sound = due.1;
       few = let n = length-drop count session.kept in let few = is.few in omega arith;
       led = rw (← same) (led-drop (current session) session.kept (count - 1) after.tracker.config is.led due.2);
+      u64_ids = rw (← same) (All-cons HasU64Lists after.tracker.config (drop (suc (count - 1)) session.kept) left.0 left.1);
     }
 
 -- ---- each command makes such an update
-step-due : ChangeLaws → (session : SessionState) (step : Step) (made : Result ChangerState Refused) → changer_after session.changer step ≡ made → IsDue session (step_reply made).update
-step-due laws session step (Ok after) e = (step, (laws.accepted session.changer after step).1 e)
-step-due laws session step (Err refused) e = tt
+step-due : ChangeLaws → (session : SessionState) (step : Step) (made : Result ChangerState Refused) → HasU64Ids step → changer_after session.changer step ≡ made → IsDue session (step_reply made).update
+step-due laws session step (Ok after) named e = (step, (laws.accepted session.changer after step).1 e, named)
+step-due laws session step (Err refused) named e = tt
 
-restored-due : ChangeLaws → (session : SessionState) (saved : ConfStateLists) (actual : Option Configuration) → restored saved ≡ actual → IsDue session (restore_reply session.changer actual).update
-restored-due laws session saved None e = tt
-restored-due laws session saved (Some c) e = laws.begun session.changer.tracker.floor session.changer.last_index c (((laws.described saved c).0 e).1)
+-- the step of a list has its changes, or none
+step_of-u64 : (kind : StepKind) (changes : List Change) → NameU64 changes → HasU64Ids (step_of kind changes)
+step_of-u64 kind.Simple changes named = named
+step_of-u64 (kind.Enter auto_leave) changes named = named
+step_of-u64 kind.Leave changes named = leave-u64
+
+restored-due : ChangeLaws → (session : SessionState) (saved : ConfStateLists) (actual : Option Configuration) → HasU64Saved saved → restored saved ≡ actual → IsDue session (restore_reply session.changer actual).update
+restored-due laws session saved None small e = tt
+restored-due laws session saved (Some c) small e =
+    (laws.begun session.changer.tracker.floor session.changer.last_index c (((laws.described saved c).0 e).1), restored-u64 saved c small e)
 
 ack-due : ChangeLaws → (session : SessionState) (id index : ℕ) (made : Result Progress AckFault) → IsSession session → ack_answer session.changer.tracker id index ≡ made → IsDue session (ack_reply session.changer id made).update
 ack-due laws session id index (Ok p) is e = (laws.acknowledged session.changer id index p is.sound e, refl)
@@ -208,19 +237,21 @@ undo-due laws plans session count is some = at (undo_plan_of session count) refl
       let Due : List Step → Type 0 = λ s. IsDue session (Undone (undone_changer session s) count) in
       subst Due (sym made.is) (some, taken-sound laws session.changer plan (undone_changer session plan) taken is.sound, made.is_kept ∙ ap Some (sym arrives.there))
 
-command-due : ChangeLaws → PlanLaws → (command : Command) (session : SessionState) (input : Input) (values : Values) → IsSession session → 1 ≤ values.steps → IsDue session (reply_of command session input values).update
-command-due laws plans Simple session input values is some = step-due laws session (SimpleStep input.changes) _ refl
-command-due laws plans EnterJoint session input values is some = step-due laws session (EnterStep values.auto_leave input.changes) _ refl
-command-due laws plans LeaveJoint session input values is some = step-due laws session LeaveStep _ refl
-command-due laws plans ConfChange session input values is some = step-due laws session (step_for values.transition input.changes) _ refl
-command-due laws plans ConfState session input values is some = tt
-command-due laws plans Restore session input values is some = restored-due laws session input.saved (restored input.saved) refl
-command-due laws plans Undo session input values is some = undo-due laws plans session values.steps is some
-command-due laws plans Ack session input values is some = ack-due laws session values.id values.index _ is refl
-command-due laws plans CommitIndex session input values is some = tt
-command-due laws plans Committed session input values is some = tt
-command-due laws plans Vote session input values is some = tt
-command-due laws plans Unknown session input values is some = tt
+command-due : ChangeLaws → PlanLaws → (command : Command) (session : SessionState) (input : Input) (values : Values) → IsSession session → HasU64Input input → 1 ≤ values.steps →
+    IsDue session (reply_of command session input values).update
+command-due laws plans Simple session input values is small some = step-due laws session (SimpleStep input.changes) _ small.changes refl
+command-due laws plans EnterJoint session input values is small some = step-due laws session (EnterStep values.auto_leave input.changes) _ small.changes refl
+command-due laws plans LeaveJoint session input values is small some = step-due laws session LeaveStep _ leave-u64 refl
+command-due laws plans ConfChange session input values is small some =
+    step-due laws session (step_for values.transition input.changes) _ (step_of-u64 (step_kind_of values.transition input.changes) input.changes small.changes) refl
+command-due laws plans ConfState session input values is small some = tt
+command-due laws plans Restore session input values is small some = restored-due laws session input.saved (restored input.saved) small.saved refl
+command-due laws plans Undo session input values is small some = undo-due laws plans session values.steps is some
+command-due laws plans Ack session input values is small some = ack-due laws session values.id values.index _ is refl
+command-due laws plans CommitIndex session input values is small some = tt
+command-due laws plans Committed session input values is small some = tt
+command-due laws plans Vote session input values is small some = tt
+command-due laws plans Unknown session input values is small some = tt
 
 if_read-due : {V : Type 0} (session : SessionState) (reply : V → Reply) (read : Result V (List ℕ)) → ((v : V) → read ≡ Ok v → IsDue session (reply v).update) → IsDue session (if_read reply read).update
 if_read-due session reply (Ok v) h = h v refl
@@ -228,8 +259,8 @@ if_read-due session reply (Err actual) h = tt
 
 row-due : ChangeLaws → PlanLaws → (row : Row) (session : SessionState) (text : List ℕ) (arguments : List ArgumentText) → IsSession session → IsDue session (reply_by row session text arguments).update
 row-due laws plans row session text arguments is =
-    if_read-due session _ (read_input row.input text) (λ input _. if_read-due session _ (read_arguments row.parameters arguments)
-    (λ values e. command-due laws plans row.command session input values is (steps-some row.parameters arguments values e)))
+    if_read-due session _ (read_input row.input text) (λ input read. if_read-due session _ (read_arguments row.parameters arguments)
+    (λ values e. command-due laws plans row.command session input values is (IfOk-at_ok HasU64Input read (input-u64 row.input text)) (steps-some row.parameters arguments values e)))
 
 pub answer-keeps : ChangeLaws → PlanLaws → (session : SessionState) (directive : DirectiveText) → IsSession session → IsSession (answer session directive).session
 answer-keeps laws plans session directive is = due-stays laws session _ is (row-due laws plans (row_of directive.command) session directive.input directive.arguments is)
@@ -240,7 +271,7 @@ answers-keep keeps session [] is = is
 answers-keep keeps session (directive ∷ directives) is = answers-keep keeps (answer session directive).session directives (keeps session directive is)
 
 pub new-is_session : ((floor : Floor) (last_index : ℕ) → IsSound (new_changer floor last_index).tracker) → (history : ℕ) (floor : Floor) → IsSession (new_session history floor)
-new-is_session sound history floor = record { sound = sound floor 0; few = omega arith; led = tt }
+new-is_session sound history floor = record { sound = sound floor 0; few = omega arith; led = tt; u64_ids = All-cons HasU64Lists empty_configuration [] empty-u64 (All-nil HasU64Lists) }
 
 -- ---- the plan that undoes changes
 pub valid-older : (session : SessionState) (count : ℕ) (older : Configuration) → IsEarlier session count older → is_valid older ≡ true
@@ -271,6 +302,8 @@ planned-leads_back law earlier session count steps is some e =
       run = law.back made.older now before.steps is_valid before.run;
       at_most_four = law.at_most_four made.older now before.steps is_valid before.run;
       at_most_three = λ one. law.at_most_three made.older now before.steps is_valid before.run (before.counted ∙ one);
+      u64_ids = planned-u64 now made.older (All-head HasU64Lists now session.kept is.u64_ids)
+          (dropped-u64 session.kept (count - 1) made.older (All-tail HasU64Lists now session.kept is.u64_ids) made.is_kept).0;
     })
 
 pub same-some : (a b : Configuration) → ◌≡◌ {A = Option Configuration} (Some a) (Some b) → a ≡ b

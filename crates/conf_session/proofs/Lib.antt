@@ -6,6 +6,7 @@ mod OutputLines
 mod RepliesInLines
 mod InputLines
 mod SameAnswer
+mod U64Ids
 mod Kept
 mod QuorumValues
 mod ReadValues

@@ -1,11 +1,13 @@
 -- The state of a session, and what holds of every session.
 use Rattle.std.specs.Prelude.{◌≡◌, ℕ, ◌+◌, ◌-◌, ◌^◌, ◌≤◌, true, List, [], ◌∷◌, length, take, drop, min, Ok, ⊤, refl}
+use Rattle.std.specs.List.{All}
 use Rattle.std.specs.Coded.{Coded, coded_ℕ, coded_list, coded×, code_by}
 use Rattle.conf_change.specs.ChangerState.{ChangerState, changer_code}
 use Rattle.conf_change.specs.Changer.{IsSound, new_changer, with_last_index}
 use Rattle.conf_change.specs.Configuration.{Configuration, is_restorable}
 use Rattle.conf_change.specs.ConfigurationCode.{configuration_code}
 use Rattle.conf_change.specs.Outcome.{outcome}
+use Rattle.conf_change.specs.U64Lists.{HasU64Lists}
 use Rattle.conf_change.specs.declared.floor.Floor.{Floor}
 use Rattle.conf_change.specs.declared.step.Step.{Step}
 
@@ -87,8 +89,10 @@ abbrev pub LedTo : Configuration → List Configuration → Type 0
 LedTo now [] = ⊤
 LedTo now (older ∷ kept) = (is_restorable older ≡ true) × Leads older now × LedTo older kept
 
--- the session's tracker is sound, no more configurations are kept than may be, and they lead to the current one
+-- The session's tracker is sound, no more configurations are kept than may be, and they lead to the current one. The ids
+-- of the current and the kept configurations are numbers of 64 bits.
 pub record IsSession (session : SessionState) : Type 0 where
   pub sound : IsSound session.changer.tracker
   pub few : length session.kept ≤ session.history
   pub led : LedTo (current session) session.kept
+  pub u64_ids : All HasU64Lists (current session ∷ session.kept)

@@ -1,9 +1,11 @@
 -- Undoing the last changes of a session.
 use Rattle.std.specs.Prelude.{◌≡◌, ℕ, ◌-◌, ◌≤◌, true, List, ◌++◌, length, Option, Some, None, unwrap_or, Result, Ok, Err, if◌then◌else◌, slice_get, codes, decimal}
+use Rattle.std.specs.List.{All}
 use Rattle.conf_change.specs.ChangerState.{ChangerState}
 use Rattle.conf_change.specs.Configuration.{Configuration, has_voter, is_restorable}
 use Rattle.conf_change.specs.declared.step.Step.{Step}
 use Rattle.conf_plan.specs.Planned.{planned}
+use Rattle.conf_plan.specs.PlanSteps.{HasU64Ids}
 use Rattle.conf_plan.specs.PlanText.{plan_text}
 use Rattle.conf_plan.specs.Run.{IsRun, after_steps}
 use Rattle.conf_session.specs.SessionState.{SessionState, current, Undone}
@@ -51,10 +53,12 @@ pub record IsEarlier (session : SessionState) (count : ℕ) (older : Configurati
   pub counted : length steps ≡ count
   pub voter : has_voter (current session) ≡ true
 
--- the steps lead from the current configuration to the one before the last `count` changes
+-- the steps lead from the current configuration to the one before the last `count` changes, and their ids are numbers of
+-- 64 bits
 pub record LeadsBack (session : SessionState) (count : ℕ) (steps : List Step) : Type 0 where
   pub older : Configuration
   pub is_kept : slice_get session.kept (count - 1) ≡ Some older
   pub run : IsRun (current session) steps older
   pub at_most_four : length steps ≤ 4
   pub at_most_three : count ≡ 1 → length steps ≤ 3
+  pub u64_ids : All HasU64Ids steps

@@ -38,7 +38,8 @@ pub fn kept_lead_to_now()
 }
 
 /// What holds of every session (`IsSession`) still holds after each answer, whatever the directive is: the members fit
-/// the configuration, and accepted steps lead from each kept configuration to the next newer one.
+/// the configuration, accepted steps lead from each kept configuration to the next newer one, and ids are numbers of 64
+/// bits.
 pub fn answer_keeps_session()
     ensures { (session : SessionState) (directive : DirectiveText) → IsSession session
         → IsSession (answer session directive).session }
@@ -62,7 +63,8 @@ pub fn answers_keep_session()
     trackers_stay_sound();
 }
 
-/// The plan that undoes the last changes of a session leads back to the configuration before them.
+/// The plan that undoes the last changes of a session leads back to the configuration before them. Its ids are numbers
+/// of 64 bits.
 pub fn undo_plan_leads_back()
     ensures { (session : SessionState) (count : ℕ) (steps : List Step)
         → IsSession session → 1 ≤ count

@@ -6,7 +6,6 @@ use Rattle.dd_file.specs.DirectiveText.{DirectiveText}
 use Rattle.dd_file.specs.Position.{longest_input}
 use Rattle.dd_file.specs.Grammar.{Script, script_of, listing_of}
 use Rattle.dd_file.specs.declared.item.Item.{Item}
-use Rattle.conf_change.specs.U64Lists.{HasU64Lists}
 use Rattle.conf_change.specs.declared.floor.Floor.{Floor}
 use Rattle.conf_change.specs.declared.floor.Floor.TheVariants.{One}
 use Rattle.quorum_sets.specs.Ids.{has}
@@ -15,7 +14,6 @@ use Rattle.conf_change.specs.declared.step.Step.{Step}
 use Rattle.conf_plan.specs.Best.{IsBest}
 use Rattle.conf_plan.specs.OneChangeEach.{one_change_each, LeadsChangeByChange}
 use Rattle.conf_plan.specs.PathBy.{has_path, ids_down, KeepsPromises}
-use Rattle.conf_plan.specs.PlanSteps.{HasU64Ids, IsPlan}
 use Rattle.conf_session.specs.SessionState.{SessionState, new_session, current}
 use Rattle.conf_session.specs.Commands.{answer, after_answers}
 use Rattle.conf_session.specs.Undo.{undo_plan_of}
@@ -30,7 +28,6 @@ use Rattle.conf_tool.specs.PlanAnswer.{path_text, path_between, plan_text_betwee
 use Rattle.conf_tool.specs.declared.plan_options.PlanOptions.{PlanOptions}
 use Rattle.conf_tool.specs.declared.plan_options.PlanOutput.TheVariants.{Script as ScriptOutput}
 use Rattle.conf_plan.specs.declared.strategy.Strategy.TheVariants.{Shortest}
-use Rattle.std.specs.List.{All}
 use Rattle.conf_tool.specs.Reports.{session_after_all}
 use Rattle.conf_tool.specs.Outputs.{checked, rewritten, undone_output, planned_output, planned_texts, separator}
 use Rattle.conf_tool.specs.UndoScript.{TakesSteps}
@@ -52,20 +49,21 @@ JoinedClean = (script : List ℕ) (history : ℕ) (floor : Floor) (count : ℕ) 
     length joined ≤ longest_input → (checked joined history floor).outcome ≡ Ok Clean
 
 -- A script is read without an error, and a session that runs it takes the steps, one for each directive, and returns to
--- the configuration before its last `count` changes.
+-- the configuration before its last `count` changes. There are at most four steps, or three if one change is undone.
 pub record LeadsBackBy (session : SessionState) (count : ℕ) (steps : List Step) (script : Script Item) : Type 0 where
   pub whole : script.fault ≡ None
   pub taken : TakesSteps session (directives_of script.items) steps
+  pub at_most_four : length steps ≤ 4
+  pub at_most_three : count ≡ 1 → length steps ≤ 3
   pub back : slice_get session.kept (count - 1) ≡ Some (current (session_after_all session script.items))
 
 -- A session that ran a script without an error, and then runs what `undo` prints for it, takes the steps of the plan
--- and comes back. (`IsPlan` holds of each plan that is made: its ids are numbers of 64 bits, and it has at most four
--- steps.)
+-- and comes back.
 abbrev pub UndoScriptLeadsBack : Type 0
 UndoScriptLeadsBack = (script : List ℕ) (history : ℕ) (floor : Floor) (count : ℕ) (steps : List Step) →
     let session = session_after_all (new_session history floor) (script_of script).items in
     let printed = (undone_output script history floor count).text in
-    (script_of script).fault ≡ None → 1 ≤ count → undo_plan_of session count ≡ Ok steps → IsPlan steps → length printed ≤ longest_input →
+    (script_of script).fault ≡ None → 1 ≤ count → undo_plan_of session count ≡ Ok steps → length printed ≤ longest_input →
     LeadsBackBy session count steps (script_of printed)
 
 -- pairs with one more before them, if it was read; else no pairs
@@ -194,17 +192,11 @@ pub data LeadsThrough (options : PlanOptions) : SessionState → List DirectiveT
   WithoutPath : (session : SessionState) (directives : List DirectiveText) (pair : Pair) (pairs : List Pair) (why : List ℕ) →
       path_between options pair ≡ Err why → LeadsThrough options session directives pairs → LeadsThrough options session directives (pair ∷ pairs)
 
--- the ids of the first configuration of a pair are numbers of 64 bits, and so are those of its path
-pub record HasU64Pair (options : PlanOptions) (pair : Pair) : Type 0 where
-  pub now : HasU64Lists pair.current
-  pub steps : (steps : List Step) → path_between options pair ≡ Ok steps → All HasU64Ids steps
-
 -- The text is a script that checks clean without options, and a session that runs it takes the steps of the path of each
--- pair, from its first configuration to the second. (`HasU64Pair` holds of each pair that is read and of each path that
--- is made.)
+-- pair, from its first configuration to the second.
 pub record IsScriptOf (options : PlanOptions) (pairs : List Pair) (text : List ℕ) : Type 0 where
   pub clean : (checked text 100 One).outcome ≡ Ok Clean
-  pub leads : All (HasU64Pair options) pairs → LeadsThrough options default_session (directives_of (script_of text).items) pairs
+  pub leads : LeadsThrough options default_session (directives_of (script_of text).items) pairs
 
 -- The scripts that `plan` prints for the pairs of an input are one script, which leads through the pairs. So does what it
 -- prints for the values of --from and --to.

@@ -9,6 +9,7 @@ pub mod PlanScript
 pub mod Pairs
 pub mod PlanAnswer
 pub mod NextReply
+pub mod OriginText
 pub mod Outputs
 pub mod Answered
 pub mod Run

@@ -53,6 +53,7 @@ pub(crate) const LINES: ModeHelp = ModeHelp {
     about: "Applies one change per line",
     after: "Reads one change per line and applies it to the configuration, which begins
 empty. Prints the configuration after each line, or why the change is refused.
+The exit status is 0 then too, as after a line that is no change.
 
 Changes:
   v1  server 1 becomes a voter
@@ -261,11 +262,13 @@ Keys of a line, of which the first three have to be there:
   commit         what is committed
   pending_conf_index  the index of a change that is not applied, or 0
   progress       what is known of each member: id, match and recent_active
-  running        ids of the servers that were started
+  running        ids of the servers that were started, and not stopped for good
   retired        ids of the servers that were stopped for good
   max_lag        how many entries a member that has caught up may lack
   down           ids of servers that do not come back
-A key that is missing or null is 0, false or empty; other keys are ignored.
+A key that is missing or null is 0, false or empty; other keys are ignored. A
+leader has a conf_index, and its own progress if it is a member. The target has
+no auto-leave.
 
 Answers:
   {\"action\":\"start\",\"ids\":[4]}  and stop and transfer in the same form
@@ -278,7 +281,7 @@ Answers:
 The status is 1 if a line was answered with an error.
 
 For the line
-  {\"conf_state\":{\"voters\":[1]},\"lead\":1,\"running\":[1],\"target\":{\"voters\":[1,2]},\"strategy\":\"learners-first\"}
+  {\"conf_state\":{\"voters\":[1]},\"conf_index\":5,\"lead\":1,\"progress\":[{\"id\":1,\"match\":5}],\"running\":[1],\"target\":{\"voters\":[1,2]},\"strategy\":\"learners-first\"}
 
 it prints
   {\"action\":\"start\",\"ids\":[2]}",

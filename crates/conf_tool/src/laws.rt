@@ -3,7 +3,9 @@
 //! What names no source here is own.
 ghost use Rattle.conf_tool.specs.Laws.{RewrittenClean, JoinedClean, UndoScriptLeadsBack, PairsAreAsked, PrintedPlanIsBest, PrintedPathKeepsPromises, PlanScriptLeads};
 
-use conf_change::laws::{conf_state_describes, one_list_per_text, restored_is_described};
+use conf_change::laws::{
+    conf_state_describes, one_config_per_text, one_list_per_text, restored_is_described,
+};
 use conf_plan::laws::{
     one_change_each_leads, one_plan_per_text, paths_keep_promises, planned_is_best,
 };
@@ -90,5 +92,6 @@ pub fn plan_script_leads()
     conf_state_describes();
     one_plan_per_text();
     one_list_per_text();
+    one_config_per_text();
     paths_keep_promises();
 }

@@ -13,6 +13,11 @@ pub enum Origin {
 }
 
 impl fmt::Display for Origin {
+    ghost use Rattle.std.specs.Prelude.{Some};
+    ghost use Rattle.conf_tool.specs.OriginText.{origin_text};
+
+    ghost output = { λ origin. Some (origin_text origin) };
+
     fn fmt<W: fmt::Write>(&self, f: &mut fmt::Formatter<W>) -> fmt::Result {
         match self {
             Origin::Line(number) => write!(f, "line {number}"),

@@ -59,6 +59,9 @@ pub fn run<R: Source, W: Sink>(
     // Other errors and statuses are only those of the mode.
     ensures read { R.has_failed reader.new ≡ (R.has_failed reader.old || is_read_failure result) }
     ensures write { W.has_failed writer.new ≡ (W.has_failed writer.old || is_write_failure result) }
+    // If a read fails, all that was written has been flushed. Any read may fail, so a run reads only once its replies
+    // are flushed: a program that waits for them before it asks for more is not kept waiting.
+    ensures asks { is_read_failure result ≡ true → W.IsFlushed writer.new }
     ensures kinds { CanAnswer mode result }
 {
     match mode {
@@ -104,6 +107,9 @@ pub fn run_and_flush<R: Source, W: Sink>(
     ensures read { R.has_failed reader.new ≡ (R.has_failed reader.old || is_read_failure result) }
     ensures write { ReportsWrite (W.has_failed (buffered_writer writer.old))
         (W.has_failed (buffered_writer writer.new)) result }
+
+    // A run reads only once its replies are flushed, also below the blocks.
+    ensures asks { is_read_failure result ≡ true → W.IsFlushed (buffered_writer writer.new) }
     ensures kinds { CanAnswer mode result }
 {
     let outcome = run(alloc, mode, options, reader, writer);
@@ -147,6 +153,8 @@ fn flush_after<W: Sink>(
     ensures whole { is_whole_output result ≡ true → NothingBuffered writer.new }
     ensures flushed { W.has_failed (buffered_writer writer.new) ≡ false
         → NothingBuffered writer.new }
+    ensures nothing { NothingBuffered writer.old
+        → buffered_writer writer.new ≡ buffered_writer writer.old }
     ensures read { is_read_failure result ≡ is_read_failure outcome }
     ensures write { (before : Bool) → W.has_failed (buffered_writer writer.old)
         ≡ (before || is_write_failure outcome)

@@ -1,7 +1,7 @@
 -- The codes of the statuses and their texts, which include/confscript.h gives to callers.
 use Rattle.std.specs.Prelude.{ℕ, List, [], ◌∷◌, codes, slice_index_or}
 use Rattle.confscript_c.specs.declared.status.Status.{Status}
-use Rattle.confscript_c.specs.declared.status.Status.TheVariants.{Done, TooSmall, NoMemory, BadConfState, RepeatedId, NotAConfiguration, NoVoter, BadLine, NotAMember, AlreadyJoint, ZeroVoterJoint, NotJoint, SimpleInJoint, RemovedAllVoters, MoreThanOneVoter, ZeroId, NextNotOutgoing, NextAndIncoming, LearnerAndVoter, AddedAgain, NotJointButAutoLeave, DifferentLengths, BadVote, NoQuorum, BadStrategy, JointTarget, BadStep, BadChange, BadOutput, UnknownForm, BadPrinted, BadJson, BadChangeList, DownNotAMember, StrategyMayStall}
+use Rattle.confscript_c.specs.declared.status.Status.TheVariants.{Done, TooSmall, NoMemory, BadConfState, RepeatedId, NotAConfiguration, NoVoter, BadLine, NotAMember, AlreadyJoint, ZeroVoterJoint, NotJoint, SimpleInJoint, RemovedAllVoters, MoreThanOneVoter, ZeroId, NextNotOutgoing, NextAndIncoming, LearnerAndVoter, AddedAgain, NotJointButAutoLeave, DifferentLengths, BadVote, NoQuorum, BadStrategy, JointTarget, BadStep, BadChange, BadOutput, UnknownForm, BadPrinted, BadJson, BadChangeList, DownNotAMember, StrategyMayStall, AutoLeaveTarget, NoConfIndex, NoLeaderProgress}
 
 -- the code of a status; codes never change
 abbrev pub code_of : Status → ℕ
@@ -40,6 +40,9 @@ code_of BadJson = 31
 code_of BadChangeList = 32
 code_of DownNotAMember = 33
 code_of StrategyMayStall = 34
+code_of AutoLeaveTarget = 35
+code_of NoConfIndex = 36
+code_of NoLeaderProgress = 37
 
 -- what the statuses mean, in the order of their codes; the text of a refused step is what the program prints
 abbrev pub status_texts : List (List ℕ)
@@ -78,8 +81,11 @@ status_texts =
     ∷ codes "not the JSON of a configuration: expected voters, voters_outgoing, learners, learners_next and auto_leave, or etcdctl member list -w json, with decimal numbers as ids"
     ∷ codes "not a list of changes: expected changes as r1 v4 l5, or a configuration as voters=(1 2 3), a ConfState line, or JSON"
     ∷ codes "down and not a member"
-    ∷ codes "by this strategy the cluster may stall" ∷ []
+    ∷ codes "by this strategy the cluster may stall"
+    ∷ codes "the target has auto-leave: raft leaves it by itself"
+    ∷ codes "there is a leader, and the index of the configuration is 0"
+    ∷ codes "the leader is a member, and the view has no progress of it" ∷ []
 
--- what the status of a code means; the numbers above 34 are codes of none
+-- what the status of a code means; the numbers above 37 are codes of none
 abbrev pub text_of_code : ℕ → List ℕ
 text_of_code code = slice_index_or status_texts code (codes "unknown status")

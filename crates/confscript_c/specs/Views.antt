@@ -1,5 +1,5 @@
 -- Views in numbers: five numbers, three counts, and what they count. That is three numbers for each member, and ids.
-use Rattle.std.specs.Prelude.{ℕ, ◌+◌, ◌*◌, Bool, ◌==◌, ◌&&◌, List, length, map, nat_eq, nat_le, Result, Ok, Err, if◌then◌else◌}
+use Rattle.std.specs.Prelude.{ℕ, ◌+◌, ◌*◌, Bool, not, ◌==◌, ◌&&◌, List, length, map, nat_eq, nat_le, Result, Ok, Err, if◌then◌else◌}
 use Rattle.std.specs.List.{list_all, range_with_len, slice_index, slice_range}
 use Rattle.quorum_sets.specs.Ids.{Ids, has, ids_of}
 use Rattle.conf_change.specs.Configuration.{Configuration}
@@ -36,6 +36,14 @@ has_flag numbers member = nat_le (slice_index numbers (member_at member + 2)) 1
 -- whether each member has one
 abbrev pub have_flags : List ℕ → Bool
 have_flags numbers = list_all (has_flag numbers) (member_indices numbers)
+
+-- whether the id of a member is not 0, which is no id
+abbrev pub has_id : List ℕ → ℕ → Bool
+has_id numbers member = not (nat_eq (slice_index numbers (member_at member)) 0)
+
+-- whether that of each member is not
+abbrev pub have_ids : List ℕ → Bool
+have_ids numbers = list_all (has_id numbers) (member_indices numbers)
 
 -- whether the array has that length, and each member a flag
 abbrev pub has_view_form : List ℕ → Bool
@@ -78,6 +86,8 @@ view_of now numbers (Ok running) (Ok retired) = Ok (record {
 abbrev pub view_in : Configuration → List ℕ → Result ViewState Answer
 view_in now numbers =
     if has_view_form numbers then
+    (if have_ids numbers then
     view_of now numbers (ids_or_answer (slice_range numbers (running_at numbers) (retired_at numbers)))
     (ids_or_answer (slice_range numbers (retired_at numbers) (length numbers)))
+    else Err (status_answer ZeroId 0))
     else Err (status_answer DifferentLengths 0)

@@ -25,8 +25,9 @@ use std::alloc::Global;
 /// reused), how many ids it names, the ids, and for a proposal its stage as `confscript_stages` writes it. The number
 /// is how many numbers are written. The configuration is the one that the leader has applied, and the view has what
 /// else is known of the cluster. An id that is down may be a member of neither configuration: it is ignored. The call
-/// is refused as `confscript_stages`, if the strategy is the shortest plan, or if the array of the view has another
-/// form or the id 0 (own).
+/// is refused as `confscript_stages`, if the strategy is the shortest plan, if the array of the view has another form or
+/// the id 0, if the target has auto-leave, and if there is a leader and the index of the configuration is 0, or its own
+/// progress is missing while it is a member (own).
 #[unsafe(no_mangle)]
 pub extern "C" fn confscript_next(
     alloc: Global,
@@ -116,6 +117,9 @@ fn no_action_answer(why: NextFault) -> Answer
 {
     match why {
         NextFault::Shortest => Answer::new(Status::StrategyMayStall, 0),
+        NextFault::AutoLeaveTarget => Answer::new(Status::AutoLeaveTarget, 0),
+        NextFault::NoConfIndex => Answer::new(Status::NoConfIndex, 0),
+        NextFault::NoLeaderProgress => Answer::new(Status::NoLeaderProgress, 0),
         NextFault::NoVoterNow => Answer::new(Status::NoVoter, 1),
         NextFault::NoVoterTarget => Answer::new(Status::NoVoter, 2),
         NextFault::JointTarget => Answer::new(Status::JointTarget, 0),

@@ -73,10 +73,16 @@ pub enum Status {
     DownNotAMember = 33,
     /// By the strategy a new voter votes with an empty log, so that the cluster may stall.
     StrategyMayStall = 34,
+    /// The target has auto-leave, so raft leaves it by itself.
+    AutoLeaveTarget = 35,
+    /// There is a leader, and no index makes the configuration known.
+    NoConfIndex = 36,
+    /// The leader is a member, and the view has no progress of it.
+    NoLeaderProgress = 37,
 }
 
 impl Status {
-    /// The code of the status, from 0 to 34.
+    /// The code of the status, from 0 to 37.
     pub fn code(self) -> u32
         ensures { result ≡ code_of self }
     {
@@ -140,6 +146,9 @@ fn text_of_code(code: u32) -> &'static str
             "not a list of changes: expected changes as r1 v4 l5, or a configuration as voters=(1 2 3), a ConfState line, or JSON",
         33 => "down and not a member",
         34 => "by this strategy the cluster may stall",
+        35 => "the target has auto-leave: raft leaves it by itself",
+        36 => "there is a leader, and the index of the configuration is 0",
+        37 => "the leader is a member, and the view has no progress of it",
         _ => "unknown status",
     }
 }

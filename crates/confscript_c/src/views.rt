@@ -19,8 +19,8 @@ use conf_driver::{MemberView, View};
 use quorum_sets::{InlineIds, MemberSet, NoMemory};
 use std::alloc::Global;
 
-/// The view of an array, in which a configuration is applied. The form is looked at first, then the servers that run,
-/// and those that are retired. 0 is not an id of these.
+/// The view of an array, in which a configuration is applied. The form is looked at first, then the ids of the members,
+/// the servers that run, and those that are retired. 0 is not an id of these.
 pub(crate) fn view_in(
     alloc: Global,
     now: Config<InlineIds>,
@@ -32,6 +32,9 @@ pub(crate) fn view_in(
 {
     if !has_view_form(numbers) {
         return Err(Answer::new(Status::DifferentLengths, 0));
+    }
+    if !has_ids(numbers) {
+        return Err(Answer::new(Status::ZeroId, 0));
     }
     let running = 8 + 3 * numbers[5] as usize;
     let retired = running + numbers[6] as usize;
@@ -78,6 +81,19 @@ fn has_flags(numbers: &[u64]) -> bool
 {
     for member in 0..numbers[5] as usize {
         if numbers[8 + 3 * member + 2] > 1 {
+            return false;
+        }
+    }
+    true
+}
+
+// Whether the id of no member is 0.
+fn has_ids(numbers: &[u64]) -> bool
+    requires { spec.has_length numbers.now ≡ true }
+    ensures { result ≡ spec.have_ids numbers.now }
+{
+    for member in 0..numbers[5] as usize {
+        if numbers[8 + 3 * member] == 0 {
             return false;
         }
     }

@@ -94,3 +94,9 @@ pub record ReadsOn {R A : Type 0} (remaining : R → Option (List ℕ)) (has_fai
   pub kind : old.fault ≡ None → IfErr result (IsFault old.position)
   -- the reader has failed exactly when it had failed before, or `Read` is returned
   pub read : old.fault ≡ None → has_failed after ≡ (has_failed before || is_read_fault result)
+
+-- A call that may read for a program that replies: the reader was not called, or the replies were flushed before. A read
+-- that failed was a call, though it may have left the reader as it was.
+abbrev pub FlushesFirst : {R W X F : Type 0} → (W → Type 0) → R → R → W → Result (Result X FileFault) F → Type 0
+FlushesFirst IsFlushed before after writer (Ok answer) = IsFlushed writer ⊎ ((after ≡ before) × (is_read_fault answer ≡ false))
+FlushesFirst IsFlushed before after writer (Err fault) = after ≡ before

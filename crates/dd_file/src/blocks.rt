@@ -58,6 +58,8 @@ impl<W: Sink> Blocks<W> {
         ensures room { OnOk result (vec_len self.new.block ≡ 0) }
         ensures again { W.has_failed (buffered_writer self.old) ≡ true → IsErr result
             × (self.new ≡ self.old) }
+        ensures nothing { NothingBuffered self.old
+            → buffered_writer self.new ≡ buffered_writer self.old }
         ensures failed { W.has_failed (buffered_writer self.new)
             ≡ (W.has_failed (buffered_writer self.old) || is_err result) }
     {
@@ -110,6 +112,9 @@ impl<W: Sink> Blocks<W> {
         // An error is permanent, and the writer is not called again.
         ensures again { W.has_failed (buffered_writer self.old) ≡ true → IsErr result
             × (self.new ≡ self.old) }
+        // If nothing is buffered, the writer is as it was.
+        ensures nothing { NothingBuffered self.old
+            → buffered_writer self.new ≡ buffered_writer self.old }
         // The writer has failed exactly when it had failed before, or an error is returned.
         ensures failed { W.has_failed (buffered_writer self.new)
             ≡ (W.has_failed (buffered_writer self.old) || is_err result) }
@@ -136,11 +141,11 @@ impl<W: Sink> Blocks<W> {
 }
 
 impl<W: Sink> Sink for Blocks<W> {
-    ghost use Rattle.dd_file.specs.Gathered.{buffered_writer, gathered_bytes};
+    ghost use Rattle.dd_file.specs.Gathered.{buffered_writer, gathered_bytes, NothingBuffered};
 
     ghost contents = { gathered_bytes W.contents };
 
-    ghost reached = { λ s. W.reached s.writer };
+    ghost IsFlushed = { λ s. NothingBuffered s × W.IsFlushed s.writer };
 
     ghost has_failed = { λ s. W.has_failed s.writer };
 

@@ -5,7 +5,7 @@ ghost use Rattle.dd_file.specs.Position.{longest_input};
 ghost use Rattle.dd_file.specs.Grammar.{next_of};
 ghost use Rattle.dd_file.specs.ReaderState.{IsBounded, fresh};
 ghost use Rattle.dd_file.specs.Buffered.{IsFirstBuffered, within_limit};
-ghost use Rattle.dd_file.specs.Answer.{ReadsOn, fault_of};
+ghost use Rattle.dd_file.specs.Answer.{ReadsOn, FlushesFirst, fault_of};
 ghost use Rattle.dd_file.specs.Draft.{DraftOf, IsNew};
 
 use crate::device::{Nowhere, Sink, Source};
@@ -76,6 +76,8 @@ impl<D: Draft + Drop> Parts<D> {
             D.IsFault self.old self.new reader.old reader.new) }
         ensures buffered { IsFirstBuffered D.first_item self.old
             → (reader.new ≡ reader.old) × (writer.new ≡ writer.old) }
+        ensures flushed { self.old.fault ≡ None
+            → FlushesFirst W.IsFlushed reader.old reader.new writer.new result }
         ensures unread { OnErr result ((self.new ≡ self.old) × (reader.new ≡ reader.old)) }
         ensures kept { Keeps (W.contents writer.old) (W.contents writer.new) }
         ensures write { W.has_failed writer.new ≡ (W.has_failed writer.old || is_err result) }
@@ -132,6 +134,7 @@ fn read<D: Draft + Drop, R: Source, W: Sink>(
         reader.old reader.new answer) }
     ensures buffered { IsFirstBuffered D.first_item input.old → (reader.new ≡ reader.old)
         × (writer.new ≡ writer.old) }
+    ensures flushed { FlushesFirst W.IsFlushed reader.old reader.new writer.new result }
     ensures unread { OnErr result ((input.new ≡ input.old) × (reader.new ≡ reader.old)) }
     ensures kept { Keeps (W.contents writer.old) (W.contents writer.new) }
     ensures write { W.has_failed writer.new ≡ (W.has_failed writer.old || is_err result) }
@@ -150,7 +153,7 @@ fn read<D: Draft + Drop, R: Source, W: Sink>(
             if writer.flush_all().is_err() {
                 return Err(WriteFault);
             }
-            Ok(read_rest(draft, scan, input, reader, writer))
+            Ok(read_rest(draft, scan, input, reader))
         }
         Err(_) => Ok(Err(FileFault::NoMemory)),
     }
@@ -158,24 +161,21 @@ fn read<D: Draft + Drop, R: Source, W: Sink>(
 
 /// Reads until all lines of the next part are buffered or the input has ended, and returns the part. The draft has the
 /// lines that are buffered. This call may wait for input, so the output is to be flushed before it.
-fn read_rest<D: Draft + Drop, R: Source, W: Sink>(
+fn read_rest<D: Draft + Drop, R: Source>(
     mut draft: D,
     mut scan: Scan,
     input: &mut Input,
     reader: &mut R,
-    writer: &W,
 ) -> Result<Option<D::Part>, FileFault>
     requires so_far { DraftOf D.first_item D.begun D.Fits draft scan (within_limit input.old) }
     requires open_end { (D.begun draft).is_done ≡ false }
     requires searched { scan.bytes + scan.searched ≡ length (within_limit input.old) }
     requires faultless { input.old.fault ≡ None }
     requires unended { input.old.is_ended ≡ false }
-    requires flushed { W.reached writer.now ≡ W.contents writer.now }
     ensures { ReadsOn R.remaining R.has_failed (next_of D.first_item D.numbered longest_input)
         D.IsFault input.old
         (record input.new { fault = fault_of result }) reader.old reader.new result }
 {
-    let _ = writer;
     D::parts_are_of_a_grammar();
     let first = input.count() + 1;
     'read: loop {

@@ -4,6 +4,7 @@ use Rattle.quorum_sets.specs.Ids.{Ids, ascending, is_empty}
 use Rattle.conf_change.specs.Configuration.{Configuration, has_voter}
 use Rattle.conf_change.specs.declared.step.Step.{Step}
 use Rattle.conf_driver.specs.Next.{next_of}
+use Rattle.conf_driver.specs.View.{ViewState, lacks_conf_index, lacks_leader_progress}
 use Rattle.conf_driver.specs.declared.action.Action.{Action}
 use Rattle.conf_driver.specs.declared.action.Action.TheVariants.{Start, Stop, Transfer, Propose, Wait, Stuck, Done}
 use Rattle.conf_driver.specs.declared.action.StuckReason.{StuckReason}
@@ -77,17 +78,29 @@ action_json q (Stuck why ids) = object (ids_members (codes "stuck") (ascending i
 action_json q Done = done_json
 
 -- ---- answers
--- why there is no answer, by whether each configuration has a voter, and whether there is a path
+-- why there is no path, by whether each configuration has a voter, and whether the strategy has one
 abbrev pub no_path : Bool → Bool → Bool → Option NextFault
 no_path false target path = Some refused.NoVoterNow
 no_path true false path = Some refused.NoVoterTarget
 no_path true true false = Some refused.JointTarget
 no_path true true true = None
 
-abbrev pub no_path_by : Strategy → Configuration → Configuration → Option NextFault
-no_path_by Shortest now target = Some refused.Shortest
-no_path_by LearnersFirst now target = no_path (has_voter now) (has_voter target) (has_path LearnersFirst now target)
-no_path_by OneAtATime now target = no_path (has_voter now) (has_voter target) (has_path OneAtATime now target)
+-- why there is no answer, if the target stays and the view is complete: that there is no path by the strategy
+abbrev pub no_path_by : Strategy → Configuration → ViewState → Option NextFault
+no_path_by strategy target view = no_path (has_voter view.conf_state) (has_voter target) (has_path strategy view.conf_state target)
+
+-- why there is no answer by a strategy that is not the shortest one
+abbrev pub no_answer_by : Strategy → Configuration → ViewState → Option NextFault
+no_answer_by strategy target view =
+    if target.auto_leave then Some refused.AutoLeaveTarget
+    else (if lacks_conf_index view then Some refused.NoConfIndex
+    else (if lacks_leader_progress view then Some refused.NoLeaderProgress else no_path_by strategy target view))
+
+-- why there is no answer
+abbrev pub no_answer : Strategy → Configuration → ViewState → Option NextFault
+no_answer Shortest target view = Some refused.Shortest
+no_answer LearnersFirst target view = no_answer_by LearnersFirst target view
+no_answer OneAtATime target view = no_answer_by OneAtATime target view
 
 -- the action, unless there is none for this reason
 abbrev pub unless_refused : Option NextFault → Action → Result Action LineFault
@@ -96,7 +109,7 @@ unless_refused (Some why) action = Err (NoAnswer why)
 
 -- what to do next
 abbrev pub action_for : Question → Result Action LineFault
-action_for q = unless_refused (no_path_by q.strategy q.view.conf_state q.target) (next_of q.strategy q.target q.down q.view)
+action_for q = unless_refused (no_answer q.strategy q.target q.view) (next_of q.strategy q.target q.down q.view)
 
 -- the object that answers a line, or why it is refused
 abbrev pub answer_to : List ℕ → Result Data LineFault

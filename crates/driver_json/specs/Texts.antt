@@ -66,6 +66,9 @@ violation_text NotJointButAutoLeave = codes "auto-leave without outgoing voters"
 -- why there is no answer
 abbrev pub no_answer_text : NextFault → List ℕ
 no_answer_text no_answer.Shortest = codes "the strategy is shortest: its new voters may stall the cluster"
+no_answer_text no_answer.AutoLeaveTarget = codes "the target has auto-leave: raft leaves it by itself"
+no_answer_text no_answer.NoConfIndex = codes "there is a leader, and conf_index is 0"
+no_answer_text no_answer.NoLeaderProgress = codes "the leader is a member, and progress has no entry of it"
 no_answer_text no_answer.NoVoterNow = codes "no plan: the current configuration has no voter"
 no_answer_text no_answer.NoVoterTarget = codes "no plan: the target has no voter"
 no_answer_text no_answer.JointTarget = codes "no plan: the target is joint"

@@ -96,6 +96,9 @@ fn no_answer_text(why: NextFault) -> &'static str
 {
     match why {
         NextFault::Shortest => "the strategy is shortest: its new voters may stall the cluster",
+        NextFault::AutoLeaveTarget => "the target has auto-leave: raft leaves it by itself",
+        NextFault::NoConfIndex => "there is a leader, and conf_index is 0",
+        NextFault::NoLeaderProgress => "the leader is a member, and progress has no entry of it",
         NextFault::NoVoterNow => "no plan: the current configuration has no voter",
         NextFault::NoVoterTarget => "no plan: the target has no voter",
         NextFault::JointTarget => "no plan: the target is joint",

@@ -3,6 +3,7 @@ mod Forms
 mod FormsRead
 mod JsonForm
 mod Refusals
+mod ShownTokens
 mod TextItems
 mod ValidTargets
 mod WorkedExamples

@@ -32,6 +32,11 @@ impl IdHint {
 }
 
 impl fmt::Display for IdHint {
+    ghost use Rattle.std.specs.Prelude.{Some};
+    ghost use Rattle.plan_input.specs.HexadecimalId.{id_hint_text};
+
+    ghost output = { λ hint. Some (id_hint_text hint) };
+
     /// A shell command that prints the id, or nothing.
     fn fmt<W: fmt::Write>(&self, f: &mut fmt::Formatter<W>) -> fmt::Result {
         if let Some(id) = self.id {

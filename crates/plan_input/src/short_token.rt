@@ -1,6 +1,6 @@
 //! A token that an error names.
 ghost use Rattle.std.specs.Prelude.{◌≡◌};
-ghost use Rattle.plan_input.specs.ShortToken.{short_token};
+ghost use Rattle.plan_input.specs.ShortToken.{short_token, visible};
 
 use std::fmt;
 
@@ -30,19 +30,30 @@ impl ShortToken {
 }
 
 impl fmt::Display for ShortToken {
+    ghost use Rattle.std.specs.Prelude.{Some};
+    ghost use Rattle.plan_input.specs.ShortToken.{short_token_text};
+
+    ghost output = { λ token. Some (short_token_text token) };
+
     /// The token, with `?` for each byte that is not a visible character of ASCII, and `..` where it was cut.
     fn fmt<W: fmt::Write>(&self, f: &mut fmt::Formatter<W>) -> fmt::Result {
-        for byte in self.bytes.iter().take(self.len) {
-            let shown = if byte.is_ascii_graphic() {
-                char::from(*byte)
-            } else {
-                '?'
-            };
-            write!(f, "{shown}")?;
+        for byte in &self.bytes[..self.len.min(LONGEST)] {
+            f.write_char(visible(*byte))?;
         }
         if self.len > LONGEST {
-            write!(f, "..")?;
+            f.write_str("..")?;
         }
         Ok(())
+    }
+}
+
+// The character that shows a byte: itself if it is a visible one of ASCII, or else `?`.
+fn visible(byte: u8) -> char
+    ensures { result ≡ visible byte }
+{
+    if byte.is_ascii_graphic() {
+        char::from(byte)
+    } else {
+        '?'
     }
 }

@@ -25,13 +25,14 @@ enum Answer {
     Fault(NextFault),
 }
 
-// A view in which the configuration is known with index 5.
+// A view of a cluster, and the answer.
 #[derive(Clone, Copy)]
 struct Row {
     strategy: Strategy,
     now: &'static str,
     target: &'static str,
     down: &'static [u64],
+    conf_index: u64,
     lead: u64,
     commit: u64,
     pending: u64,
@@ -67,6 +68,7 @@ const PLAIN: Row = Row {
     now: THREE,
     target: TARGET,
     down: &[],
+    conf_index: 5,
     lead: 1,
     commit: 9,
     pending: 0,
@@ -77,7 +79,7 @@ const PLAIN: Row = Row {
     answer: Answer::Propose("simple", "l4"),
 };
 
-static ROWS: [Row; 28] = [
+static ROWS: [Row; 41] = [
     // 1
     Row {
         down: &[2, 3],
@@ -97,7 +99,34 @@ static ROWS: [Row; 28] = [
         answer: Answer::Wait(WaitReason::NoLeader, &[3]),
         ..PLAIN
     },
-    // 4
+    // 4: a leader that was removed cannot add the entry after the change, whose index is 5
+    Row {
+        now: ONE_TWO,
+        target: ONE_TWO,
+        lead: 3,
+        commit: 4,
+        members: &[(1, 4, true), (2, 4, true)],
+        answer: Answer::Transfer(1),
+        ..PLAIN
+    },
+    Row {
+        now: ONE_TWO,
+        target: ONE_TWO,
+        lead: 3,
+        pending: 4,
+        members: &[(1, 3, true), (2, 3, true)],
+        answer: Answer::Wait(WaitReason::Behind, &[1, 2]),
+        ..PLAIN
+    },
+    Row {
+        now: ONE_TWO,
+        target: ONE_TWO,
+        lead: 3,
+        members: &[(1, 3, true)],
+        answer: Answer::Wait(WaitReason::Unheard, &[2]),
+        ..PLAIN
+    },
+    // 5
     Row {
         now: JOINT,
         lead: 3,
@@ -105,7 +134,13 @@ static ROWS: [Row; 28] = [
         answer: Answer::Transfer(1),
         ..PLAIN
     },
-    // 5
+    Row {
+        lead: 3,
+        pending: 10,
+        answer: Answer::Transfer(1),
+        ..PLAIN
+    },
+    // 6
     Row {
         pending: 10,
         members: &[(1, 10, true), (2, 9, true), (3, 10, true)],
@@ -117,7 +152,7 @@ static ROWS: [Row; 28] = [
         answer: Answer::Wait(WaitReason::Pending, &[1]),
         ..PLAIN
     },
-    // 6
+    // 7
     Row {
         target: "Voters:[3 4] VotersOutgoing:[] Learners:[] LearnersNext:[] AutoLeave:false",
         down: &[4],
@@ -125,20 +160,34 @@ static ROWS: [Row; 28] = [
         answer: Answer::Stuck(StuckReason::Stalls, &[4]),
         ..PLAIN
     },
-    // 7
+    // 8
     Row {
         running: &[1, 2, 3],
         retired: &[4],
         answer: Answer::Stuck(StuckReason::Reused, &[4]),
         ..PLAIN
     },
-    // 8
+    Row {
+        now: LEARNING,
+        running: &[1, 2, 3],
+        retired: &[4],
+        answer: Answer::Stuck(StuckReason::Reused, &[4]),
+        ..PLAIN
+    },
+    // 9
     Row {
         running: &[1, 2, 3],
         answer: Answer::Start(&[4]),
         ..PLAIN
     },
-    // 9
+    Row {
+        now: LEARNING,
+        target: THREE,
+        running: &[1, 2, 3],
+        answer: Answer::Propose("simple", "r4"),
+        ..PLAIN
+    },
+    // 10
     Row {
         now: ONE_TWO,
         target: ONE_TWO,
@@ -154,14 +203,30 @@ static ROWS: [Row; 28] = [
         answer: Answer::Wait(WaitReason::Behind, &[2]),
         ..PLAIN
     },
-    // 10
+    Row {
+        now: ONE_TWO,
+        target: ONE_TWO,
+        members: &[(1, 9, true), (2, 9, false)],
+        running: &[1, 2, 3],
+        answer: Answer::Wait(WaitReason::Unheard, &[2]),
+        ..PLAIN
+    },
+    Row {
+        now: LEARNING,
+        target: LEARNING,
+        members: &[(1, 9, true), (2, 9, true), (3, 9, true), (4, 4, true)],
+        running: &[1, 2, 3, 4, 5],
+        answer: Answer::Wait(WaitReason::Behind, &[4]),
+        ..PLAIN
+    },
+    // 11
     Row {
         now: LEAVING,
         members: &[(1, 9, true), (2, 9, true), (3, 4, true), (4, 9, true)],
         answer: Answer::Wait(WaitReason::Leaving, &[3]),
         ..PLAIN
     },
-    // 11
+    // 12
     Row {
         now: JOINT,
         lead: 3,
@@ -175,7 +240,7 @@ static ROWS: [Row; 28] = [
         answer: Answer::Transfer(2),
         ..PLAIN
     },
-    // 12
+    // 13
     Row {
         strategy: Strategy::OneAtATime,
         target: TWO_THREE,
@@ -184,7 +249,7 @@ static ROWS: [Row; 28] = [
         answer: Answer::Wait(WaitReason::Behind, &[2, 3]),
         ..PLAIN
     },
-    // 13
+    // 14
     Row {
         target: THREE,
         down: &[3],
@@ -200,7 +265,7 @@ static ROWS: [Row; 28] = [
         answer: Answer::Wait(WaitReason::Unheard, &[3]),
         ..PLAIN
     },
-    // 14
+    // 15
     Row {
         now: LEARNING,
         commit: 60,
@@ -216,7 +281,23 @@ static ROWS: [Row; 28] = [
         answer: Answer::Propose("enter-joint autoleave=false", "r3 v4"),
         ..PLAIN
     },
-    // 15
+    Row {
+        strategy: Strategy::OneAtATime,
+        now: "Voters:[1 2] VotersOutgoing:[] Learners:[3] LearnersNext:[] AutoLeave:false",
+        target: THREE,
+        members: &[(1, 9, true), (2, 9, true)],
+        running: &[1, 2, 3],
+        answer: Answer::Wait(WaitReason::Unheard, &[3]),
+        ..PLAIN
+    },
+    // 16
+    Row {
+        now: LEARNING,
+        members: &[(1, 9, true), (2, 9, true), (3, 4, true), (4, 9, true)],
+        answer: Answer::Wait(WaitReason::Behind, &[3]),
+        ..PLAIN
+    },
+    // 17
     Row {
         strategy: Strategy::OneAtATime,
         target: "Voters:[1 2 3 4] VotersOutgoing:[] Learners:[] LearnersNext:[] AutoLeave:false",
@@ -224,14 +305,14 @@ static ROWS: [Row; 28] = [
         answer: Answer::Wait(WaitReason::Unheard, &[2, 3]),
         ..PLAIN
     },
-    // 16
+    // 18
     Row {
         now: LEARNING,
-        members: &[(1, 9, true), (2, 9, true), (3, 9, true), (4, 9, false)],
-        answer: Answer::Wait(WaitReason::Unheard, &[4]),
+        members: &[(1, 9, true), (2, 9, true), (3, 9, false), (4, 9, true)],
+        answer: Answer::Wait(WaitReason::Unheard, &[3]),
         ..PLAIN
     },
-    // 17
+    // 19
     PLAIN,
     Row {
         now: LEARNING,
@@ -249,6 +330,21 @@ static ROWS: [Row; 28] = [
     Row {
         strategy: Strategy::Shortest,
         answer: Answer::Fault(NextFault::Shortest),
+        ..PLAIN
+    },
+    Row {
+        target: LEAVING,
+        answer: Answer::Fault(NextFault::AutoLeaveTarget),
+        ..PLAIN
+    },
+    Row {
+        conf_index: 0,
+        answer: Answer::Fault(NextFault::NoConfIndex),
+        ..PLAIN
+    },
+    Row {
+        members: &[(2, 9, true), (3, 9, true)],
+        answer: Answer::Fault(NextFault::NoLeaderProgress),
         ..PLAIN
     },
     Row {
@@ -291,7 +387,7 @@ fn members_of(alloc: Global, list: &[(u64, u64, bool)]) -> Result<Vec<MemberView
 fn view_of(alloc: Global, row: &Row, now: &Config<InlineIds>) -> Result<View, NoMemory> {
     Ok(View {
         conf_state: now.try_clone()?,
-        conf_index: 5,
+        conf_index: row.conf_index,
         lead: row.lead,
         commit: row.commit,
         pending_conf_index: row.pending,

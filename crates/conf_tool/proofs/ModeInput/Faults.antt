@@ -1,6 +1,6 @@
 -- Faults that end a run.
 use Rattle.std.proofs.Common.{◌≡◌, ℕ, Bool, false, ◌||◌, List, sym, ◌∙◌, ap, subst, inl, inr, arith}
-use Rattle.std.specs.Prelude.{Option, Err}
+use Rattle.std.specs.Prelude.{◌⊎◌, true, Option, Err}
 use Rattle.dd_file.specs.Device.{AppendsPart}
 use Rattle.dd_file.specs.Answer.{IsInterrupted}
 use Rattle.dd_file.specs.Answer as reader
@@ -48,6 +48,13 @@ reader-read fault converted x2 = grind arith
 
 pub reader-unwritten : (fault : FileFault) (converted : ToolFault) → IsOfReader fault converted → is_write_failure {X = Status} (Err converted) ≡ false
 reader-unwritten fault converted x2 = grind arith
+
+-- a read that failed came after a flush
+pub reader-flushed : (Flushed Unread X : Type 0) (fault : FileFault) (converted : ToolFault) → IsOfReader fault converted → is_read_failure {X = Status} (Err converted) ≡ true
+    → Flushed ⊎ (Unread × (reader.is_read_fault {X = X} (Err fault) ≡ false)) → Flushed
+reader-flushed Flushed Unread X fault converted CutByRead failed (inl flushed) = flushed
+reader-flushed Flushed Unread X fault converted CutByRead failed (inr unread) = let bad : true ≡ false = unread.1 in cc
+reader-flushed Flushed Unread X fault converted CutByMemory failed either = let bad : false ≡ true = failed in cc
 
 -- a call that fails so, after none did
 pub or-fault : (start now later fault converted : Bool) → later ≡ (now || fault) → converted ≡ fault → now ≡ start → later ≡ (start || converted)

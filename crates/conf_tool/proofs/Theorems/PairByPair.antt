@@ -30,13 +30,13 @@ use Rattle.conf_tool.specs.declared.plan_options.PlanOptions.{PlanOptions}
 use Rattle.conf_tool.proofs.Modes.Plan.{texts-planned}
 
 -- ---- what is known of a pair that was read
-record WasRead (options : PlanOptions) (first second : List ℕ) (pair : Pair) : Type 0 where
-  current : current_in first ≡ Ok pair.current
-  target : target_in pair.current second ≡ Ok pair.target
-  strategy : pair.strategy ≡ strategy_from options.strategy (is_member_list first)
-  members : first_nonmember options.down pair.current pair.target ≡ None
+pub record WasRead (options : PlanOptions) (first second : List ℕ) (pair : Pair) : Type 0 where
+  pub current : current_in first ≡ Ok pair.current
+  pub target : target_in pair.current second ≡ Ok pair.target
+  pub strategy : pair.strategy ≡ strategy_from options.strategy (is_member_list first)
+  pub members : first_nonmember options.down pair.current pair.target ≡ None
 
-pair-read : (options : PlanOptions) (from to : Origin) (first second : List ℕ) (pair : Pair) → pair_written options from first to second ≡ Ok pair → WasRead options first second pair
+pub pair-read : (options : PlanOptions) (from to : Origin) (first second : List ℕ) (pair : Pair) → pair_written options from first to second ≡ Ok pair → WasRead options first second pair
 pair-read options from to first second pair e = by_first (current_in first) refl e
   where
     strategy : Strategy
@@ -105,26 +105,30 @@ pairs-asked = record {
   texts = λ options from to pair. (pair-asked options From To from to pair);
 }
 
-named-valid_pairs : (options : PlanOptions) (lines : List NumberedLine) → All AreValid (named_pairs options lines)
-named-valid_pairs options [] = All-nil AreValid
-named-valid_pairs options (line ∷ []) = All-nil AreValid
-named-valid_pairs options (first ∷ second ∷ lines) = by_pair (pair_at options first second) refl (named-valid_pairs options lines)
-  where
-    by_pair : (read : Result Pair PlanInputFault) → pair_at options first second ≡ read → All AreValid (named_pairs options lines) → All AreValid (pair_before read (named_pairs options lines))
-    by_pair (Err bad) is rest = All-nil AreValid
-    by_pair (Ok pair) is rest = All-cons AreValid pair (named_pairs options lines) (pair-valid options (Line first.number) (Line second.number) first.text second.text pair is) rest
+-- what holds of each pair of two texts that is read
+abbrev pub HoldsOfPairs : PlanOptions → (Pair → Type 0) → Type 0
+HoldsOfPairs options Holds = (from to : Origin) (first second : List ℕ) (pair : Pair) → pair_written options from first to second ≡ Ok pair → Holds pair
 
--- each pair that an input denotes is of valid configurations
-pub all-valid : (options : PlanOptions) (input : List ℕ) → All AreValid (pairs_in options input)
-all-valid options input = named-valid_pairs options (configuration_lines (numbered 1 (listing_of input).items))
-
--- nor is the pair of the values of --from and --to of others
-pub texts-valid : (options : PlanOptions) (from to : List ℕ) → All AreValid (pairs_in_texts options from to)
-texts-valid options from to = by (pair_of_texts options from to) refl
+named-pairs : (options : PlanOptions) (Holds : Pair → Type 0) → HoldsOfPairs options Holds → (lines : List NumberedLine) → All Holds (named_pairs options lines)
+named-pairs options Holds holds [] = All-nil Holds
+named-pairs options Holds holds (line ∷ []) = All-nil Holds
+named-pairs options Holds holds (first ∷ second ∷ lines) = by_pair (pair_at options first second) refl (named-pairs options Holds holds lines)
   where
-    by : (read : Result Pair PlanInputFault) → pair_of_texts options from to ≡ read → All AreValid (pair_before read [])
-    by (Err bad) is = All-nil AreValid
-    by (Ok pair) is = All-cons AreValid pair [] (pair-valid options From To from to pair is) (All-nil AreValid)
+    by_pair : (read : Result Pair PlanInputFault) → pair_at options first second ≡ read → All Holds (named_pairs options lines) → All Holds (pair_before read (named_pairs options lines))
+    by_pair (Err bad) is rest = All-nil Holds
+    by_pair (Ok pair) is rest = All-cons Holds pair (named_pairs options lines) (holds (Line first.number) (Line second.number) first.text second.text pair is) rest
+
+-- .. holds of each pair that an input denotes
+pub all-pairs : (options : PlanOptions) (Holds : Pair → Type 0) → HoldsOfPairs options Holds → (input : List ℕ) → All Holds (pairs_in options input)
+all-pairs options Holds holds input = named-pairs options Holds holds (configuration_lines (numbered 1 (listing_of input).items))
+
+-- .. and of the pair of the values of --from and --to
+pub texts-pairs : (options : PlanOptions) (Holds : Pair → Type 0) → HoldsOfPairs options Holds → (from to : List ℕ) → All Holds (pairs_in_texts options from to)
+texts-pairs options Holds holds from to = by (pair_of_texts options from to) refl
+  where
+    by : (read : Result Pair PlanInputFault) → pair_of_texts options from to ≡ read → All Holds (pair_before read [])
+    by (Err bad) is = All-nil Holds
+    by (Ok pair) is = All-cons Holds pair [] (holds From To from to pair is) (All-nil Holds)
 
 -- what holds of each pair of valid configurations, and of its text
 abbrev pub HoldsOfText : PlanOptions → (SessionState → ℕ → Pair → List ℕ → Type 0) → Type 0
@@ -183,7 +187,7 @@ planned-text options input =
 -- what holds of each pair and its text holds of what is printed
 pub each-printed : (options : PlanOptions) (Holds : SessionState → ℕ → Pair → List ℕ → Type 0) → HoldsOfText options Holds → (input : List ℕ) → PrintsEach options input Holds
 each-printed options Holds holds input =
-    (texts_from options default_session 1 (pairs_in options input), planned-text options input, each-in_turn options Holds holds default_session 1 (pairs_in options input) (all-valid options input))
+    (texts_from options default_session 1 (pairs_in options input), planned-text options input, each-in_turn options Holds holds default_session 1 (pairs_in options input) (all-pairs options AreValid (pair-valid options) input))
 
 -- .. and of the text for the values of --from and --to
 pub pair-printed : (options : PlanOptions) (Holds : SessionState → ℕ → Pair → List ℕ → Type 0) → HoldsOfText options Holds → (from to : List ℕ) → PrintsPair options from to Holds

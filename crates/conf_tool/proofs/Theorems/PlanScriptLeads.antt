@@ -3,7 +3,7 @@ use Rattle.std.proofs.Common.{◌≡◌, ◌≤◌, ℕ, Bool, true, false, List
 use Rattle.std.specs.Prelude.{Option, Some, Ok, Err, codes, if◌then◌else◌, ◌↔◌}
 use Rattle.std.specs.List.{All}
 use Rattle.std.proofs.lemmas.List.{append-nil}
-use Rattle.std.proofs.lemmas.List.Elements.{All-nil, All-cons, All-head, All-tail}
+use Rattle.std.proofs.lemmas.List.Elements.{All-head, All-tail}
 use Rattle.quorum_sets.specs.Ids.{Ids}
 use Rattle.ascii_text.specs.Lines.{newline, text_of}
 use Rattle.ascii_text.specs.WhiteSpace.{trimmed, without_leading_space}
@@ -23,6 +23,7 @@ use Rattle.conf_change.proofs.Offered.{DenotesConfState-printed, ParsesToNumbers
 use Rattle.conf_change.specs.Text.{spaced_numbers}
 use Rattle.conf_change.specs.declared.step.Step.{Step}
 use Rattle.conf_plan.specs.PathBy.{has_path, path_by, ids_down}
+use Rattle.conf_plan.specs.PlanSteps.{HasU64Ids}
 use Rattle.conf_plan.specs.Run.{IsRun}
 use Rattle.conf_session.specs.SessionState.{SessionState, current}
 use Rattle.conf_session.specs.Commands.{Answer, answer, answered, after_answers, if_read, reply_of, restore_reply, row_of}
@@ -31,7 +32,7 @@ use Rattle.conf_session.specs.Reply.{restored_with}
 use Rattle.conf_session.specs.Values.{read_arguments}
 use Rattle.conf_change.specs.U64Lists.{HasU64Lists}
 use Rattle.plan_output.specs.Steps.{stall_note}
-use Rattle.conf_tool.specs.Laws.{HasU64Pair, IsScriptOf, LeadsThrough, NoPair, WithPath, WithoutPath, PlanScriptLeads, pairs_in, pairs_in_texts}
+use Rattle.conf_tool.specs.Laws.{IsScriptOf, LeadsThrough, NoPair, WithPath, WithoutPath, PlanScriptLeads, pairs_in, pairs_in_texts}
 use Rattle.conf_tool.specs.Outputs.{planned_output, planned_texts}
 use Rattle.conf_tool.specs.PlanAnswer.{path_between}
 use Rattle.conf_tool.specs.PlanScript.{note_items, restore_directive, script_items, default_session}
@@ -39,10 +40,12 @@ use Rattle.conf_tool.specs.Reports.{answered_entries}
 use Rattle.conf_tool.specs.UndoScript.{step_items, TakesSteps}
 use Rattle.conf_tool.specs.Pairs.{Pair}
 use Rattle.conf_tool.specs.declared.plan_options.PlanOptions.{PlanOptions}
-use Rattle.conf_tool.proofs.Theorems.PairByPair.{AreValid, all-valid, texts-valid}
+use Rattle.conf_tool.proofs.Theorems.PairByPair.{AreValid, HoldsOfPairs, all-pairs, pair-read, pair-valid, texts-pairs}
 use Rattle.conf_tool.proofs.Theorems.PlanScript.{Answered, items_with, gap_with, all_items, all-read, planned-script, script-clean, texts_of_pair-script}
 use Rattle.conf_tool.proofs.Theorems.RewrittenScript.{ActualIsValid, AreAgain, read-again}
 use Rattle.conf_tool.proofs.Theorems.PromisedPaths.{PathsAreRuns}
+use Rattle.conf_tool.proofs.Theorems.U64Paths.{path_by-u64}
+use Rattle.conf_tool.proofs.Theorems.U64Texts.{PrintedIsRead, current_in-u64, target_in-u64}
 use Rattle.conf_tool.proofs.Theorems.UndoneScript.{ChangesAreRead, directive_for, directives-items, run-comes, takes-again}
 
 -- ---- the directive that restores a configuration
@@ -139,31 +142,44 @@ directives-all options (pair ∷ next ∷ pairs) =
     ∙ ap (λ ds. directives_with pair.current path ++ ds) (directives-all options (next ∷ pairs))
 
 -- ---- they lead through the pairs
--- what is known of a pair
-record IsKnown (options : PlanOptions) (pair : Pair) : Type 0 where
+-- what is known of a pair that was read
+record IsKnown (pair : Pair) : Type 0 where
   valid : AreValid pair
-  u64_ids : HasU64Pair options pair
+  now : HasU64Lists pair.current
+  target : HasU64Lists pair.target
 
-abbrev AreRuns : Type 0
-AreRuns = (options : PlanOptions) (pair : Pair) (steps : List Step) → AreValid pair → path_between options pair ≡ Ok steps → (is_restorable pair.current ≡ true) × IsRun pair.current steps pair.target
+pair-known : PrintedIsRead → (options : PlanOptions) → HoldsOfPairs options IsKnown
+pair-known printed options from to first second pair e =
+    let read = pair-read options from to first second pair e in
+    let now = current_in-u64 printed first pair.current read.current in
+    record { valid = pair-valid options from to first second pair e; now = now; target = target_in-u64 printed pair.current second pair.target now read.target }
 
-own-leads : IsRestored → DescribesOwn → ChangesAreRead → AreRuns → (options : PlanOptions) (session : SessionState) (pairs : List Pair) → All (IsKnown options) pairs →
+-- steps that lead from the one configuration of a pair, which can be restored, to the other
+record LeadOn (pair : Pair) (steps : List Step) : Type 0 where
+  restorable : is_restorable pair.current ≡ true
+  run : IsRun pair.current steps pair.target
+  u64_ids : All HasU64Ids steps
+
+abbrev PathsLeadOn : Type 0
+PathsLeadOn = (options : PlanOptions) (pair : Pair) (steps : List Step) → IsKnown pair → path_between options pair ≡ Ok steps → LeadOn pair steps
+
+own-leads : IsRestored → DescribesOwn → ChangesAreRead → PathsLeadOn → (options : PlanOptions) (session : SessionState) (pairs : List Pair) → All IsKnown pairs →
     LeadsThrough options session (own_directives options pairs) pairs
-own-leads restored_is own read runs options session [] known = NoPair session
-own-leads restored_is own read runs options session (pair ∷ pairs) known =
-    by_path (path_between options pair) refl (λ after. own-leads restored_is own read runs options after pairs (All-tail (IsKnown options) pair pairs known))
+own-leads restored_is own read paths options session [] known = NoPair session
+own-leads restored_is own read paths options session (pair ∷ pairs) known =
+    by_path (path_between options pair) refl (λ after. own-leads restored_is own read paths options after pairs (All-tail IsKnown pair pairs known))
   where
-    this : IsKnown options pair
-    this = All-head (IsKnown options) pair pairs known
+    this : IsKnown pair
+    this = All-head IsKnown pair pairs known
 
     by_path : (path : Answered) → path_between options pair ≡ path → ((after : SessionState) → LeadsThrough options after (own_directives options pairs) pairs) →
         LeadsThrough options session (directives_with pair.current path ++ own_directives options pairs) (pair ∷ pairs)
     by_path (Err why) is rest = WithoutPath session (own_directives options pairs) pair pairs why is (rest session)
     by_path (Ok steps) is rest =
-        let run = runs options pair steps this.valid is in
+        let path = paths options pair steps this is in
         let first = restore_for pair.current in
-        let restored_to = restored-current restored_is own session pair.current this.u64_ids.now run.0 in
-        let comes = run-comes read (answer session first).session steps pair.target (this.u64_ids.steps steps is) (subst (λ c. IsRun c steps pair.target) (sym restored_to) run.1) in
+        let restored_to = restored-current restored_is own session pair.current this.now path.restorable in
+        let comes = run-comes read (answer session first).session steps pair.target path.u64_ids (subst (λ c. IsRun c steps pair.target) (sym restored_to) path.run) in
         WithPath session first (map directive_for steps) (own_directives options pairs) pair pairs steps is
         (record { command = refl; restored = restored_to; taken = comes.taken; there = comes.there })
         (rest (after_answers session (first ∷ map directive_for steps)))
@@ -202,47 +218,48 @@ leads-again options session directives (other ∷ again) pairs same (WithPath at
     (subst (λ s. LeadsThrough options s parts.second rest) (sym moved.1) left))
 leads-again options session directives again pairs same (WithoutPath at own pair rest why path leads) = WithoutPath session again pair rest why path (leads-again options session directives again rest same leads)
 
--- ---- each path is a run
-between-runs : PathsAreRuns → AreRuns
-between-runs runs options pair steps valid is = by (has_voter pair.current) (has_voter pair.target) (has_path pair.strategy pair.current pair.target) refl refl refl is
+-- ---- each path leads on
+between-leads_on : PathsAreRuns → PathsLeadOn
+between-leads_on runs options pair steps known is = by (has_voter pair.current) (has_voter pair.target) (has_path pair.strategy pair.current pair.target) refl refl refl is
   where
     path : List Step
     path = path_by pair.strategy (ids_down options.down) pair.current pair.target
 
     by : (a b c : Bool) → has_voter pair.current ≡ a → has_voter pair.target ≡ b → has_path pair.strategy pair.current pair.target ≡ c →
         ◌≡◌ {A = Answered} (if a then (if b then (if c then Ok path else Err (codes "the target is joint")) else Err (codes "the target has no voter")) else Err (codes "the current configuration has no voter")) (Ok steps) →
-        (is_restorable pair.current ≡ true) × IsRun pair.current steps pair.target
+        LeadOn pair steps
     by false b c x y z e = let wrong : ⊥ = cc in absurd wrong
     by true false c x y z e = let wrong : ⊥ = cc in absurd wrong
     by true true false x y z e = let wrong : ⊥ = cc in absurd wrong
     by true true true x y z e =
         let same : path ≡ steps = cc in
-        (simp (valid.now, x) refl, subst (λ taken. IsRun pair.current taken pair.target) same (runs pair.strategy (ids_down options.down) pair.current pair.target (record { valid = valid.now; voter = x }) (record { valid = valid.target; voter = y }) z))
-
-known-pairs : (options : PlanOptions) (pairs : List Pair) → All AreValid pairs → All (HasU64Pair options) pairs → All (IsKnown options) pairs
-known-pairs options [] valid small = All-nil (IsKnown options)
-known-pairs options (pair ∷ pairs) valid small =
-    All-cons (IsKnown options) pair pairs (record { valid = All-head AreValid pair pairs valid; u64_ids = All-head (HasU64Pair options) pair pairs small })
-    (known-pairs options pairs (All-tail AreValid pair pairs valid) (All-tail (HasU64Pair options) pair pairs small))
+        let valid = known.valid in
+        subst (LeadOn pair) same (record {
+          restorable = simp (valid.now, x) refl;
+          run = runs pair.strategy (ids_down options.down) pair.current pair.target (record { valid = valid.now; voter = x }) (record { valid = valid.target; voter = y }) z;
+          u64_ids = path_by-u64 pair.strategy (ids_down options.down) pair.current pair.target known.now known.target;
+        })
 
 -- what a text says that is the script of pairs
 text-leads : WrittenScript → DirectiveIsWellFormed → ActualIsValid → IsRestored → DescribesOwn → ChangesAreRead → PathsAreRuns → (options : PlanOptions) (pairs : List Pair) (text : List ℕ) →
-    All AreValid pairs → text ≡ rewritten_text (answered_entries default_session (all_items options pairs)) → length text ≤ longest_input → IsScriptOf options pairs text
-text-leads written given holds restored_is own read runs options pairs text valid is fits = record {
-  clean = script-clean written given holds options pairs text is fits;
-  leads = λ small.
-      let items = all_items options pairs in
-      let again = directives_of (script_of (rewritten_text (answered_entries default_session items))).items in
-      let back = read-again written holds default_session items (all-read given options pairs) (subst (λ t. length t ≤ longest_input) is fits) in
-      let leads = own-leads restored_is own read (between-runs runs) options default_session pairs (known-pairs options pairs valid small) in
-      subst (λ t. LeadsThrough options default_session (directives_of (script_of t).items) pairs) (sym is)
-      (leads-again options default_session (own_directives options pairs) again pairs (subst (λ ds. AreAgain default_session ds again) (directives-all options pairs) back.1) leads);
-}
+    All IsKnown pairs → text ≡ rewritten_text (answered_entries default_session (all_items options pairs)) → length text ≤ longest_input → IsScriptOf options pairs text
+text-leads written given holds restored_is own read runs options pairs text known is fits =
+    let items = all_items options pairs in
+    let again = directives_of (script_of (rewritten_text (answered_entries default_session items))).items in
+    let back = read-again written holds default_session items (all-read given options pairs) (subst (λ t. length t ≤ longest_input) is fits) in
+    let leads = own-leads restored_is own read (between-leads_on runs) options default_session pairs known in
+    record {
+      clean = script-clean written given holds options pairs text is fits;
+      leads = subst (λ t. LeadsThrough options default_session (directives_of (script_of t).items) pairs) (sym is)
+          (leads-again options default_session (own_directives options pairs) again pairs (subst (λ ds. AreAgain default_session ds again) (directives-all options pairs) back.1) leads);
+    }
 
-pub script-leads : WrittenScript → DirectiveIsWellFormed → ActualIsValid → IsRestored → DescribesOwn → ChangesAreRead → PathsAreRuns → PlanScriptLeads
-script-leads written given holds restored_is own read runs = record {
+pub script-leads : WrittenScript → DirectiveIsWellFormed → ActualIsValid → IsRestored → DescribesOwn → ChangesAreRead → PathsAreRuns → PrintedIsRead → PlanScriptLeads
+script-leads written given holds restored_is own read runs printed = record {
   each = λ options input script fits.
-      (text-leads written given holds restored_is own read runs options (pairs_in options input) (planned_output options input).text (all-valid options input) (planned-script holds options input script) fits);
+      (text-leads written given holds restored_is own read runs options (pairs_in options input) (planned_output options input).text (all-pairs options IsKnown (pair-known printed options) input)
+      (planned-script holds options input script) fits);
   texts = λ options from to script fits.
-      (text-leads written given holds restored_is own read runs options (pairs_in_texts options from to) (planned_texts options from to).text (texts-valid options from to) (texts_of_pair-script options from to script) fits);
+      (text-leads written given holds restored_is own read runs options (pairs_in_texts options from to) (planned_texts options from to).text (texts-pairs options IsKnown (pair-known printed options) from to)
+      (texts_of_pair-script options from to script) fits);
 }

@@ -24,7 +24,7 @@ use Rattle.conf_change.specs.declared.floor.Floor.{Floor}
 use Rattle.conf_change.specs.declared.refused.Refused.{Refused}
 use Rattle.conf_change.specs.declared.step.Step.{Step}
 use Rattle.conf_change.specs.declared.step.Step.TheVariants.{Simple, EnterJoint, LeaveJoint}
-use Rattle.conf_plan.specs.PlanSteps.{HasU64Ids, IsPlan}
+use Rattle.conf_plan.specs.PlanSteps.{HasU64Ids}
 use Rattle.conf_plan.specs.PlanText.{change_text}
 use Rattle.conf_plan.specs.Run.{IsRun}
 use Rattle.conf_session.specs.Commands.{Answer, Row, answer, answered, after_answers, step_reply, if_read, reply_of, row_of}
@@ -160,21 +160,27 @@ takes-again session (directive ∷ directives) (other ∷ again) (step ∷ steps
     let moved = subst (λ s. TakesSteps s again steps × (after_answers s again ≡ after_answers (answer session directive).session directives)) (sym after) (rest.taken, rest.after) in
     record { taken = ((taken.0.0, taken.0.1, answers ∙ taken.0.2), moved.0); after = moved.1 }
 
-undo_of-session : WrittenScript → DirectiveIsWellFormed → ActualIsValid → ChangesAreRead → (session : SessionState) (count : ℕ) (steps : List Step) → LeadsBack session count steps → IsPlan steps →
+undo_of-session : WrittenScript → DirectiveIsWellFormed → ActualIsValid → ChangesAreRead → (session : SessionState) (count : ℕ) (steps : List Step) → LeadsBack session count steps →
     length (rewritten_text (answered_entries session (undo_items (Ok steps)))) ≤ longest_input → LeadsBackBy session count steps (script_of (rewritten_text (answered_entries session (undo_items (Ok steps)))))
-undo_of-session written given holds changes session count steps back plan fits =
+undo_of-session written given holds changes session count steps back fits =
     let again = (script_of (rewritten_text (answered_entries session (step_items steps)))).items in
     let read = read-again written holds session (step_items steps) (steps-read given steps) fits in
-    let comes = run-comes changes session steps back.older plan.u64_ids back.run in
+    let comes = run-comes changes session steps back.older back.u64_ids back.run in
     let same = subst (λ ds. AreAgain session ds (directives_of again)) (directives-items steps) read.1 in
     let takes = takes-again session (map directive_for steps) (directives_of again) steps same comes.taken in
-    record { whole = read.0; taken = takes.taken; back = back.is_kept ∙ ap Some (sym (ap current (left-by session again ∙ takes.after) ∙ comes.there)) }
+    record {
+      whole = read.0;
+      taken = takes.taken;
+      at_most_four = back.at_most_four;
+      at_most_three = back.at_most_three;
+      back = back.is_kept ∙ ap Some (sym (ap current (left-by session again ∙ takes.after) ∙ comes.there));
+    }
 
 pub undo_script-leads_back : WrittenScript → DirectiveIsWellFormed → ActualIsValid
     → ((history : ℕ) (floor : Floor) (directives : List DirectiveText) → IsSession (after_answers (new_session history floor) directives))
     → ((session : SessionState) (count : ℕ) (steps : List Step) → IsSession session → 1 ≤ count → undo_plan_of session count ≡ Ok steps → LeadsBack session count steps)
     → ChangesAreRead → UndoScriptLeadsBack
-undo_script-leads_back written given holds sessions leads changes script history floor count steps whole some made plan fits =
+undo_script-leads_back written given holds sessions leads changes script history floor count steps whole some made fits =
     let begin = new_session history floor in
     let items = (script_of script).items in
     let session = session_after_all begin items in
@@ -182,4 +188,4 @@ undo_script-leads_back written given holds sessions leads changes script history
     let back = leads session count steps is some made in
     let text = ap (λ fault. (undone_unless session count fault).text) whole ∙ ap (λ (p : Result (List Step) UndoFault). rewritten_text (answered_entries session (undo_items p))) made in
     let Fits : List ℕ → Type 0 = λ t. length t ≤ longest_input → LeadsBackBy session count steps (script_of t) in
-    subst Fits (sym text) (undo_of-session written given holds changes session count steps back plan) fits
+    subst Fits (sym text) (undo_of-session written given holds changes session count steps back) fits

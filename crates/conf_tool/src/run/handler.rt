@@ -150,6 +150,8 @@ pub(super) fn run_by_part<D: Draft + Drop, M: Handler<D::Part> + Drop, R: Source
     ensures consumed { LosesPrefix (R.remaining reader.old) (R.remaining reader.new) }
     ensures read { R.has_failed reader.new ≡ (R.has_failed reader.old || is_read_failure result) }
     ensures write { W.has_failed writer.new ≡ (W.has_failed writer.old || is_write_failure result) }
+    // Any read may fail, so a run reads only once its replies are flushed.
+    ensures asks { is_read_failure result ≡ true → W.IsFlushed writer.new }
     ensures kinds { CanAnswer M.mode result }
 {
     let mut mode = M::new(alloc, options)?;

@@ -2,7 +2,7 @@
 //! The lines are answered one by one; nothing is kept between them:
 //!
 //! ```text
-//! {"conf_state":{"voters":[1]},"lead":1,"running":[1],"target":{"voters":[1,2]},"strategy":"learners-first"}
+//! {"conf_state":{"voters":[1]},"conf_index":5,"lead":1,"progress":[{"id":1,"match":5}],"running":[1],"target":{"voters":[1,2]},"strategy":"learners-first"}
 //! {"action":"start","ids":[2]}
 //! {"lead":true}
 //! {"error":"conf_state: expected a ConfState, as {\"voters\":[1,2,3],\"learners\":[4]}, or etcdctl member list -w json"}

@@ -7,6 +7,12 @@ use Rattle.conf_driver.specs.declared.action.Action.{Action}
 use Rattle.conf_driver.proofs.FirstAnswer.{first_of-here, first_of-later}
 use Rattle.conf_driver.proofs.answer.answer_in.Goals as goal
 
+pub returns-in-Some : goal.returns-in-Some
+returns-in-Some c =
+    let s = c.args.situation.now in
+    let of_view : first_of (rows_of_view s) ≡ Some c.in-Some.answer = sym c.in_ok-answer.ensures ∙ c.in-Some.is in
+    sym (ap (λ (found : Option Action). unwrap_or found (propose_first c.args.path.now)) (first_of-here (rows_of_view s) (rows_of_path s ++ rows_of_step s) _ of_view))
+
 pub returns-in-Some-2 : goal.returns-in-Some-2
 returns-in-Some-2 c =
     let s = c.args.situation.now in

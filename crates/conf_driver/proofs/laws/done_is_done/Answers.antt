@@ -1,11 +1,11 @@
-use Rattle.std.proofs.Common.{◌≡◌, ℕ, Bool, true, false, not, ◌||◌, zero, suc, List, [], ◌∷◌, ◌++◌, refl, sym, ap, subst, ◌∙◌, arith, inl, inr, ◌⊎◌, is_some}
+use Rattle.std.proofs.Common.{◌≡◌, ℕ, ◌-◌, Bool, true, false, not, ◌||◌, List, [], ◌∷◌, ◌++◌, refl, sym, ap, subst, ◌∙◌, arith, inl, inr, ◌⊎◌, is_some}
 use Rattle.std.specs.Prelude.{Option, Some, None, nat_eq, nat_le, unwrap_or, if◌then◌else◌}
 use Rattle.std.specs.Option.{is_none}
-use Rattle.std.proofs.lemmas.Bool.{and_from, and_left, and_parts, both_ways, cases_Bool, cond-true, cond-false, leb-true, le-leb, or_left, or_right}
+use Rattle.std.proofs.lemmas.Bool.{and_from, and_parts, both_ways, cases_Bool, cond-true, cond-false, leb-true, le-leb, or_left, or_right, ne_eqb}
 use Rattle.quorum_sets.specs.Ids.{Ids, has, is_empty, no_ids, union}
 use Rattle.quorum_sets.specs.Tolerance.{commits_without, may_be_down}
 use Rattle.quorum_sets.specs.Voters.{is_quorum}
-use Rattle.quorum_sets.proofs.Offered.{has-ids_of, has-no_ids, has-same_ids, has-union}
+use Rattle.quorum_sets.proofs.Offered.{has-no_ids, has-same_ids, has-union}
 use Rattle.conf_change.specs.Configuration.{Configuration, is_member, is_same, is_valid, member_ids, voters_of, ValidByMember}
 use Rattle.conf_change.specs.declared.step.Step.{Step}
 use Rattle.conf_change.proofs.Offered.{ValidByMember-from_is_valid, has-all_members, is_same-is_equality}
@@ -15,23 +15,24 @@ use Rattle.conf_plan.specs.Run.{IsRun}
 use Rattle.conf_plan.specs.declared.strategy.Strategy.{Strategy}
 use Rattle.plan_output.specs.Stages.{stalls}
 use Rattle.conf_driver.specs.AtTarget.{IsDone}
-use Rattle.conf_driver.specs.IdSets.{◌∪◌, ◌∩◌, ◌∖◌, just}
+use Rattle.conf_driver.specs.IdSets.{◌∪◌, ◌∩◌, ◌∖◌}
 use Rattle.conf_driver.specs.Next.{answer_in, answer_on, next_of, propose_first, situation}
 use Rattle.conf_driver.specs.Rows as row
-use Rattle.conf_driver.specs.Rows.{done_or_wait, first_of, if_any, needed_at_target, rows_of_path, rows_of_step, rows_of_view, transfer_to_one, wait_for, when}
-use Rattle.conf_driver.specs.Situation.{after_first, has_step, leader_ids, situation_of, voter_ids}
-use Rattle.conf_driver.specs.View.{ViewState, caught_up_index, having, heard_from, lacking, match_of, up_and_caught_up}
-use Rattle.conf_driver.specs.declared.action.Action.{Action}
+use Rattle.conf_driver.specs.Rows.{done_or_wait, first_of, if_any, may_stop, needed_at_target, rows_of_path, rows_of_step, rows_of_view, successors, transfer_to_one, wait_for}
+use Rattle.conf_driver.specs.Situation.{after_first, has_step, situation_of}
+use Rattle.conf_driver.specs.View.{ViewState, caught_up_index, having, heard_from, known_index, lacking, match_of, up_and_caught_up, voter_ids}
 use Rattle.conf_driver.specs.declared.action.Action.TheVariants.{Done, Start, Stop, Stuck, Wait}
 use Rattle.conf_driver.specs.declared.action.StuckReason.TheVariants.{Reused}
 use Rattle.conf_driver.specs.declared.action.WaitReason.TheVariants.{Heard}
 use Rattle.conf_driver.specs.declared.situation.Situation.{Situation}
-use Rattle.conf_driver.proofs.Counting.{is_quorum-not_down, quorum-has_voter}
+use Rattle.conf_driver.proofs.Counting.{is_quorum-not_down}
 use Rattle.conf_driver.proofs.FirstRow.{by_rows, kind, kind-wait_for}
-use Rattle.conf_driver.proofs.IdsByMember.{has-common, has-common-is, has-without, has-without-is, in-second, in-without, common-is_empty, without-is_empty, not-in_second, up-unless_down}
+use Rattle.conf_driver.proofs.IdsByMember.{has-common, has-common-is, has-without, has-without-is, in-common, in-second, in-without, common-is_empty, without-is_empty, not-in_second, up-unless_down, union-right, union-neither}
+use Rattle.conf_driver.proofs.Leaders.{leader-up, member-silent, none-heard, voter-not_zero}
 use Rattle.conf_driver.proofs.Proposed.{zero-from_test}
 use Rattle.conf_driver.proofs.RowAnswers.{when-none, when-some}
-use Rattle.conf_driver.proofs.RowsPassed.{heard-passed, pending-passed, quorum-passed, started-passed, stopped-passed, successor-passed}
+use Rattle.conf_driver.proofs.RowsNone.{if-both_none, if-none, if_any-empty, left_out, unless-none, when-false}
+use Rattle.conf_driver.proofs.RowsPassed.{heard-passed, nonvoter-passed, pending-passed, quorum-passed, reused-passed, started-passed, stopped-passed}
 use Rattle.conf_driver.proofs.WhoIsUp.{has-having, has-up}
 use Rattle.conf_driver.proofs.laws.done_is_done.Goals as goal
 
@@ -39,10 +40,11 @@ use Rattle.conf_driver.proofs.laws.done_is_done.Goals as goal
 record IsReached (s : Situation) (steps : List Step) : Type 0 where
   quorum_lost : row.quorum_lost s ≡ None
   down_is_heard : row.down_is_heard s ≡ None
+  nonvoter_leads : row.nonvoter_leads s ≡ None
   is_pending : row.is_pending s ≡ None
+  id_is_reused : row.id_is_reused s ≡ None
   not_started : row.not_started s ≡ None
   not_stopped : row.not_stopped s ≡ None
-  successor_lags : row.successor_lags s ≡ None
   last : (row.at_target s ≡ Some Done) ⊎ ((row.at_target s ≡ None) × (steps ≡ []))
 
 last_is_done : (steps : List Step) → propose_first steps ≡ Done → steps ≡ []
@@ -50,9 +52,9 @@ last_is_done [] is = refl
 last_is_done (step ∷ steps) is = absurd (cc)
 
 IsReached-from_answer : (s : Situation) (steps : List Step) → answer_in s steps ≡ Done → IsReached s steps
-IsReached-from_answer s steps is = by_rows (IsReached s steps) s steps Done (λ a b c d e f g h i j k l. (
-  λ here. record { quorum_lost = a; down_is_heard = b; is_pending = e; not_started = h; not_stopped = i; successor_lags = l; last = inl here },
-  λ m n o p last. record { quorum_lost = a; down_is_heard = b; is_pending = e; not_started = h; not_stopped = i; successor_lags = l; last = inr (m, last_is_done steps last) },
+IsReached-from_answer s steps is = by_rows (IsReached s steps) s steps Done (λ a b c d e f g h i j k l m. (
+  λ here. record { quorum_lost = a; down_is_heard = b; nonvoter_leads = d; is_pending = f; id_is_reused = h; not_started = i; not_stopped = j; last = inl here },
+  λ n o p q r last. record { quorum_lost = a; down_is_heard = b; nonvoter_leads = d; is_pending = f; id_is_reused = h; not_started = i; not_stopped = j; last = inr (n, last_is_done steps last) },
 )) is
 
 some_step : (step : Step) (steps : List Step) → has_step (step ∷ steps) ≡ true
@@ -82,60 +84,39 @@ at_end s steps same (inr other) =
     let none : has_step steps ≡ false = ap has_step other.1 in
     absurd (both_ways _ (when-none (not s.has_step) _ other.0) (ap not (same ∙ none)))
 
--- ---- who may lead
-incoming-may_lead : (c : Configuration) (id : ℕ) → has c.incoming id ≡ true → has (leader_ids c) id ≡ true
-incoming-may_lead c id here = elim (cases_Bool c.auto_leave) [
-  | inl leaves ↦ ap (λ s. has s id) (cond-true c.auto_leave c.incoming (voter_ids c) leaves) ∙ here
-  | inr stays ↦ ap (λ s. has s id) (cond-false c.auto_leave c.incoming (voter_ids c) stays) ∙ has-union c.incoming c.outgoing id ∙ or_left _ _ here
-]
-
-leader-votes : (c : Configuration) (id : ℕ) → has (leader_ids c) id ≡ true → (has c.incoming id || has c.outgoing id) ≡ true
-leader-votes c id here = elim (cases_Bool c.auto_leave) [
-  | inl leaves ↦ or_left _ _ (ap (λ s. has s id) (sym (cond-true c.auto_leave c.incoming (voter_ids c) leaves)) ∙ here)
-  | inr stays ↦ sym (has-union c.incoming c.outgoing id) ∙ ap (λ s. has s id) (sym (cond-false c.auto_leave c.incoming (voter_ids c) stays)) ∙ here
-]
-
--- who may lead is not 0, which means that there is no leader
-zero_leads_not : (c : Configuration) (id : ℕ) → ValidByMember c → has (leader_ids c) id ≡ true → nat_eq id 0 ≡ false
-zero_leads_not c zero members here = absurd (both_ways _ (grind (arith, members.zero_incoming, members.zero_outgoing)) (leader-votes c 0 here))
-zero_leads_not c (suc id) members here = grind arith
-
--- the voters that are not down are a quorum, so some voter that is not down may lead
-leader-not_missing : (c : Configuration) (down : Ids) → is_quorum (voters_of c) (voter_ids c ∖ down) ≡ true → is_empty (voter_ids c ∩ leader_ids c ∖ down) ≡ true → ⊥
-leader-not_missing c down quorum none = quorum-has_voter c (voter_ids c ∖ down) quorum (λ x here.
-    let voter = has-union c.incoming c.outgoing x ∙ or_left _ (has c.outgoing x) here in
-    let is_down = in-second (voter_ids c ∩ leader_ids c) down x none (has-common-is (voter_ids c) (leader_ids c) x voter (incoming-may_lead c x here)) in
-    grind (arith, is_down, has-without (voter_ids c) down x))
-
 -- ---- who is needed
-has-just : (id : ℕ) → has (just id) id ≡ true
-has-just id = grind (arith, has-ids_of (id ∷ []) id)
-
-has-just_other : (id q : ℕ) → (q ≡ id → ⊥) → has (just id) q ≡ false
-has-just_other id q other = grind (arith, has-ids_of (id ∷ []) q, other)
-
-union-left : (a b : Ids) (q : ℕ) → has a q ≡ true → has (a ∪ b) q ≡ true
-union-left a b q here = has-union a b q ∙ or_left _ (has b q) here
-
-union-right : (a b : Ids) (q : ℕ) → has b q ≡ true → has (a ∪ b) q ≡ true
-union-right a b q here = has-union a b q ∙ or_right (has a q) _ here
-
-union-neither : (a b : Ids) (q : ℕ) → has a q ≡ false → has b q ≡ false → has (a ∪ b) q ≡ false
-union-neither a b q not_first not_second = grind (arith, not_first, not_second, has-union a b q)
-
--- where each member that is not down is up, each voter knows the configuration
-none_lacks : (down : Ids) (view : ViewState) → is_empty (member_ids view.conf_state ∖ down ∖ up_and_caught_up down view) ≡ true
-    → is_empty (lacking view view.conf_index (voter_ids view.conf_state ∖ down)) ≡ true
-none_lacks down view all_up =
+-- where a voter leads and each member that is not down is up, each of these knows the configuration
+none_lacks : (down : Ids) (view : ViewState) → has (voter_ids view.conf_state) view.lead ≡ true
+    → is_empty (member_ids view.conf_state ∖ down ∖ up_and_caught_up down view) ≡ true
+    → is_empty (lacking view view.conf_index (member_ids view.conf_state ∖ down)) ≡ true
+none_lacks down view leads all_up =
     let now = view.conf_state in
-    let counted = voter_ids now ∖ down in
+    let counted = member_ids now ∖ down in
+    let same : known_index view ≡ view.conf_index = cond-true (has (voter_ids now) view.lead) view.conf_index (view.conf_index - 1) leads in
     without-is_empty counted (having view view.conf_index counted) (λ q here.
-    let parts = in-without (voter_ids now) down q here in
-    let member : is_member now q ≡ true = or_left _ (has now.learners q) (sym (has-union now.incoming now.outgoing q) ∙ parts.0) in
-    let is_up = up-unless_down (member_ids now) down (up_and_caught_up down view) q all_up (has-all_members now q ∙ member) parts.1 in
+    let parts = in-without (member_ids now) down q here in
+    let is_up = up-unless_down (member_ids now) down (up_and_caught_up down view) q all_up parts.0 parts.1 in
     let late : nat_le (caught_up_index view) (match_of view q) ≡ true = (and_parts (nat_le (caught_up_index view) (match_of view q)) _ (sym (has-up down view q) ∙ is_up)).0 in
     let reaches = leb-true (caught_up_index view) (match_of view q) late in
-    has-having view view.conf_index counted q ∙ and_from _ _ (le-leb view.conf_index (match_of view q) (omega (arith, reaches))) here)
+    has-having view view.conf_index counted q ∙ and_from _ _ (le-leb view.conf_index (match_of view q) (omega (arith, reaches, same))) here)
+
+-- there the voters that are heard from are a quorum, if those that are not down are one
+heard-count : (down : Ids) (view : ViewState) → is_empty (member_ids view.conf_state ∖ down ∖ up_and_caught_up down view) ≡ true
+    → is_quorum (voters_of view.conf_state) (voter_ids view.conf_state ∖ down) ≡ true
+    → is_quorum (voters_of view.conf_state) (voter_ids view.conf_state ∩ heard_from view ∖ down) ≡ true
+heard-count down view all_up quorum =
+    let now = view.conf_state in
+    let heard = heard_from view in
+    let same : (voter_ids now ∩ heard ∖ down) ≡ (voter_ids now ∖ down) = has-same_ids _ _ (λ q. elim (cases_Bool (has (voter_ids now ∖ down) q)) [
+      | inl here ↦
+          let parts = in-without (voter_ids now) down q here in
+          let member : is_member now q ≡ true = or_left _ (has now.learners q) (sym (has-union now.incoming now.outgoing q) ∙ parts.0) in
+          let is_up = up-unless_down (member_ids now) down (up_and_caught_up down view) q all_up (has-all_members now q ∙ member) parts.1 in
+          let is_heard : has heard q ≡ true = grind (arith, is_up, has-up down view q) in
+          has-without-is (voter_ids now ∩ heard) down q (has-common-is (voter_ids now) heard q parts.0 is_heard) parts.1 ∙ sym here
+      | inr other ↦ grind (arith, other, has-without (voter_ids now) down q, has-without (voter_ids now ∩ heard) down q, has-common (voter_ids now) heard q)
+    ]) in
+    ap (is_quorum (voters_of now)) same ∙ quorum
 
 -- a learner is no voter
 learner-votes_not : (c : Configuration) (id : ℕ) → ValidByMember c → has c.learners id ≡ true → has (voter_ids c) id ≡ false
@@ -147,13 +128,13 @@ learner-from_member c id member votes_not = grind (arith, member, votes_not, has
 
 -- ---- from the answer
 -- only members run: if others do, all members have caught up, so these are stopped first
-only-members : (s : Situation) → (is_empty (s.members ∖ s.down ∖ s.up) ≡ true → is_empty s.lack_configuration ≡ true) → row.not_stopped s ≡ None → member_ids s.target ≡ s.members
+only-members : (s : Situation) → (is_empty (s.members ∖ s.down ∖ s.up) ≡ true → may_stop s ≡ true) → row.not_stopped s ≡ None → member_ids s.target ≡ s.members
     → is_empty (needed_at_target s ∖ s.down ∖ s.up) ≡ true → is_empty (s.running ∖ s.members) ≡ true
-only-members s knows not_stopped same none_left = elim (cases_Bool (is_empty (s.running ∖ s.members))) [
+only-members s may not_stopped same none_left = elim (cases_Bool (is_empty (s.running ∖ s.members))) [
   | inl none ↦ none
   | inr some ↦
       let needed : needed_at_target s ≡ s.members = cond-false (is_empty (s.running ∖ s.members)) (s.before.incoming ∪ s.before.learners) s.members some in
-      let stopped = stopped-passed s not_stopped (knows (ap (λ ids. is_empty (ids ∖ s.down ∖ s.up)) (sym needed) ∙ none_left)) in
+      let stopped = stopped-passed s not_stopped (may (ap (λ ids. is_empty (ids ∖ s.down ∖ s.up)) (sym needed) ∙ none_left)) in
       let none : is_empty (s.running ∖ s.members ∖ s.members) ≡ true = ap (λ ids. is_empty (s.running ∖ s.members ∖ ids)) (sym same) ∙ stopped in
       without-is_empty s.running s.members (λ q runs. elim (cases_Bool (has s.members q)) [
         | inl member ↦ member
@@ -176,67 +157,35 @@ done-holds strategy target down view valid run is =
     let members = ValidByMember-from_is_valid now valid in
     let quorum = quorum-passed s rows.quorum_lost in
     let named = heard-passed s rows.down_is_heard in
-    let leads : has (leader_ids now) view.lead ≡ true = elim (cases_Bool (has s.leaders_after view.lead)) [
-      | inl leads ↦ ap (λ c. has (leader_ids c) view.lead) (sym after) ∙ leads
-      | inr leads_not ↦ absurd (leader-not_missing now down quorum (ap (λ c. is_empty (voter_ids now ∩ leader_ids c ∖ down)) (sym after) ∙ successor-passed s rows.successor_lags leads_not))
-    ] in
-    let only_members = only-members s (none_lacks down view) rows.not_stopped (ap member_ids (sym same)) end.none_left in
+    let leads = nonvoter-passed s rows.nonvoter_leads in
+    let only_members = only-members s (λ all_up. and_from _ _ (none_lacks down view leads all_up) (heard-count down view all_up quorum)) rows.not_stopped (ap member_ids (sym same)) end.none_left in
     let needed : needed_at_target s ≡ (now.incoming ∪ now.learners) = cond-true (is_empty (view.running ∖ member_ids now)) (now.incoming ∪ now.learners) (member_ids now) only_members in
     let none_left : is_empty ((now.incoming ∪ now.learners) ∖ down ∖ up) ≡ true = ap (λ ids. is_empty (ids ∖ down ∖ up)) (sym needed) ∙ end.none_left in
     let started = started-passed s rows.not_started in
     let all = member_ids s.after ∪ member_ids now in
+    let staying = all ∩ member_ids target in
+    let of_target : (id : ℕ) → has now.learners id ≡ true → has (member_ids target) id ≡ true =
+    λ id learner. ap (λ c. has (member_ids c) id) (sym same) ∙ has-all_members now id ∙ or_right (has now.incoming id || has now.outgoing id) _ learner in
     subst (λ c. IsDone c down view) same (record {
       reached = refl;
       not_pending = zero-from_test view.pending_conf_index (pending-passed s rows.is_pending);
       leader = leads;
-      leader_up = elim (cases_Bool (has down view.lead)) [
-        | inl is_down ↦ absurd (both_ways _ (not-in_second down (heard ∩ member_ids now ∪ just view.lead) view.lead named is_down) (union-right (heard ∩ member_ids now) (just view.lead) view.lead (has-just view.lead)))
-        | inr not_down ↦ not_down
-      ];
+      leader_up = leader-up heard (member_ids now) down view.lead named;
       quorum = sym (is_quorum-not_down now down) ∙ quorum;
-      silent = λ id is_down member. elim (cases_Bool (has heard id)) [
-        | inl is_heard ↦ absurd (both_ways _ (not-in_second down (heard ∩ member_ids now ∪ just view.lead) id named is_down)
-            (union-left (heard ∩ member_ids now) (just view.lead) id (has-common-is heard (member_ids now) id is_heard (has-all_members now id ∙ member))))
-        | inr not_heard ↦ not_heard
-      ];
+      silent = λ id is_down member. member-silent heard (member_ids now) down view.lead id named is_down (has-all_members now id ∙ member);
       caught_up = λ id here not_down. up-unless_down (now.incoming ∪ now.learners) down up id none_left (has-union now.incoming now.learners id ∙ here) not_down;
       learners_run = λ id learner not_down.
           let member = union-right (member_ids s.after) (member_ids now) id (has-all_members now id ∙ or_right (has now.incoming id || has now.outgoing id) _ learner) in
-          let other = has-without-is all (voter_ids now) id member (learner-votes_not now id members learner) in
-          in-second (all ∖ voter_ids now ∖ down) view.running id started (has-without-is (all ∖ voter_ids now) down id other not_down);
+          let stays = has-common-is all (member_ids target) id member (of_target id learner) in
+          let other = has-without-is staying (voter_ids now) id stays (learner-votes_not now id members learner) in
+          in-second (staying ∖ voter_ids now ∖ down) view.running id started (has-without-is (staying ∖ voter_ids now) down id other not_down);
+      not_retired = λ id learner.
+          not-in_second (member_ids target ∖ voter_ids now) view.retired id (reused-passed s rows.id_is_reused)
+          (has-without-is (member_ids target) (voter_ids now) id (of_target id learner) (learner-votes_not now id members learner));
       others_stopped = λ id runs. sym (has-all_members now id) ∙ in-second view.running (member_ids now) id only_members runs;
     })
 
 -- ---- to the answer
-if-none : (test : Bool) (given : Option Action) → test ≡ false → (if test then given else None) ≡ None
-if-none test given fails = cond-false test given None fails
-
-unless-none : (test : Bool) (given : Option Action) → test ≡ true → (if test then None else given) ≡ None
-unless-none test given holds = cond-true test None given holds
-
-if-both_none : (test : Bool) (given : Option Action) → given ≡ None → (if test then given else None) ≡ None
-if-both_none true given is = is
-if-both_none false given is = refl
-
-when-false : (test : Bool) (a : Action) → test ≡ false → when test a ≡ None
-when-false test a fails = if-none test (Some a) fails
-
-if_any-empty : (ids : Ids) (answer : Ids → Action) → is_empty ids ≡ true → if_any ids answer ≡ None
-if_any-empty ids answer none_left = unless-none (is_empty ids) (Some (answer ids)) none_left
-
-both_same : (here : Bool) → (here || here) ≡ true → here ≡ true
-both_same true is = refl
-both_same false is = is
-
--- rows that do not answer are left out
-abbrev AllNone : List (Option Action) → Type 0
-AllNone [] = Unit {0}
-AllNone (given ∷ rows) = (given ≡ None) × AllNone rows
-
-left_out : (before after : List (Option Action)) → AllNone before → first_of (before ++ after) ≡ first_of after
-left_out [] after none = refl
-left_out (given ∷ before) after none = ap (λ r. first_of (r ∷ before ++ after)) none.0 ∙ left_out before after none.1
-
 -- a path without a step stalls only if the voters that are not down are no quorum
 stalls-not : (now : Configuration) (down : Ids) → is_some (may_be_down (voters_of now) down) ≡ true → stalls now [] down ≡ false
 stalls-not now down counts =
@@ -259,21 +208,17 @@ done-answered down view valid counts is =
     let members = ValidByMember-from_is_valid now valid in
     let none_pending : not (nat_eq view.pending_conf_index 0) ≡ false = ap (λ n. not (nat_eq n 0)) is.not_pending in
     let only_members : is_empty (view.running ∖ member_ids now) ≡ true = without-is_empty view.running (member_ids now) (λ q runs. has-all_members now q ∙ is.others_stopped q runs) in
-    let named : is_empty (down ∩ (heard ∩ member_ids now ∪ just view.lead)) ≡ true =
-    common-is_empty down (heard ∩ member_ids now ∪ just view.lead) (λ q is_down. union-neither (heard ∩ member_ids now) (just view.lead) q
-    (elim (cases_Bool (has (heard ∩ member_ids now) q)) [
-      | inl here ↦ let parts = and_parts _ _ (sym (has-common heard (member_ids now) q) ∙ here) in absurd (both_ways _ (is.silent q is_down (sym (has-all_members now q) ∙ parts.1)) parts.0)
-      | inr other ↦ other
-    ])
-    (has-just_other view.lead q (λ same. both_ways _ is.leader_up (ap (has down) (sym same) ∙ is_down)))) in
-    let reused : is_empty ((member_ids now ∖ member_ids now) ∩ view.retired) ≡ true =
-    common-is_empty (member_ids now ∖ member_ids now) view.retired (λ q here. let parts = in-without (member_ids now) (member_ids now) q here in absurd (both_ways _ parts.1 parts.0)) in
-    let all = member_ids now ∪ member_ids now in
-    let started : is_empty (all ∖ voter_ids now ∖ down ∖ view.running) ≡ true =
-    without-is_empty (all ∖ voter_ids now ∖ down) view.running (λ q here.
-    let of_down = in-without (all ∖ voter_ids now) down q here in
-    let of_voters = in-without all (voter_ids now) q of_down.0 in
-    let member : is_member now q ≡ true = sym (has-all_members now q) ∙ both_same (has (member_ids now) q) (sym (has-union (member_ids now) (member_ids now) q) ∙ of_voters.0) in
+    let named = none-heard heard (member_ids now) down view.lead (λ q is_down member. is.silent q is_down (sym (has-all_members now q) ∙ member)) is.leader_up in
+    let reused : is_empty ((member_ids now ∖ voter_ids now) ∩ view.retired) ≡ true =
+    common-is_empty (member_ids now ∖ voter_ids now) view.retired (λ q here.
+    let parts = in-without (member_ids now) (voter_ids now) q here in
+    is.not_retired q (learner-from_member now q (sym (has-all_members now q) ∙ parts.0) parts.1)) in
+    let staying = (member_ids now ∪ member_ids now) ∩ member_ids now in
+    let started : is_empty (staying ∖ voter_ids now ∖ down ∖ view.running) ≡ true =
+    without-is_empty (staying ∖ voter_ids now ∖ down) view.running (λ q here.
+    let of_down = in-without (staying ∖ voter_ids now) down q here in
+    let of_voters = in-without staying (voter_ids now) q of_down.0 in
+    let member : is_member now q ≡ true = sym (has-all_members now q) ∙ (in-common (member_ids now ∪ member_ids now) (member_ids now) q of_voters.0).1 in
     is.learners_run q (learner-from_member now q member of_voters.1) of_down.1) in
     let stopped : is_empty (view.running ∖ member_ids now ∖ member_ids now) ≡ true =
     without-is_empty (view.running ∖ member_ids now) (member_ids now) (λ q here.
@@ -288,22 +233,23 @@ done-answered down view valid counts is =
     cond-true (is_empty (needed_at_target s ∖ down ∖ up)) Done (wait_for s (needed_at_target s ∖ down ∖ up)) (ap (λ ids. is_empty (ids ∖ down ∖ up)) needed ∙ none_left) in
     let quorum_lost : row.quorum_lost s ≡ None = when-false _ _ (ap not (is_quorum-not_down now down ∙ is.quorum)) in
     let down_is_heard : row.down_is_heard s ≡ None = if_any-empty _ (Wait Heard) named in
-    let no_leader : row.no_leader s ≡ None = when-false _ _ (zero_leads_not now view.lead members is.leader) in
-    let outgoing_leads : row.outgoing_leads s ≡ None = if-none _ (transfer_to_one s (now.incoming ∩ up)) (and_left _ _ (and_left _ _ none_pending)) in
+    let no_leader : row.no_leader s ≡ None = when-false _ _ (ne_eqb view.lead 0 (voter-not_zero now view.lead members is.leader)) in
+    let nonvoter_leads : row.nonvoter_leads s ≡ None = unless-none _ _ is.leader in
+    let leader_is_dropped : row.leader_is_dropped s ≡ None = if-none _ (transfer_to_one s (successors s)) none_pending in
     let is_pending : row.is_pending s ≡ None = when-false _ _ none_pending in
     let path_stalls : row.path_stalls s ≡ None = when-false _ _ (stalls-not now down counts) in
     let id_is_reused : row.id_is_reused s ≡ None = if_any-empty _ (Stuck Reused) reused in
     let not_started : row.not_started s ≡ None = if_any-empty _ Start started in
-    let not_stopped : row.not_stopped s ≡ None = if-both_none (is_empty s.lack_configuration) _ (if_any-empty _ Stop stopped) in
+    let not_stopped : row.not_stopped s ≡ None = if-both_none (may_stop s) _ (if_any-empty _ Stop stopped) in
     let is_leaving : row.is_leaving s ≡ None = refl in
-    let leader_leaves : row.leader_leaves s ≡ None = unless-none _ (transfer_to_one s (voter_ids now ∩ leader_ids now ∩ up)) is.leader in
-    let successor_lags : row.successor_lags s ≡ None = unless-none _ (if_any (voter_ids now ∩ leader_ids now ∖ down) (wait_for s)) is.leader in
+    let leader_leaves : row.leader_leaves s ≡ None = unless-none _ (transfer_to_one s (voter_ids now ∩ voter_ids now ∩ up)) is.leader in
+    let successor_lags : row.successor_lags s ≡ None = unless-none _ (if_any (voter_ids now ∩ voter_ids now ∖ down) (wait_for s)) is.leader in
     let at_target : row.at_target s ≡ Some Done = ap Some done in
     let before = rows_of_view s ++ rows_of_path s ++ row.leader_leaves s ∷ row.successor_lags s ∷ [] in
-    let after = row.voter_is_behind s ∷ row.no_quorum_is_up s ∷ row.voter_is_silent s ∷ [] in
+    let after = row.new_voter_lags s ∷ row.voter_is_behind s ∷ row.no_quorum_is_up s ∷ row.voter_is_silent s ∷ [] in
     let found : first_of (rows_of_view s ++ rows_of_path s ++ rows_of_step s) ≡ Some Done =
     left_out before (row.at_target s ∷ after)
-    (quorum_lost, (down_is_heard, (no_leader, (outgoing_leads, (is_pending, (path_stalls, (id_is_reused, (not_started, (not_stopped, (is_leaving, (leader_leaves, (successor_lags, tt))))))))))))
+    (quorum_lost, (down_is_heard, (no_leader, (nonvoter_leads, (leader_is_dropped, (is_pending, (path_stalls, (id_is_reused, (not_started, (not_stopped, (is_leaving, (leader_leaves, (successor_lags, tt)))))))))))))
     ∙ ap (λ r. first_of (r ∷ after)) at_target in
     ap (λ answer. unwrap_or answer Done) found
 

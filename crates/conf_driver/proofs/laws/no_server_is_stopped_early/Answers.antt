@@ -1,5 +1,5 @@
-use Rattle.std.proofs.Common.{◌≡◌, ℕ, Bool, true, false, ◌||◌, List, [], ◌∷◌, refl, sym, ap, ◌∙◌, arith, inl, inr}
-use Rattle.std.proofs.lemmas.Bool.{both_ways, or_cases, or_left}
+use Rattle.std.proofs.Common.{◌≡◌, ℕ, Bool, true, false, ◌||◌, List, [], ◌∷◌, refl, sym, ap, ◌∙◌, arith}
+use Rattle.std.proofs.lemmas.Bool.{both_ways}
 use Rattle.quorum_sets.specs.Ids.{has}
 use Rattle.quorum_sets.proofs.Offered.{has-union}
 use Rattle.conf_change.specs.Configuration.{Configuration, is_member, member_ids}
@@ -8,11 +8,10 @@ use Rattle.conf_change.proofs.Offered.{has-all_members}
 use Rattle.conf_plan.specs.OneChangeEach.{one_change_each}
 use Rattle.conf_plan.specs.OnTheWay.{EachOnTheWay, HasMembersOf}
 use Rattle.conf_plan.specs.PathBy.{path_by}
-use Rattle.conf_driver.specs.IdSets.{◌∪◌, ◌∖◌}
+use Rattle.conf_driver.specs.IdSets.{◌∪◌, ◌∩◌, ◌∖◌}
 use Rattle.conf_driver.specs.Next.{situation}
-use Rattle.conf_driver.specs.Situation.{after_first, voter_ids}
-use Rattle.conf_driver.proofs.FirstStep.{after_first-is}
-use Rattle.conf_driver.proofs.IdsByMember.{has-without-is, in-without, not-in_second}
+use Rattle.conf_driver.specs.View.{voter_ids}
+use Rattle.conf_driver.proofs.IdsByMember.{has-without-is, in-common, in-without, not-in_second}
 use Rattle.conf_driver.proofs.RowsPassed.{reused-passed}
 use Rattle.conf_driver.proofs.ServersAnswered.{IsStarted-from_answer, IsStopped-from_answer, to_run}
 use Rattle.conf_driver.proofs.WhoIsUp.{having-all}
@@ -30,7 +29,8 @@ outside false one other within one_not other_not = refl
 pub returns-clause-stop : goal.returns-clause-stop
 returns-clause-stop c strategy target down view ids id is here =
     let now = view.conf_state in
-    let stopped = IsStopped-from_answer (situation strategy target down view) (one_change_each (path_by strategy down now target)) ids is in
+    let s = situation strategy target down view in
+    let stopped = IsStopped-from_answer s (one_change_each (path_by strategy down now target)) ids is in
     let of_target = in-without (view.running ∖ member_ids now) (member_ids target) id (ap (λ s. has s id) stopped.named ∙ here) in
     let of_now = in-without view.running (member_ids now) id of_target.0 in
     let not_now = sym (has-all_members now id) ∙ of_now.1 in
@@ -42,8 +42,9 @@ returns-clause-stop c strategy target down view ids id is here =
       not_on_the_way = λ other other_down valid_now valid_target path.
           each-weaker (HasMembersOf now target) (λ d. is_member d id ≡ false) (λ d members. outside (is_member d id) (is_member now id) (is_member target id) (members id) not_now not_target) now target _
           (c.one_change_each_leads.ensures other other_down now target valid_now valid_target path).members;
-      known = λ voter votes not_down.
-          having-all view view.conf_index (voter_ids now ∖ down) voter stopped.known (has-without-is (voter_ids now) down voter (has-union now.incoming now.outgoing voter ∙ votes) not_down);
+      known = λ member is_one not_down.
+          having-all view view.conf_index (member_ids now ∖ down) member stopped.known (has-without-is (member_ids now) down member (has-all_members now member ∙ is_one) not_down);
+      heard = stopped.heard;
     }
 
 pub returns-clause-start : goal.returns-clause-start
@@ -52,37 +53,15 @@ returns-clause-start c strategy target down view ids id is here =
     let s = situation strategy target down view in
     let started = IsStarted-from_answer s (one_change_each (path_by strategy down now target)) ids is in
     let members = member_ids s.after ∪ member_ids now in
+    let staying = members ∩ member_ids target in
     let of_running = in-without (to_run s) view.running id (ap (λ t. has t id) started.named ∙ here) in
-    let of_down = in-without (members ∖ voter_ids now) down id of_running.0 in
-    let of_voters = in-without members (voter_ids now) id of_down.0 in
+    let of_down = in-without (staying ∖ voter_ids now) down id of_running.0 in
+    let of_voters = in-without staying (voter_ids now) id of_down.0 in
+    let of_target = (in-common members (member_ids target) id of_voters.0).1 in
     record {
+      of_target = sym (has-all_members target id) ∙ of_target;
       runs_not = of_running.1;
       votes_not = sym (has-union now.incoming now.outgoing id) ∙ of_voters.1;
       not_down = of_down.1;
-      not_retired = λ of_target not_now.
-          not-in_second (member_ids target ∖ member_ids now) view.retired id (reused-passed s started.reused)
-          (has-without-is (member_ids target) (member_ids now) id (has-all_members target id ∙ of_target) (has-all_members now id ∙ not_now));
+      not_retired = not-in_second (member_ids target ∖ voter_ids now) view.retired id (reused-passed s started.reused) (has-without-is (member_ids target) (voter_ids now) id of_target of_voters.1);
     }
-
--- a member after the first step is one before it or at the target
-after-members : (now target : Configuration) (steps : List Step) (id : ℕ) → EachOnTheWay (HasMembersOf now target) now steps target → is_member (after_first now steps) id ≡ true
-    → (is_member now id || is_member target id) ≡ true
-after-members now target [] id each member = or_left _ _ member
-after-members now target (step ∷ steps) id each member =
-    let same = after_first-is now each.0 (step ∷ steps) steps step refl each.1.0 in
-    each.1.1 id (ap (λ c. is_member c id) (sym same) ∙ member)
-
-pub returns-clause-members : goal.returns-clause-members
-returns-clause-members c strategy target down view ids id can is here =
-    let now = view.conf_state in
-    let s = situation strategy target down view in
-    let steps = one_change_each (path_by strategy down now target) in
-    let started = IsStarted-from_answer s steps ids is in
-    let members = member_ids s.after ∪ member_ids now in
-    let of_running = in-without (to_run s) view.running id (ap (λ t. has t id) started.named ∙ here) in
-    let of_down = in-without (members ∖ voter_ids now) down id of_running.0 in
-    let of_voters = in-without members (voter_ids now) id of_down.0 in
-    elim (or_cases (has (member_ids s.after) id) (has (member_ids now) id) (sym (has-union (member_ids s.after) (member_ids now) id) ∙ of_voters.0)) [
-      | inl after ↦ after-members now target steps id (c.one_change_each_leads.ensures strategy down now target can.valid_now can.valid_target can.path).members (sym (has-all_members s.after id) ∙ after)
-      | inr before ↦ or_left _ _ (sym (has-all_members now id) ∙ before)
-    ]

@@ -1,6 +1,6 @@
 use Rattle.std.proofs.Common.{◌≡◌, ◌≢◌, ℕ, ◌<◌, Bool, true, false, not, ◌&&◌, ◌||◌, List, [], ◌∷◌, refl, sym, ap, subst, ◌∙◌, arith, inl, inr, ◌⊎◌}
-use Rattle.std.specs.Prelude.{Some, None, nat_eq, nat_le}
-use Rattle.std.proofs.lemmas.Bool.{and_from, and_parts, both_ways, cases_Bool, cases_eq, leb-false, or_cases, or_left, or_right}
+use Rattle.std.specs.Prelude.{Some, None, nat_eq}
+use Rattle.std.proofs.lemmas.Bool.{and_parts, both_ways, cases_Bool, cases_eq, or_cases, or_left}
 use Rattle.quorum_sets.specs.Ids.{Ids, has, is_empty}
 use Rattle.quorum_sets.proofs.Offered.{has-ids_of, has-union}
 use Rattle.conf_change.specs.Configuration.{Configuration, is_member, member_ids}
@@ -14,46 +14,34 @@ use Rattle.conf_plan.specs.declared.strategy.Strategy.{Strategy}
 use Rattle.conf_driver.specs.IdSets.{◌∪◌, ◌∩◌, ◌∖◌, just, or_else}
 use Rattle.conf_driver.specs.Next.{next_of, situation}
 use Rattle.conf_driver.specs.Rows as row
-use Rattle.conf_driver.specs.Situation.{has_step, voter_ids}
-use Rattle.conf_driver.specs.View.{ViewState, having, heard_from, lacking, match_of, up_and_caught_up}
+use Rattle.conf_driver.specs.Situation.{has_step}
+use Rattle.conf_driver.specs.View.{ViewState, heard_from, lacking, match_of, up_and_caught_up, voter_ids}
 use Rattle.conf_driver.specs.Waits.{HasCome, IsVoterOrLeads, LacksWhatIsNamed}
 use Rattle.conf_driver.specs.declared.action.Action.TheVariants.{Wait}
 use Rattle.conf_driver.specs.declared.action.WaitReason.{WaitReason}
 use Rattle.conf_driver.specs.declared.action.WaitReason.TheVariants.{NoLeader, Pending, Heard, Unheard, Behind, Leaving}
 use Rattle.conf_driver.specs.declared.situation.Situation.{Situation}
 use Rattle.conf_driver.specs.declared.view.MemberView.{MemberView}
-use Rattle.conf_driver.proofs.Counting.{Commits, FewerTolerateMore, Fits, quorum-grows, quorum-has_voter}
+use Rattle.conf_driver.proofs.Counted.{IsCounted}
+use Rattle.conf_driver.proofs.Counting.{quorum-grows, quorum-has_voter}
 use Rattle.conf_driver.proofs.FirstStep.{after_first-is, first-holds, voters-learn_first, voters-were_members}
-use Rattle.conf_driver.proofs.IdsByMember.{in-common, in-without, not-in_second}
+use Rattle.conf_driver.proofs.IdsByMember.{in-common, in-without, has-just}
+use Rattle.conf_driver.proofs.Leaders.{leader-up}
+use Rattle.conf_driver.proofs.Needed.{incoming-are_members, learners-are_members, voters-are_members, within-union}
 use Rattle.conf_driver.proofs.RowAnswers.{if_any-some, when-none, when-some}
-use Rattle.conf_driver.proofs.RowsPassed.{heard-passed, leaving-passed, pending-passed, quorum-passed}
-use Rattle.conf_driver.proofs.Waiting.{IsOfOneView, IsPassed, NamesLagging, Waits, ByHeard, ByLeader, ByPending, ByLeaving, BySuccessor, ByTarget, ByBehind, ByQuorum, BySilent, Waits-from_answer, in-or_else, names-behind, names-quorum, names-silent, names-successor, names-target, or_else-some, same_wait}
-use Rattle.conf_driver.proofs.WhoIsUp.{has-having, lacks-not_up}
+use Rattle.conf_driver.proofs.RowsPassed.{heard-passed, leaving-passed, nonvoter-passed, pending-passed, quorum-passed}
+use Rattle.conf_driver.proofs.Waiting.{IsOfOneView, IsPassed, NamesLagging, Waits, ByHeard, ByLeader, ByNonvoter, ByPending, ByLeaving, BySuccessor, ByTarget, ByNewVoter, ByBehind, ByQuorum, BySilent, Waits-from_answer, in-or_else, names-behind, names-new_voter, names-nonvoter, names-quorum, names-silent, names-successor, names-target, or_else-some, same_wait}
+use Rattle.conf_driver.proofs.WhoIsUp.{lacks-not_up, less-lacking}
 use Rattle.conf_driver.proofs.laws.waits_name_who_lacks_what.Goals as goal
-
--- ---- what is said of counting
-record IsCounted : Type 0 where
-  fits : Fits
-  commits : Commits
-  fewer : FewerTolerateMore
-
-voter-member : (c : Configuration) (id : ℕ) → has (voter_ids c) id ≡ true → has (member_ids c) id ≡ true
-voter-member c id here = has-all_members c id ∙ or_left _ (has c.learners id) (sym (has-union c.incoming c.outgoing id) ∙ here)
-
-needed-member : (c : Configuration) (id : ℕ) → has (c.incoming ∪ c.learners) id ≡ true → has (member_ids c) id ≡ true
-needed-member c id here = let either : (has c.incoming id || has c.learners id) ≡ true = sym (has-union c.incoming c.learners id) ∙ here in has-all_members c id ∙ grind (arith, either)
 
 one-view : IsCounted → (strategy : Strategy) (target : Configuration) (down : Ids) (view : ViewState) → IsOfOneView (situation strategy target down view)
 one-view counted strategy target down view = record {
-  voters = voter-member view.conf_state;
-  needed = needed-member view.conf_state;
+  voters = voters-are_members view.conf_state;
+  needed = within-union view.conf_state.incoming view.conf_state.learners (member_ids view.conf_state) (incoming-are_members view.conf_state) (learners-are_members view.conf_state);
   grows = quorum-grows counted.fits counted.commits counted.fewer view.conf_state down (up_and_caught_up down view);
 }
 
 -- ---- what a wait is for
-has-just : (id : ℕ) → has (just id) id ≡ true
-has-just id = grind (arith, has-ids_of (id ∷ []) id)
-
 in-just : (lead id : ℕ) → has (just lead) id ≡ true → id ≡ lead
 in-just lead id here = elim (cases_eq id lead) [
   | inl same ↦ same
@@ -68,17 +56,14 @@ just-some id = elim (cases_Bool (is_empty (just id))) [
 
 -- who leads is not down, where no row says so
 leader-not_down : (s : Situation) → row.down_is_heard s ≡ None → has s.down s.lead ≡ false
-leader-not_down s passed = elim (cases_Bool (has s.down s.lead)) [
-  | inl is_down ↦ absurd (both_ways _ (not-in_second s.down (s.heard ∩ s.members ∪ just s.lead) s.lead (heard-passed s passed) is_down) (has-union (s.heard ∩ s.members) (just s.lead) s.lead ∙ or_right _ _ (has-just s.lead)))
-  | inr not_down ↦ not_down
-]
+leader-not_down s passed = leader-up s.heard s.members s.down s.lead (heard-passed s passed)
 
 -- a wait that a row on the view names, or one for who is behind or not heard from, once these have been passed
 data Kinds (s : Situation) (why : WaitReason) (ids : Ids) : Type 0 where
   OfHeard : why ≡ Heard → is_empty ids ≡ false → (s.down ∩ (s.heard ∩ s.members ∪ just s.lead)) ≡ ids → Kinds s why ids
   OfLeader : why ≡ NoLeader → row.quorum_lost s ≡ None → nat_eq s.lead 0 ≡ true → or_else (s.voters ∖ s.down ∖ s.heard) (s.voters ∖ s.down) ≡ ids → Kinds s why ids
-  OfPending : why ≡ Pending → row.down_is_heard s ≡ None → s.is_pending ≡ true → or_else s.lack_pending (just s.lead) ≡ ids → Kinds s why ids
-  OfLeaving : why ≡ Leaving → row.down_is_heard s ≡ None → (s.has_step && s.before.auto_leave) ≡ true → or_else (s.voters ∖ s.down ∖ s.up) (just s.lead) ≡ ids → Kinds s why ids
+  OfPending : why ≡ Pending → row.down_is_heard s ≡ None → has s.voters s.lead ≡ true → s.is_pending ≡ true → or_else s.lack_pending (just s.lead) ≡ ids → Kinds s why ids
+  OfLeaving : why ≡ Leaving → row.down_is_heard s ≡ None → has s.voters s.lead ≡ true → (s.has_step && s.before.auto_leave) ≡ true → or_else (s.voters ∖ s.down ∖ s.up) (just s.lead) ≡ ids → Kinds s why ids
   OfStep : IsPassed s → NamesLagging s why ids → Kinds s why ids
 
 Kinds-from_row : (s : Situation) (why : WaitReason) (ids : Ids) → IsOfOneView s → Waits s (Some (Wait why ids)) → Kinds s why ids
@@ -90,16 +75,18 @@ Kinds-from_row s why ids sets (ByLeader counts here) =
     let given = when-some (nat_eq s.lead 0) (Wait NoLeader (or_else (s.voters ∖ s.down ∖ s.heard) (s.voters ∖ s.down))) (Wait why ids) here in
     let same = same_wait NoLeader why _ ids given.1 in
     OfLeader (sym same.0) counts given.0 same.1
-Kinds-from_row s why ids sets (ByPending heard here) =
+Kinds-from_row s why ids sets (ByPending heard votes here) =
     let given = when-some s.is_pending (Wait Pending (or_else s.lack_pending (just s.lead))) (Wait why ids) here in
     let same = same_wait Pending why _ ids given.1 in
-    OfPending (sym same.0) heard given.0 same.1
-Kinds-from_row s why ids sets (ByLeaving heard here) =
+    OfPending (sym same.0) heard (nonvoter-passed s votes) given.0 same.1
+Kinds-from_row s why ids sets (ByLeaving heard votes here) =
     let given = when-some (s.has_step && s.before.auto_leave) (Wait Leaving (or_else (s.voters ∖ s.down ∖ s.up) (just s.lead))) (Wait why ids) here in
     let same = same_wait Leaving why _ ids given.1 in
-    OfLeaving (sym same.0) heard given.0 same.1
+    OfLeaving (sym same.0) heard (nonvoter-passed s votes) given.0 same.1
+Kinds-from_row s why ids sets (ByNonvoter passed here) = OfStep passed (names-nonvoter s why ids sets passed.quorum_lost here)
 Kinds-from_row s why ids sets (BySuccessor passed stays here) = OfStep passed (names-successor s why ids sets stays here)
 Kinds-from_row s why ids sets (ByTarget passed here) = OfStep passed (names-target s why ids sets here)
+Kinds-from_row s why ids sets (ByNewVoter passed here) = OfStep passed (names-new_voter s why ids here)
 Kinds-from_row s why ids sets (ByBehind passed here) = OfStep passed (names-behind s why ids here)
 Kinds-from_row s why ids sets (ByQuorum passed here) = OfStep passed (names-quorum s why ids sets passed.quorum_lost here)
 Kinds-from_row s why ids sets (BySilent passed on_the_way here) = OfStep passed (names-silent s why ids on_the_way here)
@@ -120,8 +107,8 @@ some-named s why ids (OfLeader is counts leads named) =
       | inr some ↦ some
     ] in
     ap is_empty (sym named) ∙ or_else-some (counted ∖ s.heard) counted some
-some-named s why ids (OfPending is heard pending named) = ap is_empty (sym named) ∙ or_else-some s.lack_pending (just s.lead) (just-some s.lead)
-some-named s why ids (OfLeaving is heard leaving named) = ap is_empty (sym named) ∙ or_else-some (s.voters ∖ s.down ∖ s.up) (just s.lead) (just-some s.lead)
+some-named s why ids (OfPending is heard voter pending named) = ap is_empty (sym named) ∙ or_else-some s.lack_pending (just s.lead) (just-some s.lead)
+some-named s why ids (OfLeaving is heard voter leaving named) = ap is_empty (sym named) ∙ or_else-some (s.voters ∖ s.down ∖ s.up) (just s.lead) (just-some s.lead)
 some-named s why ids (OfStep passed (inl behind)) = behind.some
 some-named s why ids (OfStep passed (inr unheard)) = unheard.some
 
@@ -131,16 +118,6 @@ is_not_zero n some = grind (arith, some)
 
 is_zero : (n : ℕ) → nat_eq n 0 ≡ true → n ≡ 0
 is_zero n none = grind (arith, none)
-
--- who lacks an index has less
-less-lacking : (view : ViewState) (index : ℕ) (ids : Ids) (id : ℕ) → has (lacking view index ids) id ≡ true → (has ids id ≡ true) × (match_of view id < index)
-less-lacking view index ids id here =
-    let parts = in-without ids (having view index ids) id here in
-    let less : nat_le index (match_of view id) ≡ false = elim (cases_Bool (nat_le index (match_of view id))) [
-      | inl has_it ↦ absurd (both_ways _ parts.1 (has-having view index ids id ∙ and_from _ _ has_it parts.0))
-      | inr less ↦ less
-    ] in
-    (parts.0, leb-false index (match_of view id) less)
 
 abbrev voter : Configuration → ℕ → Bool
 voter c id = has c.incoming id || has c.outgoing id
@@ -168,7 +145,7 @@ lacks-named strategy target down view why ids id (OfLeader is counts leads named
     ] in
     let parts = counted-voter view.conf_state down id given in
     subst (λ w. LacksWhatIsNamed w down view id) (sym is) (parts.1, is_zero view.lead leads, parts.0)
-lacks-named strategy target down view why ids id (OfPending is heard pending named) here =
+lacks-named strategy target down view why ids id (OfPending is heard voter pending named) here =
     let counted = voter_ids view.conf_state ∖ down in
     let index = view.pending_conf_index in
     let given : (has down id ≡ false) × IsVoterOrLeads view id (match_of view id < index) = elim (in-or_else (lacking view index counted) (just view.lead) id (ap (λ s. has s id) named ∙ here)) [
@@ -176,7 +153,7 @@ lacks-named strategy target down view why ids id (OfPending is heard pending nam
       | inr leads ↦ let same = in-just view.lead id leads in (ap (has down) same ∙ leader-not_down (situation strategy target down view) heard, inr same)
     ] in
     subst (λ w. LacksWhatIsNamed w down view id) (sym is) (given.0, is_not_zero index pending, given.1)
-lacks-named strategy target down view why ids id (OfLeaving is heard leaving named) here =
+lacks-named strategy target down view why ids id (OfLeaving is heard voter leaving named) here =
     let counted = voter_ids view.conf_state ∖ down in
     let up = up_and_caught_up down view in
     let given : (has down id ≡ false) × IsVoterOrLeads view id (has up id ≡ false) = elim (in-or_else (counted ∖ up) (just view.lead) id (ap (λ s. has s id) named ∙ here)) [
@@ -207,10 +184,10 @@ member-named strategy target down view why ids id after (OfHeard is some named) 
     ]
 member-named strategy target down view why ids id after (OfLeader is counts leads named) here =
     inl (or_left _ _ (subst (λ w. LacksWhatIsNamed w down view id) is (lacks-named strategy target down view why ids id (OfLeader is counts leads named) here)).2)
-member-named strategy target down view why ids id after (OfPending is heard pending named) here =
-    voter-or_leads view id (subst (λ w. LacksWhatIsNamed w down view id) is (lacks-named strategy target down view why ids id (OfPending is heard pending named) here)).2
-member-named strategy target down view why ids id after (OfLeaving is heard leaving named) here =
-    voter-or_leads view id (subst (λ w. LacksWhatIsNamed w down view id) is (lacks-named strategy target down view why ids id (OfLeaving is heard leaving named) here)).2
+member-named strategy target down view why ids id after (OfPending is heard voter pending named) here =
+    voter-or_leads view id (subst (λ w. LacksWhatIsNamed w down view id) is (lacks-named strategy target down view why ids id (OfPending is heard voter pending named) here)).2
+member-named strategy target down view why ids id after (OfLeaving is heard voter leaving named) here =
+    voter-or_leads view id (subst (λ w. LacksWhatIsNamed w down view id) is (lacks-named strategy target down view why ids id (OfLeaving is heard voter leaving named) here)).2
 member-named strategy target down view why ids id after (OfStep passed (inl behind)) here = inl (sym (has-all_members view.conf_state id) ∙ (behind.lagging id here).member)
 member-named strategy target down view why ids id after (OfStep passed (inr unheard)) here = elim (unheard.member id here) [
   | inl member ↦ inl (sym (has-all_members view.conf_state id) ∙ member)
@@ -227,10 +204,10 @@ clear-from_lagging s why ids id (OfHeard is some named) (inl other) here = absur
 clear-from_lagging s why ids id (OfHeard is some named) (inr other) here = absurd (cc)
 clear-from_lagging s why ids id (OfLeader is counts leads named) (inl other) here = absurd (cc)
 clear-from_lagging s why ids id (OfLeader is counts leads named) (inr other) here = absurd (cc)
-clear-from_lagging s why ids id (OfPending is heard pending named) (inl other) here = absurd (cc)
-clear-from_lagging s why ids id (OfPending is heard pending named) (inr other) here = absurd (cc)
-clear-from_lagging s why ids id (OfLeaving is heard leaving named) (inl other) here = absurd (cc)
-clear-from_lagging s why ids id (OfLeaving is heard leaving named) (inr other) here = absurd (cc)
+clear-from_lagging s why ids id (OfPending is heard voter pending named) (inl other) here = absurd (cc)
+clear-from_lagging s why ids id (OfPending is heard voter pending named) (inr other) here = absurd (cc)
+clear-from_lagging s why ids id (OfLeaving is heard voter leaving named) (inl other) here = absurd (cc)
+clear-from_lagging s why ids id (OfLeaving is heard voter leaving named) (inr other) here = absurd (cc)
 clear-from_lagging s why ids id (OfStep passed (inl behind)) lags here = record { passed = passed; not_down = (behind.lagging id here).not_down }
 clear-from_lagging s why ids id (OfStep passed (inr unheard)) lags here = record { passed = passed; not_down = unheard.not_down id here }
 
@@ -240,10 +217,10 @@ named-not_come : (strategy : Strategy) (target : Configuration) (down : Ids) (vi
 named-not_come strategy target down view progress why ids id clear come (OfHeard is some named) here =
     both_ways _ clear.not_down (in-common down _ id (ap (λ s. has s id) named ∙ here)).0
 named-not_come strategy target down view progress why ids id clear come (OfLeader is counts leads named) here = both_ways _ (when-none (nat_eq view.lead 0) _ clear.passed.no_leader) leads
-named-not_come strategy target down view progress why ids id clear come (OfPending is heard pending named) here =
-    both_ways _ (pending-passed (situation strategy target down view) clear.passed.is_pending) pending
-named-not_come strategy target down view progress why ids id clear come (OfLeaving is heard leaving named) here =
-    both_ways _ (leaving-passed (situation strategy target down view) clear.passed.is_leaving) leaving
+named-not_come strategy target down view progress why ids id clear come (OfPending is heard voter pending named) here =
+    both_ways _ (pending-passed (situation strategy target down view) (clear.passed.later voter).0) pending
+named-not_come strategy target down view progress why ids id clear come (OfLeaving is heard voter leaving named) here =
+    both_ways _ (leaving-passed (situation strategy target down view) (clear.passed.later voter).1) leaving
 named-not_come strategy target down view progress why ids id clear come (OfStep passed (inl behind)) here =
     let lags = behind.lagging id here in
     let less = lacks-not_up down (record view { progress = progress }) id (sym (has-all_members view.conf_state id) ∙ lags.member) (behind.heard id here) lags.not_down lags.not_up in

@@ -3,8 +3,7 @@ use Rattle.std.specs.Prelude.{nat_eq}
 use Rattle.quorum_sets.specs.Ids.{Ids}
 use Rattle.conf_change.specs.Configuration.{Configuration, member_ids}
 use Rattle.conf_driver.specs.IdSets.{◌∖◌}
-use Rattle.conf_driver.specs.Situation.{leader_ids, voter_ids}
-use Rattle.conf_driver.specs.View.{ViewState, lacking}
+use Rattle.conf_driver.specs.View.{ViewState, lacking, voter_ids}
 use Rattle.conf_driver.proofs.situation.situation_of.Goals as goal
 
 pub returns : goal.returns
@@ -15,15 +14,14 @@ returns c =
     let after = ap (λ (t : Configuration × Configuration × Configuration). t.1) all in
     let target = ap (λ (t : Configuration × Configuration × Configuration). t.2) all in
     let sets = c.in_ok-members.ensures in
-    let voters = ap (λ (t : Ids × Ids × Ids × Ids). t.0) sets ∙ ap voter_ids before in
-    let members = ap (λ (t : Ids × Ids × Ids × Ids). t.1) sets ∙ ap member_ids before in
-    let voters_after = ap (λ (t : Ids × Ids × Ids × Ids). t.2) sets ∙ ap voter_ids after in
-    let leaders_after = ap (λ (t : Ids × Ids × Ids × Ids). t.3) sets ∙ ap leader_ids after in
+    let voters = ap (λ (t : Ids × Ids × Ids). t.0) sets ∙ ap voter_ids before in
+    let members = ap (λ (t : Ids × Ids × Ids). t.1) sets ∙ ap member_ids before in
+    let voters_after = ap (λ (t : Ids × Ids × Ids). t.2) sets ∙ ap voter_ids after in
     let down = ap (λ (t : Ids × Ids × Ids). t.0) c.in_ok-servers.ensures in
     let running = ap (λ (t : Ids × Ids × Ids). t.1) c.in_ok-servers.ensures in
     let retired = ap (λ (t : Ids × Ids × Ids). t.2) c.in_ok-servers.ensures in
     let lack_pending = ap (λ (t : Ids × Ids). t.0) c.in_ok-lacking.ensures ∙ ap (λ ids. lacking view view.pending_conf_index (ids ∖ c.args.down.now)) voters in
-    let lack_configuration = ap (λ (t : Ids × Ids). t.1) c.in_ok-lacking.ensures ∙ ap (λ ids. lacking view view.conf_index (ids ∖ c.args.down.now)) voters in
+    let lack_configuration = ap (λ (t : Ids × Ids). t.1) c.in_ok-lacking.ensures ∙ ap (λ ids. lacking view view.conf_index (ids ∖ c.args.down.now)) members in
     let heard = ap (λ (t : Ids × Ids). t.0) c.in_ok-seen.ensures in
     let up = ap (λ (t : Ids × Ids). t.1) c.in_ok-seen.ensures in
     let lead = ap (λ (v : ViewState). v.lead) c.view.view_is in
@@ -38,7 +36,6 @@ returns c =
       voters = voters i;
       members = members i;
       voters_after = voters_after i;
-      leaders_after = leaders_after i;
       down = down i;
       heard = heard i;
       up = up i;

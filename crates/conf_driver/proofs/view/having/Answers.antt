@@ -1,33 +1,37 @@
-use Rattle.std.proofs.Common.{◌≡◌, ℕ, Bool, not, ◌&&◌, take, sym, ap, ◌∙◌, arith}
-use Rattle.std.specs.Prelude.{nat_le, nat_lt}
-use Rattle.std.proofs.lemmas.List.{take_all}
+use Rattle.std.proofs.Common.{◌≡◌, ℕ, ◌<◌, Bool, List, length, map, get_or, sym, ap, ◌∙◌, arith}
+use Rattle.std.specs.Prelude.{filter, nat_le}
 use Rattle.std.proofs.lemmas.Bool.Decides.{nat_tests}
-use Rattle.quorum_sets.specs.Ids.{ascending, has}
-use Rattle.quorum_sets.proofs.Offered.{has-ascending, has-ids_where, has-same_ids, slice_get-not_past}
-use Rattle.conf_driver.specs.View.{match_of}
-use Rattle.conf_driver.proofs.RemovedIds.{is_in, kept-failing, removed-passing}
+use Rattle.std.proofs.lemmas.List.{get_or-map, take_all}
+use Rattle.std.proofs.lemmas.Result.{IfOk-weaker}
+use Rattle.quorum_sets.specs.Ids.{Ids, ascending, ids_of}
+use Rattle.conf_driver.specs.View.{ViewState, having, match_of}
+use Rattle.conf_driver.proofs.KeptIds.{kept-failing, kept-passing}
 use Rattle.conf_driver.proofs.view.having.Goals as goal
-use Rattle.conf_driver.proofs.view.having.Goals.{in-Some+then-lacks, in-Some+else-lacks, in_default}
+use Rattle.conf_driver.proofs.view.having.Goals.{then-as_slice-position+in_ok-push, else-as_slice-position}
+
+-- the match at a position
+match-at : (view : ViewState) (ids : Ids) (items matches : List ℕ) (k : ℕ) → matches ≡ map (match_of view) (ascending ids) → items ≡ ascending ids → k < length items
+    → get_or matches k 0 ≡ match_of view (get_or items k 0)
+match-at view ids items matches k all same within =
+    ap (λ xs. get_or xs k 0) (all ∙ ap (map (match_of view)) (sym same)) ∙ get_or-map (match_of view) items k 0 0 within
 
 pub loop-position-preserved : goal.loop-position-preserved
 loop-position-preserved c =
-    let test : ℕ → Bool = λ id. nat_lt (match_of c.args.view.now id) c.args.index in
-    elim c.match-at.branch [
-      | in-Some+then-lacks w ↦ λ q.
-          removed-passing test c.args.ids.now c.loop-position.having _ (ascending c.args.ids.now) c.loop-position.position w.in-Some.id q (sym w.in-Some.ensures)
-          (sym w.lacks.ensures ∙ w.if-lacks.true) (w.having-is ∙ w.remove.ensures.after) (c.loop-position.invariant q)
-      | in-Some+else-lacks w ↦ λ q.
-          kept-failing test c.args.ids.now c.loop-position.having _ (ascending c.args.ids.now) c.loop-position.position w.in-Some.id q (sym w.in-Some.ensures)
-          (sym w.lacks.ensures ∙ w.if-lacks.false) w.having-is (c.loop-position.invariant q)
-      | in_default w ↦ slice_get-not_past _ _ _ (sym w.in_default.is ∙ c.at.ensures) c.len-position-end.ensures c.loop-position-test.true
+    let test : ℕ → Bool = λ id. nat_le c.args.index (match_of c.args.view.now id) in
+    let ids = c.as_slice-id-items.result.now in
+    let here = match-at c.args.view.now c.args.ids.now ids c.as_slice.result.now c.loop-position.position (c.as_slice.ensures ∙ c.in_ok-matches.ensures) c.as_slice-id-items.ensures.ids c.loop-position-test.true in
+    elim c.if-as_slice-position.branch [
+      | then-as_slice-position+in_ok-push w ↦
+          (λ i. (w.having-is i).items) ∙ w.in_ok-push.ensures.ok
+          ∙ kept-passing test ids c.loop-position.having.items c.loop-position.position c.loop-position-test.true (grind (arith, nat_tests, here, w.if-as_slice-position.true)) c.loop-position.invariant
+      | else-as_slice-position w ↦
+          (λ i. (w.having-is i).items)
+          ∙ kept-failing test ids c.loop-position.having.items c.loop-position.position c.loop-position-test.true (grind (arith, nat_tests, here, w.if-as_slice-position.false)) c.loop-position.invariant
     ]
 
 pub returns : goal.returns
 returns c =
-    let ids = c.args.ids.now in
-    let match = match_of c.args.view.now in
-    has-same_ids _ _ (λ q.
-    let all : take c.loop-position.position (ascending ids) ≡ ascending ids =
-    take_all c.loop-position.position (ascending ids) (omega (arith, c.len-position-end.ensures, c.loop-position-test.false)) in
-    let left = c.loop-position.invariant q ∙ ap (λ xs. has ids q && not (is_in q xs && nat_lt (match q) c.args.index)) all in
-    grind (arith, nat_tests, left, has-ascending ids q, has-ids_where (λ id. nat_le c.args.index (match id)) (ascending ids) q))
+    let test : ℕ → Bool = λ id. nat_le c.args.index (match_of c.args.view.now id) in
+    let ids = c.as_slice-id-items.result.now in
+    let all = c.as_slice-2.ensures ∙ c.loop-position.invariant ∙ ap (filter test) (take_all c.loop-position.position ids (omega (arith, c.loop-position-test.false)) ∙ c.as_slice-id-items.ensures.ids) in
+    IfOk-weaker c.of_list.result (λ s. s ≡ ids_of c.as_slice-2.result.now) (λ s. s ≡ having c.args.view.now c.args.index c.args.ids.now) (λ s is. is ∙ ap ids_of all) c.of_list.ensures.set

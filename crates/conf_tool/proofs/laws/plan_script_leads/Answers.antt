@@ -10,3 +10,4 @@ pub returns : goal.returns
 returns c =
     script-leads c.written_script.ensures c.directive_is_well_formed.ensures c.actual_output_is_valid.ensures c.restored_is_described.ensures c.conf_state_describes.ensures.own
     (λ step small. (c.one_list_per_text.ensures.ok (join_with_byte 32 (map change_text (changes_of step))) (changes_of step)).0 (c.one_plan_per_text.ensures.changes step small)) (paths-run c.paths_keep_promises.ensures.promises)
+    c.one_config_per_text.ensures.some

@@ -1,5 +1,5 @@
-use Rattle.std.proofs.Common.{ap, ◌≤◌, ◌∙◌, ◌++◌, ◌∷◌, [], sym, subst, refl, length-append, arith}
-use Rattle.std.specs.Prelude.{Some}
+use Rattle.std.proofs.Common.{◌≡◌, true, false, ap, ◌≤◌, ◌∙◌, ◌++◌, ◌∷◌, [], sym, subst, refl, length-append, arith}
+use Rattle.std.specs.Prelude.{Option, Some}
 use Rattle.std.proofs.Math.Bool.{or-false}
 use Rattle.std.proofs.lemmas.Result.{err_from_is_err_and}
 use Rattle.dd_file.specs.Device.{AppendsPart, LosesPrefix}
@@ -10,7 +10,7 @@ use Rattle.conf_tool.specs.Answered.{script}
 use Rattle.conf_tool.proofs.ModeOutput.FirstParts.{means-of, part-nothing, wrote-kept, wrote-nothing, wrote-prefix}
 use Rattle.conf_tool.specs.Run.{Means}
 use Rattle.conf_tool.proofs.ModeInput.PositionReached.{Reached, loses-nothing, loses-more, reached-begin, reached-end, reached-fault, reached-part, reached-next, reached-prefix}
-use Rattle.conf_tool.proofs.ModeInput.Faults.{input-fault, input-uncut, reader-fault, reader-means, reader-read, reader-unwritten, or-fault}
+use Rattle.conf_tool.proofs.ModeInput.Faults.{input-fault, input-uncut, reader-fault, reader-means, reader-read, reader-unwritten, reader-flushed, or-fault}
 use Rattle.conf_tool.proofs.run.handler.run_by_part.Goals as goal
 
 pub returns-in_err-mode-clause-output : goal.returns-in_err-mode-clause-output
@@ -49,6 +49,7 @@ returns-in_err-read g c =
       consumed = loses-more _ _ _ c.each.invariant.reached.consumed lost;
       read = ap g.R.Source.has_failed same ∙ c.each.invariant.unread ∙ sym (or-false _);
       write = or-fault _ _ _ _ _ c.in_err-read.ensures.write refl c.each.invariant.unwritten;
+      asks = λ failed. let bad : false ≡ true = failed in cc;
       kinds = tt;
     })
 
@@ -120,6 +121,7 @@ returns-in_default g c =
       consumed = loses-more _ _ _ c.each.invariant.reached.consumed c.in_ok-read.ensures.reads.moves.consumed;
       read = or-fault _ _ _ _ _ ((rw c.in-Err.is at c.in_ok-read.ensures.reads).read c.each.invariant.reached.open_end) (reader-read _ _ converted) c.each.invariant.unread;
       write = or-fault _ _ _ _ _ c.in_ok-read.ensures.write (reader-unwritten _ _ converted) c.each.invariant.unwritten;
+      asks = λ failed. reader-flushed (g.W.Sink.IsFlushed c.next_after_flush.new.writer) _ (Option g.row.D-Part.Denot) _ _ converted failed (rw c.in-Err.is at (c.in_ok-read.ensures.flushed c.each.invariant.reached.open_end));
       kinds = rw c.from.ensures (c.requires.faults _ _ ((rw c.in-Err.is at c.in_ok-read.ensures.reads).kind c.each.invariant.reached.open_end));
     }
 
