@@ -59,13 +59,6 @@ pub length-without_leading_space : (bytes : List ℕ) → length (without_leadin
 length-without_leading_space [] = omega arith
 length-without_leading_space (b ∷ bytes) = grind (arith, length-without_leading_space bytes)
 
-pub without_leading_space-split : (bytes : List ℕ) → (space : List ℕ) × (bytes ≡ space ++ without_leading_space bytes)
-without_leading_space-split [] = ([], refl)
-without_leading_space-split (b ∷ bytes) = elim (is_space b) as (λ c. (space : List ℕ) × (b ∷ bytes ≡ space ++ cond c (without_leading_space bytes) (b ∷ bytes))) [
-  | true ↦ let rest = without_leading_space-split bytes in (b ∷ rest.0, ap (λ t. b ∷ t) rest.1)
-  | false ↦ ([], refl)
-]
-
 -- what is after the white space at the end
 pub record Tail (bytes : List ℕ) : Type 0 where
   pub tail : List ℕ

@@ -3,7 +3,7 @@
 pub use Rattle.ascii_text.proofs.Offered.{Extends-append}
 pub use Rattle.conf_change.proofs.Configurations.Equality.{is_same-equal, is_same-is_equality, is_same_set-equal, is_same_set-refl}
 pub use Rattle.conf_change.proofs.Configurations.Validity.{ValidByMember-from_is_valid, has-none_in_empty, is_empty-no_ids, is_valid-from_members}
-pub use Rattle.conf_change.proofs.Configurations.Violations.{is_valid-from_configuration_in, is_valid-from_valid_of}
+pub use Rattle.conf_change.proofs.Configurations.Violations.{is_valid-from_valid_of}
 pub use Rattle.conf_change.proofs.ListsOfChanges.ResultOfEach.{configuration-by_members, has-incoming_after, has-learners_after, has-next_after, last_effective-one, result_of-none, result_of-push, result_of-update}
 pub use Rattle.conf_change.proofs.MemberProgress.Entries.{item-copied}
 pub use Rattle.conf_change.proofs.MemberProgress.OfEachId.{any-members, has-all_members}

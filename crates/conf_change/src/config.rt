@@ -13,7 +13,7 @@ ghost use Rattle.conf_change.specs.Outcome.{after_leave};
 ghost use Rattle.conf_change.specs.declared.change.Change.{Change};
 
 use crate::edit_list::{Edit, Role};
-use quorum_sets::{MemberSet, NoMemory, symdiff, union};
+use quorum_sets::{MemberSet, NoMemory, union};
 use std::alloc::Global;
 use std::marker::Model;
 use thiserror::Error;
@@ -184,5 +184,5 @@ fn has_same_parts<S: MemberSet>(a: &Config<S>, b: &Config<S>) -> bool
 pub fn has_same_ids<S: MemberSet>(a: &S, b: &S) -> bool
     ensures { result ≡ is_same_set (S.ids a.now) (S.ids b.now) }
 {
-    symdiff(a, b) == 0
+    (0..a.len().max(b.len())).all(|position| a.at(position) == b.at(position))
 }

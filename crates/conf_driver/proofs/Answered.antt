@@ -9,7 +9,7 @@ use Rattle.conf_driver.specs.Nearer.{leader_off, needed}
 use Rattle.conf_driver.specs.declared.action.Action.{Action}
 use Rattle.conf_driver.specs.declared.action.Action.TheVariants.{Start, Stop, Transfer, Propose, Wait, Stuck, Done}
 use Rattle.conf_driver.specs.declared.action.WaitReason.TheVariants.{NoLeader, Pending, Heard, Unheard, Behind, Leaving}
-use Rattle.conf_driver.specs.declared.situation.Situation.{Situation}
+use Rattle.conf_driver.specs.Situation.{Situation}
 use Rattle.conf_driver.proofs.Sizes.{IsWithin}
 
 -- ids are named, all of them in this set

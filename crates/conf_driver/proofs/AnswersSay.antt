@@ -13,13 +13,12 @@ use Rattle.conf_driver.specs.Nearer.{leadership_moves, needed}
 use Rattle.conf_driver.specs.Next.{answer_in}
 use Rattle.conf_driver.specs.Rows as row
 use Rattle.conf_driver.specs.Rows.{done_or_wait, if_any, needed_at_target, transfer_to_one, wait_for}
-use Rattle.conf_driver.specs.Situation.{has_step, is_less, tolerance}
+use Rattle.conf_driver.specs.Situation.{Situation, has_step, is_less, tolerance}
 use Rattle.conf_driver.specs.View.{voter_ids}
 use Rattle.conf_driver.specs.declared.action.Action.{Action}
 use Rattle.conf_driver.specs.declared.action.Action.TheVariants.{Start, Stop, Transfer, Propose, Wait, Stuck, Done}
 use Rattle.conf_driver.specs.declared.action.WaitReason.{WaitReason}
 use Rattle.conf_driver.specs.declared.action.WaitReason.TheVariants.{NoLeader, Pending, Heard, Unheard, Behind, Leaving}
-use Rattle.conf_driver.specs.declared.situation.Situation.{Situation}
 use Rattle.conf_driver.proofs.Answered.{Says}
 use Rattle.conf_driver.proofs.Counted.{IsCounted, quorum-of_more}
 use Rattle.conf_driver.proofs.Counting.{quorum-has_voter}

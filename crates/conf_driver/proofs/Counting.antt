@@ -1,5 +1,5 @@
 -- How many may fail, by who is up and by who is down.
-use Rattle.std.proofs.Common.{◌≡◌, ℕ, ◌*◌, ◌≤◌, Bool, true, false, ◌||◌, refl, sym, ◌∙◌, arith, is_some, inl, inr, ◌⊎◌}
+use Rattle.std.proofs.Common.{◌≡◌, ℕ, ◌*◌, ◌≤◌, Bool, true, false, ◌||◌, refl, sym, ◌∙◌, arith, is_some, inl, inr}
 use Rattle.std.specs.Prelude.{Option, Some, None}
 use Rattle.std.proofs.lemmas.Bool.{and_parts, both_ways, cases_Bool, le-ltb, not-true}
 use Rattle.quorum_sets.specs.Ids.{Ids, ascending, count_of, has, is_empty, majority_passes, size}
@@ -25,10 +25,6 @@ FewerTolerateMore = (voters : Voters) (fewer more : Ids) (k : ℕ) → ((id : �
     → Tolerates voters more k → Tolerates voters fewer k
 
 -- ---- no failure is tolerated exactly if the voters commit
-none_or_some : {A : Type 0} (o : Option A) → (o ≡ None) ⊎ (is_some o ≡ true)
-none_or_some None = inl refl
-none_or_some (Some x) = inr refl
-
 tolerated : (voters : Voters) (uncounted : Ids) (most : Option ℕ) → IsMostDown voters uncounted most → is_some most ≡ true → Tolerates voters uncounted 0
 tolerated voters uncounted None is some = absurd (cc)
 tolerated voters uncounted (Some k) is some = λ down few. is.tolerated down (omega arith)

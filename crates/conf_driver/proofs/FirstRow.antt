@@ -10,7 +10,7 @@ use Rattle.conf_driver.specs.Rows as row
 use Rattle.conf_driver.specs.Rows.{done_or_wait, first_of, if_any, wait_for}
 use Rattle.conf_driver.specs.declared.action.Action.{Action}
 use Rattle.conf_driver.specs.declared.action.Action.TheVariants.{Start, Stop, Transfer, Propose, Wait, Stuck, Done}
-use Rattle.conf_driver.specs.declared.situation.Situation.{Situation}
+use Rattle.conf_driver.specs.Situation.{Situation}
 
 -- ---- kinds of actions
 abbrev pub kind : Action → ℕ
@@ -43,9 +43,6 @@ by-transfer_or_wait (Some id) other waits = refl
 
 pub kind-wait_for : (s : Situation) (ids : Ids) → kind (wait_for s ids) ≡ 4
 kind-wait_for s ids = grind arith
-
-by-wait_for : (s : Situation) (ids : Ids) → AnswersBy (nat_eq 4) (Some (wait_for s ids))
-by-wait_for s ids = ap (nat_eq 4) (kind-wait_for s ids)
 
 kind-done_or_wait : (s : Situation) (ids : Ids) → (nat_eq 4 (kind (done_or_wait s ids)) || nat_eq 6 (kind (done_or_wait s ids))) ≡ true
 kind-done_or_wait s ids = grind (arith, kind-wait_for s ids)

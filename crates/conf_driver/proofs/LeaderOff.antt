@@ -6,7 +6,7 @@ use Rattle.quorum_sets.specs.Ids.{has}
 use Rattle.conf_change.specs.Configuration.{is_joint}
 use Rattle.conf_driver.specs.Nearer.{leader_off}
 use Rattle.conf_driver.specs.View.{voter_ids}
-use Rattle.conf_driver.specs.declared.situation.Situation.{Situation}
+use Rattle.conf_driver.specs.Situation.{Situation}
 
 -- by the tests: there is none, it votes, it is an outgoing voter of a joint configuration while a change is pending, it
 -- leads on

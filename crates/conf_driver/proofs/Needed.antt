@@ -12,9 +12,8 @@ use Rattle.conf_plan.specs.OnTheWay.{VotersLearnFirst}
 use Rattle.conf_driver.specs.IdSets.{◌∪◌, ◌∩◌, ◌∖◌}
 use Rattle.conf_driver.specs.Nearer.{lack, leadership_moves, needed}
 use Rattle.conf_driver.specs.Rows.{needed_at_target}
-use Rattle.conf_driver.specs.Situation.{after_first}
+use Rattle.conf_driver.specs.Situation.{Situation, after_first}
 use Rattle.conf_driver.specs.View.{voter_ids}
-use Rattle.conf_driver.specs.declared.situation.Situation.{Situation}
 use Rattle.conf_driver.proofs.Falling.{rest-few, rest-less, rest-size}
 use Rattle.conf_driver.proofs.FirstStep.{after_first-is, voters-were_members}
 use Rattle.conf_driver.proofs.IdsByMember.{in-common}

@@ -4,9 +4,8 @@ use Rattle.std.specs.Prelude.{None, nat_eq}
 use Rattle.conf_change.specs.declared.step.Step.{Step}
 use Rattle.conf_driver.specs.Next.{answer_in, propose_first}
 use Rattle.conf_driver.specs.Rows as row
-use Rattle.conf_driver.specs.Situation.{has_step}
+use Rattle.conf_driver.specs.Situation.{Situation, has_step}
 use Rattle.conf_driver.specs.declared.action.Action.TheVariants.{Propose}
-use Rattle.conf_driver.specs.declared.situation.Situation.{Situation}
 use Rattle.conf_driver.proofs.FirstRow.{by_rows}
 
 -- no row answers, and the last one proposes the step

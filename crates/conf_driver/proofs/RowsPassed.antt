@@ -8,11 +8,10 @@ use Rattle.conf_change.specs.Configuration.{is_joint, member_ids, voters_of}
 use Rattle.conf_driver.specs.IdSets.{◌∪◌, ◌∩◌, ◌∖◌, just}
 use Rattle.conf_driver.specs.Rows as row
 use Rattle.conf_driver.specs.Rows.{if_any, may_stop, wait_for}
-use Rattle.conf_driver.specs.Situation.{is_less, tolerance}
+use Rattle.conf_driver.specs.Situation.{Situation, is_less, tolerance}
 use Rattle.conf_driver.specs.declared.action.Action.TheVariants.{Start, Stop, Stuck, Wait}
 use Rattle.conf_driver.specs.declared.action.StuckReason.TheVariants.{Reused}
 use Rattle.conf_driver.specs.declared.action.WaitReason.TheVariants.{Behind, Heard, Unheard}
-use Rattle.conf_driver.specs.declared.situation.Situation.{Situation}
 use Rattle.conf_driver.proofs.RowAnswers.{holds-from_none, if_any-none, none-if, none-unless, when-none}
 
 pub quorum-passed : (s : Situation) → row.quorum_lost s ≡ None → is_quorum (voters_of s.before) (s.voters ∖ s.down) ≡ true

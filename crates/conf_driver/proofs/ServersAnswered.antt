@@ -12,7 +12,7 @@ use Rattle.conf_driver.specs.Next.{answer_in, propose_first}
 use Rattle.conf_driver.specs.Rows as row
 use Rattle.conf_driver.specs.Rows.{may_stop}
 use Rattle.conf_driver.specs.declared.action.Action.TheVariants.{Start, Stop}
-use Rattle.conf_driver.specs.declared.situation.Situation.{Situation}
+use Rattle.conf_driver.specs.Situation.{Situation}
 use Rattle.conf_driver.proofs.FirstRow.{by_rows}
 use Rattle.conf_driver.proofs.IdsByMember.{has-without, is_empty-from_none}
 use Rattle.conf_driver.proofs.RowAnswers.{if_any-some, some-if}

@@ -12,7 +12,7 @@ use Rattle.conf_driver.specs.View.{voter_ids}
 use Rattle.conf_driver.specs.declared.action.Action.TheVariants.{Stuck}
 use Rattle.conf_driver.specs.declared.action.StuckReason.{StuckReason}
 use Rattle.conf_driver.specs.declared.action.StuckReason.TheVariants.{QuorumLost, Stalls, Reused}
-use Rattle.conf_driver.specs.declared.situation.Situation.{Situation}
+use Rattle.conf_driver.specs.Situation.{Situation}
 use Rattle.conf_driver.proofs.FirstRow.{by_rows}
 use Rattle.conf_driver.proofs.RowAnswers.{if_any-some, when-some}
 use Rattle.conf_driver.proofs.RowsPassed.{quorum-passed}

@@ -14,7 +14,7 @@ use Rattle.conf_driver.specs.Rows.{successors, transfer_to_one, wait_for}
 use Rattle.conf_driver.specs.View.{voter_ids}
 use Rattle.conf_driver.specs.declared.action.Action.{Action}
 use Rattle.conf_driver.specs.declared.action.Action.TheVariants.{Transfer}
-use Rattle.conf_driver.specs.declared.situation.Situation.{Situation}
+use Rattle.conf_driver.specs.Situation.{Situation}
 use Rattle.conf_driver.proofs.FirstRow.{by_rows, kind, kind-wait_for}
 use Rattle.conf_driver.proofs.IdsByMember.{has-common, in-common}
 use Rattle.conf_driver.proofs.RowAnswers.{some-if, some-unless}

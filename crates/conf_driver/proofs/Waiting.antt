@@ -11,12 +11,11 @@ use Rattle.conf_driver.specs.IdSets.{◌∪◌, ◌∩◌, ◌∖◌, least_of, 
 use Rattle.conf_driver.specs.Next.{answer_in, propose_first}
 use Rattle.conf_driver.specs.Rows as row
 use Rattle.conf_driver.specs.Rows.{done_or_wait, if_any, needed_at_target, transfer_to_one, wait_for}
-use Rattle.conf_driver.specs.Situation.{is_less, tolerance}
+use Rattle.conf_driver.specs.Situation.{Situation, is_less, tolerance}
 use Rattle.conf_driver.specs.declared.action.Action.{Action}
 use Rattle.conf_driver.specs.declared.action.Action.TheVariants.{Done, Transfer, Wait}
 use Rattle.conf_driver.specs.declared.action.WaitReason.{WaitReason}
 use Rattle.conf_driver.specs.declared.action.WaitReason.TheVariants.{Unheard, Behind}
-use Rattle.conf_driver.specs.declared.situation.Situation.{Situation}
 use Rattle.conf_driver.proofs.Counting.{quorum-has_voter}
 use Rattle.conf_driver.proofs.FirstRow.{by_rows}
 use Rattle.conf_driver.proofs.IdsByMember.{has-without, in-common, in-second, in-without, not-in_second}

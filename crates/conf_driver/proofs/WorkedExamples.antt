@@ -9,12 +9,11 @@ use Rattle.conf_change.specs.declared.step.Step.{Step}
 use Rattle.conf_change.specs.declared.step.Step.TheVariants.{EnterJoint, LeaveJoint, Simple}
 use Rattle.conf_driver.specs.Next.{propose_first}
 use Rattle.conf_driver.specs.Rows.{at_target, down_is_heard, id_is_reused, is_leaving, is_pending, leader_is_dropped, leader_leaves, new_voter_lags, no_leader, no_quorum_is_up, nonvoter_leads, not_started, not_stopped, path_stalls, quorum_lost, successor_lags, voter_is_behind, voter_is_silent}
-use Rattle.conf_driver.specs.Situation.{situation_of}
+use Rattle.conf_driver.specs.Situation.{Situation, situation_of}
 use Rattle.conf_driver.specs.View.{ViewState, up_and_caught_up}
 use Rattle.conf_driver.specs.declared.action.Action.TheVariants.{Done, Propose, Start, Stop, Stuck, Transfer, Wait}
 use Rattle.conf_driver.specs.declared.action.StuckReason.TheVariants.{QuorumLost, Reused, Stalls}
 use Rattle.conf_driver.specs.declared.action.WaitReason.TheVariants.{Behind, Heard, Leaving, NoLeader, Pending, Unheard}
-use Rattle.conf_driver.specs.declared.situation.Situation.{Situation}
 use Rattle.conf_driver.specs.declared.view.MemberView.{MemberView}
 
 -- ---- from (1 2 3) to (1 2 4)

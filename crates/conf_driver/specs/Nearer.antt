@@ -11,7 +11,7 @@ use Rattle.conf_driver.specs.Moment.{Moment}
 use Rattle.conf_driver.specs.Next.{situation}
 use Rattle.conf_driver.specs.Rows.{needed_at_target}
 use Rattle.conf_driver.specs.View.{ViewState, voter_ids}
-use Rattle.conf_driver.specs.declared.situation.Situation.{Situation}
+use Rattle.conf_driver.specs.Situation.{Situation}
 
 -- whether the leader votes, but not after the step, while another voter that is not down does
 abbrev pub leadership_moves : Situation → Bool

@@ -11,13 +11,12 @@ use Rattle.conf_plan.specs.declared.strategy.Strategy.{Strategy}
 use Rattle.conf_plan.specs.declared.strategy.Strategy.TheVariants.{Shortest}
 use Rattle.plan_output.specs.Stages.{stalls}
 use Rattle.conf_driver.specs.Rows.{first_of, rows_of_view, rows_of_path, rows_of_step}
-use Rattle.conf_driver.specs.Situation.{situation_of}
+use Rattle.conf_driver.specs.Situation.{Situation, situation_of}
 use Rattle.conf_driver.specs.View.{ViewState, lacks_conf_index, lacks_leader_progress}
 use Rattle.conf_driver.specs.declared.action.Action.{Action}
 use Rattle.conf_driver.specs.declared.action.Action.TheVariants.{Propose, Done}
 use Rattle.conf_driver.specs.declared.answer.NextFault.{NextFault}
 use Rattle.conf_driver.specs.declared.answer.NextFault.TheVariants as fault
-use Rattle.conf_driver.specs.declared.situation.Situation.{Situation}
 
 -- 19. the first step is proposed; without one, an earlier row applies
 abbrev pub propose_first : List Step → Action

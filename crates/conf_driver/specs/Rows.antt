@@ -4,13 +4,12 @@ use Rattle.quorum_sets.specs.Ids.{Ids, has, is_empty, no_ids}
 use Rattle.quorum_sets.specs.Voters.{is_quorum}
 use Rattle.conf_change.specs.Configuration.{voters_of, member_ids, is_joint}
 use Rattle.conf_driver.specs.IdSets.{◌∪◌, ◌∩◌, ◌∖◌, just, or_else, least_of, or_second}
-use Rattle.conf_driver.specs.Situation.{tolerance, is_less}
+use Rattle.conf_driver.specs.Situation.{Situation, tolerance, is_less}
 use Rattle.conf_driver.specs.View.{voter_ids}
 use Rattle.conf_driver.specs.declared.action.Action.{Action}
 use Rattle.conf_driver.specs.declared.action.Action.TheVariants.{Start, Stop, Transfer, Wait, Stuck, Done}
 use Rattle.conf_driver.specs.declared.action.StuckReason.TheVariants.{QuorumLost, Stalls, Reused}
 use Rattle.conf_driver.specs.declared.action.WaitReason.TheVariants.{NoLeader, Pending, Heard, Unheard, Behind, Leaving}
-use Rattle.conf_driver.specs.declared.situation.Situation.{Situation}
 
 -- the answer, if the condition holds
 abbrev pub when : Bool → Action → Option Action

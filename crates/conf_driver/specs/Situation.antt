@@ -6,8 +6,50 @@ use Rattle.conf_change.specs.Configuration.{Configuration, voters_of, member_ids
 use Rattle.conf_change.specs.declared.step.Step.{Step}
 use Rattle.plan_output.specs.Stages.{configuration_after_step}
 use Rattle.conf_driver.specs.IdSets.{◌∖◌}
+use Rattle.conf_driver.specs.declared.situation.Situation as declared
 use Rattle.conf_driver.specs.View.{ViewState, heard_from, lacking, up_and_caught_up, voter_ids}
-use Rattle.conf_driver.specs.declared.situation.Situation.{Situation}
+
+-- what the table looks at: see the type `Situation`, whose value it is
+pub record Situation : Type 0 where
+  pub before : Configuration
+  pub after : Configuration
+  pub target : Configuration
+  pub has_step : Bool
+  pub stalls : Bool
+  pub voters : Ids
+  pub members : Ids
+  pub voters_after : Ids
+  pub down : Ids
+  pub heard : Ids
+  pub up : Ids
+  pub running : Ids
+  pub retired : Ids
+  pub lead : ℕ
+  pub is_pending : Bool
+  pub lack_pending : Ids
+  pub lack_configuration : Ids
+
+-- the values that it refers to
+abbrev pub values_of : declared.Situation → Situation
+values_of s = record {
+  before = s.before.now;
+  after = s.after;
+  target = s.target.now;
+  has_step = s.has_step;
+  stalls = s.stalls;
+  voters = s.voters;
+  members = s.members;
+  voters_after = s.voters_after;
+  down = s.down.now;
+  heard = s.heard;
+  up = s.up;
+  running = s.running.now;
+  retired = s.retired.now;
+  lead = s.lead;
+  is_pending = s.is_pending;
+  lack_pending = s.lack_pending;
+  lack_configuration = s.lack_configuration;
+}
 
 -- whether there is a step
 abbrev pub has_step : List Step → Bool

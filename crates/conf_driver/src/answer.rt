@@ -5,6 +5,7 @@ ghost use Rattle.conf_plan.specs.PathBy.{has_path, path_by};
 ghost use Rattle.plan_output.specs.Stages as stage_spec;
 ghost use Rattle.conf_driver.specs.Next as spec;
 ghost use Rattle.conf_driver.specs.Next.{IsWellPosed, next_of};
+ghost use Rattle.conf_driver.specs.Situation.{values_of};
 ghost use Rattle.conf_driver.specs.View as view_spec;
 
 use crate::action::Action;
@@ -140,8 +141,8 @@ fn answer_on(
 }
 
 // The first row that applies.
-fn answer_in(alloc: Global, situation: &Situation, path: &Path) -> Result<Action, NoMemory>
-    ensures { IfOk result (λ action. action ≡ spec.answer_in situation.now path.now) }
+fn answer_in(alloc: Global, situation: &Situation<'_>, path: &Path) -> Result<Action, NoMemory>
+    ensures { IfOk result (λ action. action ≡ spec.answer_in (values_of situation.now) path.now) }
 {
     if let Some(answer) = situation.answer_of_view(alloc)? {
         return Ok(answer);

@@ -2,6 +2,7 @@
 ghost use Rattle.std.specs.Prelude.{◌≡◌, IfOk};
 ghost use Rattle.conf_driver.specs.IdSets.{◌∖◌};
 ghost use Rattle.conf_driver.specs.Rows as spec;
+ghost use Rattle.conf_driver.specs.Situation.{values_of};
 
 use crate::action::{Action, StuckReason, WaitReason};
 use crate::sets::{common, just, or_else, without};
@@ -11,10 +12,11 @@ use conf_change::union;
 use quorum_sets::{InlineIds, MemberSet, NoMemory};
 use std::alloc::Global;
 
-impl Situation {
+impl<'a> Situation<'a> {
     // The first of these rows that applies.
     pub(crate) fn answer_of_path(&self, alloc: Global) -> Result<Option<Action>, NoMemory>
-        ensures { IfOk result (λ answer. answer ≡ spec.first_of (spec.rows_of_path self.now)) }
+        ensures { IfOk result (λ answer. answer
+            ≡ spec.first_of (spec.rows_of_path (values_of self.now))) }
     {
         if let Some(answer) = self.path_stalls()? {
             return Ok(Some(answer));
@@ -32,21 +34,21 @@ impl Situation {
     }
 
     fn path_stalls(&self) -> Result<Option<Action>, NoMemory>
-        ensures { IfOk result (λ answer. answer ≡ spec.path_stalls self.now) }
+        ensures { IfOk result (λ answer. answer ≡ spec.path_stalls (values_of self.now)) }
     {
         if !self.stalls {
             return Ok(None);
         }
-        let voters = union(&self.voters, &voter_ids(&self.target)?)?;
-        let ids = common(&self.down, &voters)?;
+        let voters = union(&self.voters, &voter_ids(self.target)?)?;
+        let ids = common(self.down, &voters)?;
         Ok(Some(Action::Stuck(StuckReason::Stalls, ids)))
     }
 
     fn id_is_reused(&self) -> Result<Option<Action>, NoMemory>
-        ensures { IfOk result (λ answer. answer ≡ spec.id_is_reused self.now) }
+        ensures { IfOk result (λ answer. answer ≡ spec.id_is_reused (values_of self.now)) }
     {
         let added = without(&self.target.members()?, &self.voters)?;
-        let reused = common(&added, &self.retired)?;
+        let reused = common(&added, self.retired)?;
         if reused.len() == 0 {
             return Ok(None);
         }
@@ -54,12 +56,12 @@ impl Situation {
     }
 
     fn not_started(&self) -> Result<Option<Action>, NoMemory>
-        ensures { IfOk result (λ answer. answer ≡ spec.not_started self.now) }
+        ensures { IfOk result (λ answer. answer ≡ spec.not_started (values_of self.now)) }
     {
         let members = union(&self.after.members()?, &self.members)?;
         let staying = common(&members, &self.target.members()?)?;
         let others = without(&staying, &self.voters)?;
-        let absent = without(&without(&others, &self.down)?, &self.running)?;
+        let absent = without(&without(&others, self.down)?, self.running)?;
         if absent.len() == 0 {
             return Ok(None);
         }
@@ -67,12 +69,12 @@ impl Situation {
     }
 
     fn not_stopped(&self) -> Result<Option<Action>, NoMemory>
-        ensures { IfOk result (λ answer. answer ≡ spec.not_stopped self.now) }
+        ensures { IfOk result (λ answer. answer ≡ spec.not_stopped (values_of self.now)) }
     {
         if !self.may_stop()? {
             return Ok(None);
         }
-        let others = without(&self.running, &self.members)?;
+        let others = without(self.running, &self.members)?;
         let gone = without(&others, &self.target.members()?)?;
         if gone.len() == 0 {
             return Ok(None);
@@ -82,17 +84,18 @@ impl Situation {
 
     // Whether each member that is not down knows the configuration, and the voters that are heard from are a quorum.
     fn may_stop(&self) -> Result<bool, NoMemory>
-        ensures { IfOk result (λ may. may ≡ spec.may_stop self.now) }
+        ensures { IfOk result (λ may. may ≡ spec.may_stop (values_of self.now)) }
     {
         let heard = common(&self.voters, &self.heard)?;
-        let counted = without(&heard, &self.down)?;
+        let counted = without(&heard, self.down)?;
         Ok(self.lack_configuration.len() == 0 && self.is_quorum_before(&counted))
     }
 
     fn leaving(&self, alloc: Global) -> Result<Option<Action>, NoMemory>
-        ensures { IfOk result (λ answer. answer ≡ spec.is_leaving self.now) }
+        ensures { IfOk result (λ answer. answer ≡ spec.is_leaving (values_of self.now)) }
     {
-        if !self.has_step || !self.before.auto_leave {
+        let now = self.before;
+        if !self.has_step || !now.auto_leave {
             return Ok(None);
         }
         let lagging = self.lagging_voters()?;
@@ -102,9 +105,9 @@ impl Situation {
 
     // The voters that are not down, and are not up with all.
     pub(crate) fn lagging_voters(&self) -> Result<InlineIds, NoMemory>
-        ensures { IfOk result (λ ids. ids ≡ (self.now.voters ∖ self.now.down ∖ self.now.up)) }
+        ensures { IfOk result (λ ids. ids ≡ (self.now.voters ∖ self.now.down.now ∖ self.now.up)) }
     {
-        let counted = without(&self.voters, &self.down)?;
+        let counted = without(&self.voters, self.down)?;
         without(&counted, &self.up)
     }
 }

@@ -1,28 +1,27 @@
 //! What the table of [`next`](crate::next) looks at.
 ghost use Rattle.std.specs.Prelude.{◌≡◌, IfOk};
 ghost use Rattle.conf_change.specs.Configuration.{member_ids};
-ghost use Rattle.plan_output.specs.Stages.{configuration_after_step};
 ghost use Rattle.conf_driver.specs.IdSets.{◌∖◌};
 ghost use Rattle.conf_driver.specs.Situation as spec;
 ghost use Rattle.conf_driver.specs.View as view_spec;
-ghost use Rattle.conf_driver.specs.Situation.{situation_of};
+ghost use Rattle.conf_driver.specs.Situation.{situation_of, values_of};
 
 use crate::sets::without;
 use crate::view::{View, heard_from, lacking, up_and_caught_up, voter_ids};
-use conf_change::{Config, Step};
+use conf_change::Config;
 use conf_plan::Path;
-use plan_output::Stage;
+use plan_output::after_step;
 use quorum_sets::{InlineIds, MemberSet, NoMemory, may_be_down};
 use std::alloc::Global;
 
 /// The configurations before and after the first step of the path, and sets of ids.
 #[derive(Drop)]
-pub struct Situation {
+pub struct Situation<'a> {
     // The configuration that the leader has applied.
-    pub(crate) before: Config<InlineIds>,
+    pub(crate) before: &'a Config<InlineIds>,
     // The configuration after the first step, or the same if there is none.
     pub(crate) after: Config<InlineIds>,
-    pub(crate) target: Config<InlineIds>,
+    pub(crate) target: &'a Config<InlineIds>,
     // Whether the path has a step.
     pub(crate) has_step: bool,
     // Whether the path stalls with the ids that are down.
@@ -33,12 +32,12 @@ pub struct Situation {
     // The voters after the step.
     pub(crate) voters_after: InlineIds,
     // Who is down, who is heard from, and who is up and has caught up.
-    pub(crate) down: InlineIds,
+    pub(crate) down: &'a InlineIds,
     pub(crate) heard: InlineIds,
     pub(crate) up: InlineIds,
     // The servers that run, and those that were stopped for good.
-    pub(crate) running: InlineIds,
-    pub(crate) retired: InlineIds,
+    pub(crate) running: &'a InlineIds,
+    pub(crate) retired: &'a InlineIds,
     // Who leads, or 0.
     pub(crate) lead: u64,
     // Whether a change is not applied, and the voters that are not down and lack its entry.
@@ -49,24 +48,23 @@ pub struct Situation {
 }
 
 // The situation on the way to a target by the steps of this path.
-pub(crate) fn situation_of(
+pub(crate) fn situation_of<'a>(
     alloc: Global,
-    target: &Config<InlineIds>,
-    down: &InlineIds,
-    view: &View,
+    target: &'a Config<InlineIds>,
+    down: &'a InlineIds,
+    view: &'a View,
     path: &Path,
     stalls: bool,
-) -> Result<Situation, NoMemory>
-    ensures { IfOk result (λ s. s ≡ situation_of target.now down.now view.now path.now stalls) }
+) -> Result<Situation<'a>, NoMemory>
+    ensures { IfOk result (λ s. values_of s
+        ≡ situation_of target.now down.now view.now path.now stalls) }
 {
-    let configurations = configurations(alloc, target, view, path)?;
-    let members = members_of(&configurations.0, &configurations.1)?;
-    let servers = servers(down, view)?;
+    let before = &view.conf_state;
+    let after = after_first(before, path)?;
+    let members = members_of(before, &after)?;
     let lacking = lacking_members(&members.0, &members.1, down, view)?;
     let seen = seen(alloc, down, view)?;
-    let (before, after, target) = configurations;
     let (voters, members, voters_after) = members;
-    let (down, running, retired) = servers;
     let (lack_pending, lack_configuration) = lacking;
     let (heard, up) = seen;
     Ok(Situation {
@@ -81,28 +79,13 @@ pub(crate) fn situation_of(
         down,
         heard,
         up,
-        running,
-        retired,
+        running: &view.running,
+        retired: &view.retired,
         lead: view.lead,
         is_pending: view.pending_conf_index != 0,
         lack_pending,
         lack_configuration,
     })
-}
-
-// The configurations before and after the first step, and the target.
-fn configurations(
-    alloc: Global,
-    target: &Config<InlineIds>,
-    view: &View,
-    path: &Path,
-) -> Result<(Config<InlineIds>, Config<InlineIds>, Config<InlineIds>), NoMemory>
-    ensures { IfOk result (λ all. all
-        ≡ (view.now.conf_state, spec.after_first view.now.conf_state path.now, target.now)) }
-{
-    let before = view.conf_state.try_clone()?;
-    let after = after_first(alloc, &before, path)?;
-    Ok((before, after, target.try_clone()?))
 }
 
 // The voters and the members before the step, and the voters after it.
@@ -127,15 +110,6 @@ fn seen(alloc: Global, down: &InlineIds, view: &View) -> Result<(InlineIds, Inli
     Ok((heard, up_and_caught_up(alloc, down, view)?))
 }
 
-// Who is down, who runs, and who was stopped for good.
-fn servers(down: &InlineIds, view: &View) -> Result<(InlineIds, InlineIds, InlineIds), NoMemory>
-    ensures { IfOk result (λ all. all ≡ (down.now, view.now.running, view.now.retired)) }
-{
-    let down = down.try_clone()?;
-    let running = view.running.try_clone()?;
-    Ok((down, running, view.retired.try_clone()?))
-}
-
 // Of those that are not down, the voters that lack the change that is pending, and the members that do not know the
 // configuration.
 fn lacking_members(
@@ -156,29 +130,13 @@ fn lacking_members(
 }
 
 // The configuration after the first step, if there is one.
-fn after_first(
-    alloc: Global,
-    now: &Config<InlineIds>,
-    path: &Path,
-) -> Result<Config<InlineIds>, NoMemory>
+fn after_first(now: &Config<InlineIds>, path: &Path) -> Result<Config<InlineIds>, NoMemory>
     ensures { IfOk result (λ after. after ≡ spec.after_first now.now path.now) }
 {
     match path.step(0) {
-        Some(step) => after_step(alloc, now, step),
+        Some(step) => after_step(now, step),
         None => now.try_clone(),
     }
-}
-
-// The configuration after a step.
-fn after_step(
-    alloc: Global,
-    now: &Config<InlineIds>,
-    step: &Step,
-) -> Result<Config<InlineIds>, NoMemory>
-    ensures { IfOk result (λ after. after ≡ configuration_after_step now.now step.now) }
-{
-    let stage = Stage::first(alloc, now)?.next(alloc, step)?;
-    stage.config().try_clone()
 }
 
 // How many of these ids may fail while the rest is a quorum of the configuration.

@@ -6,11 +6,11 @@
 //! ```
 ghost use Rattle.std.specs.Prelude.{◌≡◌, ◌<◌, ◌^◌, IfOk};
 ghost use Rattle.std.specs.List.{All};
-ghost use Rattle.quorum_sets.specs.Ids.{union};
+ghost use Rattle.quorum_sets.specs.Ids.{ascending, union};
 ghost use Rattle.conf_plan.specs.Planned.{kind_by, moves, single_with};
 
 use conf_change::{Change, Kind};
-use quorum_sets::{MemberSet, NoMemory, add_ids, contains_from};
+use quorum_sets::{IdList, MemberSet, NoMemory, add_ids, contains_from};
 use smallvec::SmallVec;
 use std::alloc::Global;
 
@@ -31,34 +31,35 @@ pub(crate) fn moves_to<S: MemberSet>(
         (S.ids to_learners.now)) }
     ensures u64_ids { IfOk result (λ changes. All (λ change. change.id < 2 ^ 64) changes.items) }
 {
-    let ids = union_of_all(alloc, to_voters, to_learners, incoming, learners)?;
+    let ids = ids_of_all(alloc, to_voters, to_learners, incoming, learners)?;
     let mut changes = Vec::with_capacity(alloc, INITIAL_CAPACITY)?;
     let (mut at_to_voters, mut at_to_learners, mut at_incoming, mut at_learners) = (0, 0, 0, 0);
-    for position in 0..ids.len() {
-        if let Some(id) = ids.at(position) {
-            let target_voter = contains_from(to_voters, &mut at_to_voters, id);
-            let target_learner = contains_from(to_learners, &mut at_to_learners, id);
-            let voter = contains_from(incoming, &mut at_incoming, id);
-            let learner = contains_from(learners, &mut at_learners, id);
-            if let Some(kind) = kind_of_move(target_voter, target_learner, voter, learner) {
-                changes.push(Change { kind, id })?;
-            }
+    for id in ids.as_slice() {
+        let id = *id;
+        let target_voter = contains_from(to_voters, &mut at_to_voters, id);
+        let target_learner = contains_from(to_learners, &mut at_to_learners, id);
+        let voter = contains_from(incoming, &mut at_incoming, id);
+        let learner = contains_from(learners, &mut at_learners, id);
+        if let Some(kind) = kind_of_move(target_voter, target_learner, voter, learner) {
+            changes.push(Change { kind, id })?;
         }
     }
     Ok(changes)
 }
 
-// The union of four sets: one list of their ids is sorted once.
-fn union_of_all<S: MemberSet>(alloc: Global, a: &S, b: &S, c: &S, d: &S) -> Result<S, NoMemory>
-    ensures { IfOk result (λ all. S.ids all
-        ≡ union (union (S.ids a.now) (S.ids b.now)) (union (S.ids c.now) (S.ids d.now))) }
+// The ids of four sets in ascending order, each once. One list of all of them is sorted once.
+fn ids_of_all<S: MemberSet>(alloc: Global, a: &S, b: &S, c: &S, d: &S) -> Result<IdList, NoMemory>
+    ensures { IfOk result (λ ids. ids.items ≡ ascending
+        (union (union (S.ids a.now) (S.ids b.now)) (union (S.ids c.now) (S.ids d.now)))) }
 {
     let mut ids = SmallVec::new(alloc);
     add_ids(&mut ids, a)?;
     add_ids(&mut ids, b)?;
     add_ids(&mut ids, c)?;
     add_ids(&mut ids, d)?;
-    S::of_list(alloc, ids.as_slice())
+    ids.as_mut_slice().sort_unstable();
+    ids.dedup();
+    Ok(ids)
 }
 
 // The kind of change that an id needs, if any, by its roles in the target and now. A voter that is a learner in the

@@ -22,20 +22,20 @@
 //! simple v9                           9 joins, which is a learner already
 //! simple l4, simple v4                4 joins
 //! ```
-ghost use Rattle.std.specs.Prelude.{◌≡◌, [], ◌++◌, ◌&&◌, flat_map, IfOk, OnOk};
+ghost use Rattle.std.specs.Prelude.{◌≡◌, not, [], ◌++◌, ◌&&◌, flat_map, IfOk, OnOk, if◌then◌else◌};
 ghost use Rattle.std.specs.List.{cons_option};
-ghost use Rattle.quorum_sets.specs.Ids.{ascending};
+ghost use Rattle.quorum_sets.specs.Ids.{has};
 ghost use Rattle.quorum_sets.specs.Tolerance.{commits_without};
 ghost use Rattle.conf_change.specs.Configuration.{voters_of};
-ghost use Rattle.conf_plan.specs.OneAtATime.{steps_of, learners_first, in_turn, order, one_at_a_time_from_single};
+ghost use Rattle.conf_plan.specs.OneAtATime.{steps_of, joining, retiring, in_turn, order, one_at_a_time_from_single};
 ghost use Rattle.conf_plan.specs.AddedSteps.{IsAdded};
 
-use crate::filtered::filtered;
+use crate::filtered::add_filtered;
 use crate::moves::kind_of_move;
 use crate::not_joint::NotJoint;
 use crate::one_change_each::add_change;
 use conf_change::{Config, Kind, Step};
-use quorum_sets::{IdList, MemberSet, NoMemory, add_ids, commits_without};
+use quorum_sets::{IdList, MemberSet, NoMemory, commits_without};
 use smallvec::SmallVec;
 use std::alloc::Global;
 
@@ -102,75 +102,74 @@ fn ids_in_order<S: MemberSet>(
 ) -> Result<IdList, NoMemory>
     ensures { IfOk result (λ ids. ids.items ≡ order (S.ids down.now) start.now target.now) }
 {
-    let retiring_down = filtered(
-        alloc,
-        start.incoming,
-        |id| !target.incoming.contains(id) && down.contains(id),
-    )?;
-    let leaving = filtered(
-        alloc,
-        start.learners,
-        |id| !(start.incoming.contains(id)
-            || target.incoming.contains(id)
-            || target.learners.contains(id)),
-    )?;
-    let joining_up = filtered(
-        alloc,
-        &target.incoming,
-        |id| !start.incoming.contains(id) && !down.contains(id),
-    )?;
-    let retiring_up = filtered(
-        alloc,
-        start.incoming,
-        |id| !target.incoming.contains(id) && !down.contains(id),
-    )?;
-    let joining_down = filtered(
-        alloc,
-        &target.incoming,
-        |id| !start.incoming.contains(id) && down.contains(id),
-    )?;
-    let new_learners = filtered(
-        alloc,
-        &target.learners,
-        |id| !(start.incoming.contains(id)
-            || target.incoming.contains(id)
-            || start.learners.contains(id)),
-    )?;
     let mut joins = SmallVec::new(alloc);
-    add_learners_first(alloc, &mut joins, &joining_up, start.learners)?;
+    add_joining(&mut joins, start, target, down, false)?;
+    let mut retires = SmallVec::new(alloc);
+    add_retiring(&mut retires, start, target, down, false)?;
     let mut ids = SmallVec::new(alloc);
-    add_ids(&mut ids, &retiring_down)?;
-    add_ids(&mut ids, &leaving)?;
-    add_in_turn(&mut ids, joins.as_slice(), &retiring_up)?;
-    add_learners_first(alloc, &mut ids, &joining_down, start.learners)?;
-    add_ids(&mut ids, &new_learners)?;
+    add_retiring(&mut ids, start, target, down, true)?;
+    add_filtered(&mut ids, start.learners, |id| {
+        !(start.incoming.contains(id)
+            || target.incoming.contains(id)
+            || target.learners.contains(id))
+    })?;
+    add_in_turn(&mut ids, joins.as_slice(), retires.as_slice())?;
+    add_joining(&mut ids, start, target, down, true)?;
+    add_filtered(&mut ids, &target.learners, |id| {
+        !(start.incoming.contains(id)
+            || target.incoming.contains(id)
+            || start.learners.contains(id))
+    })?;
     Ok(ids)
 }
 
-// Appends the learners among these ids and then the others, each part ascending.
-fn add_learners_first<S: MemberSet>(
-    alloc: Global,
+// Appends the ids that have to become incoming voters, of those that are down or of the others: the learners among
+// them first, and each part in ascending order.
+fn add_joining<S: MemberSet>(
     list: &mut IdList,
-    ids: &S,
-    learners: &S,
+    start: &NotJoint<S>,
+    target: &Config<S>,
+    down: &S,
+    are_down: bool,
 ) -> Result<(), NoMemory>
-    ensures { OnOk result (list.new.items
-        ≡ list.old.items ++ learners_first (S.ids learners.now) (ascending (S.ids ids.now))) }
+    ensures { OnOk result (list.new.items ≡ list.old.items
+        ++ joining (λ id. if are_down then has (S.ids down.now) id
+        else not (has (S.ids down.now) id)) start.now target.now) }
 {
-    let learning = filtered(alloc, ids, |id| learners.contains(id))?;
-    let others = filtered(alloc, ids, |id| !learners.contains(id))?;
-    add_ids(list, &learning)?;
-    add_ids(list, &others)
+    add_filtered(list, &target.incoming, |id| {
+        start.learners.contains(id) && !start.incoming.contains(id) && down.contains(id) == are_down
+    })?;
+    add_filtered(list, &target.incoming, |id| {
+        !start.learners.contains(id)
+            && !start.incoming.contains(id)
+            && down.contains(id) == are_down
+    })
+}
+
+// Appends the ids that have to stop being incoming voters, of those that are down or of the others, in ascending order.
+fn add_retiring<S: MemberSet>(
+    list: &mut IdList,
+    start: &NotJoint<S>,
+    target: &Config<S>,
+    down: &S,
+    are_down: bool,
+) -> Result<(), NoMemory>
+    ensures { OnOk result (list.new.items ≡ list.old.items
+        ++ retiring (λ id. if are_down then has (S.ids down.now) id
+        else not (has (S.ids down.now) id)) start.now target.now) }
+{
+    add_filtered(list, start.incoming, |id| {
+        !target.incoming.contains(id) && down.contains(id) == are_down
+    })
 }
 
 // Appends ids that join and ids that retire in turn; when one list ends, the rest of the other follows.
-fn add_in_turn<S: MemberSet>(list: &mut IdList, joins: &[u64], retires: &S) -> Result<(), NoMemory>
-    ensures { OnOk result
-        (list.new.items ≡ list.old.items ++ in_turn joins.now (ascending (S.ids retires.now))) }
+fn add_in_turn(list: &mut IdList, joins: &[u64], retires: &[u64]) -> Result<(), NoMemory>
+    ensures { OnOk result (list.new.items ≡ list.old.items ++ in_turn joins.now retires.now) }
 {
     for index in 0..joins.len().max(retires.len()) {
         add_if_any(list, joins.get(index).copied())?;
-        add_if_any(list, retires.at(index))?;
+        add_if_any(list, retires.get(index).copied())?;
     }
     Ok(())
 }

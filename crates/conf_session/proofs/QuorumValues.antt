@@ -1,12 +1,12 @@
 -- The ids of a quorum, each once, and the value of each.
-use Rattle.std.proofs.Common.{◌≡◌, ◌≢◌, ℕ, zero, suc, ◌+◌, ◌<◌, ◌≤◌, ◌==◌, Bool, true, false, cond, not, List, [], ◌∷◌, ◌++◌, length, drop, map, filter, get_or, replicate, refl, sym, ap, ◌∙◌, subst, arith, inl, inr}
+use Rattle.std.proofs.Common.{◌≡◌, ◌≢◌, ℕ, zero, suc, ◌+◌, ◌<◌, ◌≤◌, ◌==◌, Bool, true, false, cond, not, List, [], ◌∷◌, ◌++◌, length, drop, map, filter, get_or, refl, sym, ap, ◌∙◌, subst, arith, inl, inr}
 use Rattle.std.specs.Prelude.{◌&&◌, ◌||◌, nat_eq, is_some, Option, Some, None, slice_get, unwrap_or, option_map}
 use Rattle.std.specs.List.{list_any}
 use Rattle.std.specs.Ordering.{nat_cmp, eq_by_cmp}
 use Rattle.std.specs.Cmp.{nat_cmp_total, unsigned_tied, eq_by_cmp_equiv}
 use Rattle.std.specs.FinMap as finite
 use Rattle.std.specs.FinMap.{nat_cmp-IsAntisymmetric}
-use Rattle.std.proofs.Math.ListN.{set, length-replicate, length-set}
+use Rattle.std.proofs.Math.ListN.{set, length-set}
 use Rattle.std.proofs.lemmas.List.{append-nil, append_assoc, drop_more, get_or_default, length-append, length-drop}
 use Rattle.std.proofs.lemmas.List.Elements.{filter-append}
 use Rattle.std.proofs.lemmas.List.Folds.{Any-from_list_any, list_any_at}
@@ -140,19 +140,6 @@ pub record IsAssigned {V : Type 0} (ids taken : List ℕ) (values : List (Option
   pub left : rest ≡ drop (length (each_once taken)) values
   pub enough : length (each_once taken) ≤ length values
 
-slice_get-replicate : {X : Type 0} (n : ℕ) (x : X) (j : ℕ) → j < n → slice_get (replicate n x) j ≡ Some x
-slice_get-replicate zero x j less = absurd (omega arith)
-slice_get-replicate (suc n) x zero less = refl
-slice_get-replicate (suc n) x (suc j) less = slice_get-replicate n x j (omega arith)
-
-pub assigned-none : {V : Type 0} (ids : List ℕ) (values : List (Option V)) → IsAssigned ids [] values (replicate (length ids) None) values
-assigned-none ids values = record {
-  within = length-replicate (length ids) None;
-  each = λ j id there. slice_get-replicate (length ids) None j (slice_get_within ids j id there);
-  left = refl;
-  enough = omega arith;
-}
-
 any-more : (xs : List ℕ) (x q : ℕ) → list_any (λ y. q == y) (xs ++ x ∷ []) ≡ (list_any (λ y. q == y) xs || (q == x))
 any-more [] x q = or-none (q == x) where
   or-none : (a : Bool) → (a || false) ≡ a
@@ -264,11 +251,6 @@ assigned-all ids named values own same up is = finite.same_map nat_cmp_total nat
       value-here ids ids own own q j (Some (assigned named values q)) up refl refl (record { within = within; there = here }) (is.each j q there)
       ∙ ap (λ b. unwrap_or (cond b (Some (finite.get (values_by_id (each_once named) values) q)) None) None) (sym (members q) ∙ some)
   at q false none = value-absent q ids (known own) none ∙ sym (value-absent q (each_once named) values (once-any named q ∙ sym (members q) ∙ none))
-
--- there are as many values as ids once none is left
-pub assigned-one_each : {V : Type 0} (ids named : List ℕ) (values : List (Option V)) (own : List (Option (Option V))) (rest : List (Option V)) → IsAssigned ids named values own rest → nat_eq (length values) (length (each_once named)) ≡ nat_eq (length rest) 0
-assigned-one_each ids named values own rest is =
-    let n = ap length is.left ∙ length-drop (length (each_once named)) values in let less = is.enough in grind (arith, nat_tests)
 
 -- an id that comes first after all values are assigned
 pub assigned-too_few : {V : Type 0} (ids taken : List ℕ) (id : ℕ) (later : List ℕ) (values : List (Option V)) (own : List (Option (Option V))) → list_any (λ x. id == x) taken ≡ false → IsAssigned ids taken values own [] → nat_eq (length values) (length (each_once ((taken ++ id ∷ []) ++ later))) ≡ false

@@ -1,13 +1,11 @@
 -- A directive whose input is the same but for white space at line ends is answered the same.
-use Rattle.std.proofs.Common.{◌≡◌, ℕ, Bool, true, false, List, [], ◌∷◌, map, refl, sym, ap, ◌∙◌, subst, arith}
+use Rattle.std.proofs.Common.{◌≡◌, ℕ, Bool, true, false, List, refl, sym, ap, ◌∙◌, subst, arith}
 use Rattle.std.specs.Prelude.{Option, Some, None, Result, flat_map}
 use Rattle.std.specs.List.{list_all}
 use Rattle.dd_file.specs.DirectiveText.{DirectiveText}
-use Rattle.ascii_text.specs.WhiteSpace.{without_trailing_space, trimmed}
-use Rattle.ascii_text.specs.Lines.{line_of}
+use Rattle.ascii_text.specs.WhiteSpace.{trimmed}
 use Rattle.dd_file.specs.DirectiveLine.{ArgumentText}
 use Rattle.dd_file.specs.Laws.{IsSameDirective}
-use Rattle.ascii_text.proofs.Offered.{full_lines-first}
 use Rattle.ascii_text.specs.Tokens.{tokens_in}
 use Rattle.conf_change.specs.ChangeList.{changes_in, changes_in_tokens}
 use Rattle.conf_change.specs.ConfState.{ConfStateLists}
@@ -40,10 +38,6 @@ conf_state-same input other same = at (has_one (ends_of other)) (subst (λ ls. I
 
 changes-same : (input other : List ℕ) → ends_of input ≡ ends_of other → changes_in input ≡ changes_in other
 changes-same input other same = ap changes_in_tokens (tokens_in-in_lines input ∙ ap (flat_map tokens_in) same ∙ sym (tokens_in-in_lines other))
-
--- bytes have a line
-some-line : (b : ℕ) (bs : List ℕ) → [] ≡ ends_of (b ∷ bs) → ⊥
-some-line b bs none = let first = none ∙ ap (λ ps. map without_trailing_space (map line_of ps)) (full_lines-first (b ∷ bs) (omega arith)) in cc
 
 nothing-same : (input other : List ℕ) → ends_of input ≡ ends_of other → nothing_read input ≡ nothing_read other
 nothing-same input other same = grind arith

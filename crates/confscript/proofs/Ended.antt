@@ -88,20 +88,6 @@ exits-as output None left before after buffered code loses part given = tt
 exits-as output (Some input) left before after buffered code loses part given =
     plans-as (output input) before after buffered code (exits-known output input left before _ code loses part) (λ other. exits-known output input left before after code loses (given other))
 
--- nothing was written
-nothing-at-most : (before : Option (List ℕ)) (text : List ℕ) → AppendsAtMost before before text
-nothing-at-most None text = tt
-nothing-at-most (Some xs) text = (text, refl)
-
--- a run that writes nothing ends with the exit status 3
-pub fails-as : (asked : Option Output) (before : Option (List ℕ)) (code : ExitCode) → exit_status code ≡ 3 → IfSome asked (λ output. EndsAs output before before code)
-fails-as None before code fails = tt
-fails-as (Some output) before code fails = record {
-  status = λ other. absurd (other fails);
-  whole = λ other. absurd (other fails);
-  part = nothing-at-most before output.text;
-}
-
 -- FILE is left out, or it is `-`
 pub named-standard : (files : List ℕ → Option (List ℕ)) (standard : Option (List ℕ)) (file : Option (Bor (List ℕ))) (name default : Bor (List ℕ)) →
     name ≡ unwrap_or file default → bytes_eq name.now (codes "-") ≡ true → standard ≡ bytes_named files standard (option_map (λ given. given.now) file)

@@ -1,7 +1,7 @@
 -- Changes that are read one after another.
-use Rattle.std.proofs.Common.{◌≡◌, ℕ, ◌+◌, ◌<◌, ◌≤◌, List, [], ◌∷◌, ◌++◌, length, drop, get_or, refl, sym, ap, ◌∙◌, append_assoc, arith}
+use Rattle.std.proofs.Common.{◌≡◌, ℕ, ◌+◌, ◌<◌, List, [], ◌∷◌, ◌++◌, length, drop, get_or, refl, sym, ap, ◌∙◌, append_assoc}
 use Rattle.std.specs.Prelude.{Some, None, Result, Ok, Err}
-use Rattle.std.proofs.lemmas.List.{append-nil, drop_all, drop_more}
+use Rattle.std.proofs.lemmas.List.{drop_more}
 use Rattle.conf_change.specs.declared.change.Change.{Change}
 use Rattle.conf_change.specs.declared.change.Kind.{Kind}
 use Rattle.confscript_c.specs.Answer.{status_answer}
@@ -14,12 +14,6 @@ use Rattle.confscript_c.specs.declared.status.Status.TheVariants.{BadChange}
 abbrev pub joined : List Change → Result (List Change) Answer → Result (List Change) Answer
 joined first (Ok rest) = Ok (first ++ rest)
 joined first (Err why) = Err why
-
-pub joined-none : (rest : Result (List Change) Answer) → rest ≡ joined [] rest
-joined-none rest = grind arith
-
-pub joined-all : (numbered : List NumberedChange) (k : ℕ) (first : List Change) → length numbered ≤ k → joined first (changes_from (k + 1) (drop k numbered)) ≡ Ok first
-joined-all numbered k first past = ap (λ xs. joined first (changes_from (k + 1) xs)) (drop_all k numbered past) ∙ ap Ok (append-nil first)
 
 one_more : (position id : ℕ) (kind : Kind) (first : List Change) (rest : Result (List Change) Answer)
     → joined first (change_before position id (Some kind) rest) ≡ joined (first ++ record { kind = kind; id = id } ∷ []) rest

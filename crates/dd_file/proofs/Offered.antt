@@ -2,7 +2,6 @@
 
 pub use Rattle.dd_file.proofs.Reading.BytesTaken.{next_item-takes, next_line-takes}
 pub use Rattle.dd_file.proofs.Rewriting.KnownBytes.{append-part, appends-append, part-append, part-part}
-pub use Rattle.dd_file.proofs.Rewriting.PartByPart.{begun-more, breaks-first, breaks-second, continues-append}
 pub use Rattle.dd_file.proofs.TextLines.CutAgain.{IsOutputOf, full_lines-output, has_blank_line-lines, text_of-end}
 pub use Rattle.dd_file.proofs.TextLines.EqualButReturns.{lines-ends}
 pub use Rattle.dd_file.proofs.TextLines.LastNewlines.{double_end-after, double_end-pushed, ends_with-append, rest-more}

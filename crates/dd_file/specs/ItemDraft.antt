@@ -31,10 +31,6 @@ pub record DraftText : Type 0 where
   pub parts : DraftParts
   pub state : DraftState
 
--- an item that has no lines yet
-abbrev pub blank_draft : DraftText
-blank_draft = record { parts = no_parts; state = Begin }
-
 -- the draft after the last directive line, by the command that the directive lines parse to
 abbrev pub draft_of_command : DraftParts → Option CommandText → DraftText
 draft_of_command parts None = record { parts = parts; state = NoCommand }

@@ -54,10 +54,6 @@ first_of_each down flag plan now [] step is = cc
 first_of_each down flag plan now (first ∷ steps) step is =
     ap (λ s. Some (step_json down flag plan (length (first ∷ steps)) 1 (first_stage now) s (stage_after now s))) (ap (λ found. unwrap_or found step) is)
 
-none_of_each : (down : Option Ids) (flag : Option Bool) (plan : ℕ) (now : Configuration) (each : List Step) → slice_get each 0 ≡ None → slice_get (each_json down flag plan now each) 0 ≡ Some (no_steps_json down flag plan)
-none_of_each down flag plan now [] is = refl
-none_of_each down flag plan now (first ∷ steps) is = cc
-
 -- of a path with a step
 pub first_line-step : (down : Option Ids) (flag : Option Bool) (plan count : ℕ) (now : Configuration) (path each : List Step) (step : Step) (before after : StageState) (d : Data)
     → each ≡ one_change_each path → flag ≡ option_map (stalls now path) down → count ≡ length each → slice_get each 0 ≡ Some step → before ≡ first_stage now → after ≡ stage_after before.config step
@@ -67,13 +63,6 @@ first_line-step down flag plan count now path each step before after d each_is f
     ∙ sym (ap Some (d_is ∙ ap (step_json down flag plan count 1 before step) after_is ∙ ap (λ (stage : StageState). step_json down flag plan count 1 stage step (stage_after stage.config step)) before_is
     ∙ ap (λ n. step_json down flag plan n 1 (first_stage now) step (stage_after now step)) (count_is ∙ ap length each_is)
     ∙ ap (λ f. step_json down f plan (length (one_change_each path)) 1 (first_stage now) step (stage_after now step)) flag_is))
-
--- of a path without a step
-pub first_line-none : (down : Option Ids) (flag : Option Bool) (plan : ℕ) (now : Configuration) (path each : List Step) (d : Data)
-    → each ≡ one_change_each path → flag ≡ option_map (stalls now path) down → slice_get each 0 ≡ None → d ≡ no_steps_json down flag plan → slice_get (path_json plan now path down) 0 ≡ Some d
-first_line-none down flag plan now path each d each_is flag_is none d_is =
-    none_of_each down (option_map (stalls now path) down) plan now (one_change_each path) (ap (λ steps. slice_get steps 0) (sym each_is) ∙ none)
-    ∙ sym (ap Some (d_is ∙ ap (λ f. no_steps_json down f plan) flag_is))
 
 -- ---- the lines of the steps, the first of which has this number and leads from this stage
 abbrev pub lines : Option Ids → Option Bool → ℕ → ℕ → ℕ → StageState → List Step → List ℕ

@@ -24,7 +24,7 @@ ghost use Rattle.serde_json.specs.Written.{has_float, members_have_float};
 ghost use Rattle.raft_json.specs.IdsJson.{ids_json};
 ghost use Rattle.plan_output.specs.Json as spec;
 ghost use Rattle.plan_output.specs.Stages as stage_spec;
-ghost use Rattle.plan_output.specs.Stages.{stalls_with};
+ghost use Rattle.plan_output.specs.Stages.{stage_after, stalls_with};
 ghost use Rattle.plan_output.specs.Json.{each_json, json_text, path_json, value_line, no_plan_json, no_steps_json, step_json};
 
 use crate::stage::{Stage, stalls};
@@ -157,7 +157,7 @@ fn lines_of(
         return Ok(lines);
     }
     let steps = path.as_slice();
-    let mut before = Stage::first(alloc, now)?;
+    let mut stage = Stage::first(alloc, now)?;
     for (index, step) in steps.iter().enumerate() {
         let number = Number {
             plan,
@@ -165,12 +165,29 @@ fn lines_of(
             step: index + 1,
             stalls,
         };
-        let after = before.next(alloc, step)?;
-        let members = step_members(alloc, number, &before, step, &after, down)?;
-        add_line(alloc, &mut lines, &Value::Object(members))?;
-        before = after;
+        stage = add_step_line(alloc, &mut lines, number, &stage, step, down)?;
     }
     Ok(lines)
+}
+
+// Appends the line of a step from this stage, and returns the stage that it leads to.
+fn add_step_line(
+    alloc: Global,
+    lines: &mut Vec<u8>,
+    number: Number,
+    before: &Stage,
+    step: &Step,
+    down: Option<&InlineIds>,
+) -> Result<Stage, NoMemory>
+    ensures stage { IfOk result (λ after. after ≡ stage_after before.now.config step.now) }
+    ensures line { IfOk result (λ after. lines.new.items ≡ lines.old.items ++ value_line
+        (step_json (option_copied down.entry) number.stalls number.plan number.steps number.step
+        before.now step.now after)) }
+{
+    let after = before.next(alloc, step)?;
+    let members = step_members(alloc, number, before, step, &after, down)?;
+    add_line(alloc, lines, &Value::Object(members))?;
+    Ok(after)
 }
 
 // Whether the path stalls, if ids are given that are down.

@@ -37,5 +37,5 @@ mod table;
 
 pub use json::{add_line, add_no_plan_line, first_line};
 pub use output::{Output, add_path};
-pub use stage::{Stage, stages, stalls};
+pub use stage::{Stage, after_step, stages, stalls};
 pub use steps::stall_note;

@@ -135,8 +135,8 @@ pub fn stages(alloc: Global, now: &Config<InlineIds>, path: &Path) -> Result<Vec
     Ok(stages)
 }
 
-// The configuration after a step.
-fn after_step(before: &Config<InlineIds>, step: &Step) -> Result<Config<InlineIds>, NoMemory>
+/// The configuration after a step. A step that is refused changes nothing.
+pub fn after_step(before: &Config<InlineIds>, step: &Step) -> Result<Config<InlineIds>, NoMemory>
     ensures { IfOk result (λ config. config ≡ configuration_after_step before.now step.now) }
 {
     match next_config(before, step.kind(), step.changes()) {

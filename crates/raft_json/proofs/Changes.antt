@@ -5,16 +5,13 @@ use Rattle.conf_change.specs.declared.change.Kind.{Kind}
 use Rattle.conf_change.specs.declared.transition.Transition.{Transition}
 use Rattle.serde_json.specs.View.{items_of}
 use Rattle.raft_json.specs.ConfChangeJson.{change_json, conf_change_json, kind_name, transition_name}
-use Rattle.raft_json.specs.ConfChangeRead.{kind_named, transition_named, change_of_json, changes_from, conf_change_of_json}
+use Rattle.raft_json.specs.ConfChangeRead.{kind_named, transition_named, changes_from, conf_change_of_json}
 
 kind_named-kind_name : (kind : Kind) → kind_named (kind_name kind) ≡ Some kind
 kind_named-kind_name kind = grind arith
 
 transition_named-transition_name : (transition : Transition) → transition_named (transition_name transition) ≡ Some transition
 transition_named-transition_name transition = grind arith
-
-change_of_json-change_json : (change : Change) → change_of_json (change_json change) ≡ Some change
-change_of_json-change_json change = rw (kind_named-kind_name change.kind) refl
 
 changes_from-changes_json : (changes : List Change) → changes_from (items_of (map change_json changes)) ≡ Some changes
 changes_from-changes_json [] = refl

@@ -1,12 +1,13 @@
 -- Sets and configurations that are found to be the same are equal.
-use Rattle.std.proofs.Common.{◌≡◌, ℕ, ◌+◌, Bool, true, false, cond, not, ◌==◌, List, [], ◌∷◌, sym, subst, ◌∙◌, arith, eqb-true, eq-eqb}
-use Rattle.std.specs.Prelude.{◌↔◌, count_by}
-use Rattle.std.specs.Bool.{beq}
-use Rattle.std.specs.List.{list_any}
-use Rattle.std.proofs.lemmas.Bool.{not_from_true}
+use Rattle.std.proofs.Common.{◌≡◌, ℕ, ◌+◌, ◌<◌, suc, max, Bool, true, false, cond, not, ◌==◌, List, [], ◌∷◌, length, get_or, slice_get, refl, sym, ap, subst, ◌∙◌, arith, eqb-true, eq-eqb}
+use Rattle.std.specs.Prelude.{◌↔◌, Some, count_by}
+use Rattle.std.specs.Bool.{beq, MatchBool}
+use Rattle.std.specs.List.{AllWithin, HoldsAt, list_any, range_with_len}
+use Rattle.std.proofs.lemmas.Bool.{not_from_true, false_from_ne_true}
+use Rattle.std.proofs.lemmas.List.FromFn.{get_or-range_with_len, length-range_with_len}
 use Rattle.std.proofs.lemmas.List.Sums.{sum_by-cons}
 use Rattle.std.proofs.lemmas.Bool.Decides.{nat_tests}
-use Rattle.quorum_sets.specs.Ids.{Ids, has, ascending, difference_count}
+use Rattle.quorum_sets.specs.Ids.{Ids, has, ascending, size, difference_count}
 use Rattle.quorum_sets.proofs.Offered.{count_by-none, has-ascending, has-same_ids}
 use Rattle.conf_change.specs.Configuration.{Configuration, is_same_set, is_same}
 
@@ -32,6 +33,28 @@ pub is_same_set-refl : (a : Ids) → is_same_set a a ≡ true
 is_same_set-refl a =
     let none : count_by (λ id. not (has a id)) (ascending a) ≡ 0 = count_by-none _ (ascending a) (λ q here. not_from_true (has a q) (has-ascending a q ∙ here)) in
     eq-eqb (difference_count a a) 0 (λ i. none i + none i)
+
+-- ---- lists of ids that agree at each index
+same_items : (xs ys : List ℕ) → ((k : ℕ) → k < max (length xs) (length ys) → slice_get xs k ≡ slice_get ys k) → xs ≡ ys
+same_items [] [] same = refl
+same_items [] (y ∷ ys) same = let first = same 0 (omega arith) in cc
+same_items (x ∷ xs) [] same = let first = same 0 (omega arith) in cc
+same_items (x ∷ xs) (y ∷ ys) same =
+    let first : x ≡ y = let found : Some x ≡ Some y = same 0 (omega arith) in cc in
+    λ i. first i ∷ same_items xs ys (λ k below. same (suc k) (omega arith)) i
+
+-- a test of each index finds whether the sets of two lists are the same
+pub is_same_set-by_index : (a b : Ids) (end : ℕ) (found : Bool) → end ≡ max (size a) (size b)
+    → MatchBool found (AllWithin (λ k. slice_get (ascending a) k ≡ slice_get (ascending b) k) (range_with_len 0 end) 0 (length (range_with_len 0 end)))
+    ((k : ℕ) × (k < length (range_with_len 0 end)) × HoldsAt (λ j. slice_get (ascending a) j ≡ slice_get (ascending b) j → ⊥) (range_with_len 0 end) k)
+    → found ≡ is_same_set a b
+is_same_set-by_index a b end true is each =
+    let same = same_items (ascending a) (ascending b) (λ k below.
+    let within : k < end = omega arith in
+    subst (λ j. slice_get (ascending a) j ≡ slice_get (ascending b) j) (get_or-range_with_len 0 end k 0 within ∙ omega arith) (each k 0 (omega arith) (rw (length-range_with_len 0 end) within))) in
+    sym (subst (λ s. is_same_set a s ≡ true) (has-same_ids a b (λ q. has-ascending a q ∙ ap (list_any (λ x. q == x)) same ∙ sym (has-ascending b q))) (is_same_set-refl a))
+is_same_set-by_index a b end false is other =
+    sym (false_from_ne_true (is_same_set a b) (λ same. other.2 0 (ap (λ s. slice_get (ascending s) (get_or (range_with_len 0 end) other.0 0)) (is_same_set-equal a b same))))
 
 -- ---- configurations
 same_flags : (a b : Bool) → beq a b ≡ true → a ≡ b

@@ -1,17 +1,16 @@
 -- What is wrong with a configuration or a saved form is there exactly if it is not valid.
-use Rattle.std.proofs.Common.{◌≡◌, ℕ, ◌<◌, ◌≤◌, Bool, true, false, cond, not, ◌&&◌, ◌||◌, List, [], ◌∷◌, length, refl, sym, ap, subst, ◌∙◌, eq-eqb, eqb-true, arith, slice_get}
-use Rattle.std.specs.Prelude.{Option, Some, None, Result, Ok, Err, ◌↔◌, find, option_map, option_and_then, is_some, nat_eq}
+use Rattle.std.proofs.Common.{◌≡◌, ℕ, ◌<◌, ◌≤◌, Bool, true, cond, not, ◌&&◌, ◌||◌, List, [], ◌∷◌, length, refl, sym, ap, subst, ◌∙◌, eq-eqb, eqb-true, arith}
+use Rattle.std.specs.Prelude.{Option, Some, None, Result, Ok, Err, ◌↔◌, find, option_map, is_some}
 use Rattle.std.specs.Option.{option_or}
 use Rattle.std.specs.List.{list_all}
 use Rattle.std.proofs.Math.Bool.{not-not}
 use Rattle.std.proofs.lemmas.Option.{cond_some}
 use Rattle.quorum_sets.specs.Ids.{has, ascending, size, ids_of}
 use Rattle.quorum_sets.proofs.Offered.{ascending-no_ids, size-with_id}
-use Rattle.conf_change.specs.Configuration.{Configuration, keeps, is_joint, is_valid, invariants, first_broken}
+use Rattle.conf_change.specs.Configuration.{Configuration, keeps, is_valid, invariants, first_broken}
 use Rattle.conf_change.specs.ConfState.{ConfStateLists, Describes, names_once, names_each_once, named_by}
 use Rattle.conf_change.specs.Described.{described}
-use Rattle.conf_change.specs.Violation.{violation_of, first_repeat, repeat_in, unless_violated, valid_of, unless_bad, configuration_in}
-use Rattle.conf_change.specs.ConfStateLine.{conf_state_in}
+use Rattle.conf_change.specs.Violation.{violation_of, first_repeat, repeat_in, unless_violated, valid_of}
 use Rattle.conf_change.specs.declared.config.Invariant.{Invariant}
 use Rattle.conf_change.specs.declared.config.Invariant.TheVariants.{ZeroId, NextNotOutgoing, NextAndIncoming, LearnerAndVoter, NotJointButNext, NotJointButAutoLeave}
 use Rattle.conf_change.specs.declared.violation.Violation.{Violation}
@@ -149,10 +148,3 @@ valid_of-from_Describes saved c is valid =
 -- what a saved form or a line names is valid
 pub is_valid-from_valid_of : (saved : ConfStateLists) (c : Configuration) → valid_of saved ≡ Ok c → is_valid c ≡ true
 is_valid-from_valid_of saved c e = (IsValidOf-from_valid_of saved c e).valid
-
-pub is_valid-from_configuration_in : (line : List ℕ) (c : Configuration) → configuration_in line ≡ Ok c → is_valid c ≡ true
-is_valid-from_configuration_in line c e = by_line (conf_state_in line) e
-  where
-    by_line : (o : Option ConfStateLists) → unless_bad o ≡ Ok c → is_valid c ≡ true
-    by_line None e = cc
-    by_line (Some saved) e = is_valid-from_valid_of saved c e

@@ -1,5 +1,5 @@
 -- Members that are filtered from a list, in its order, each with its progress.
-use Rattle.std.proofs.Common.{◌≡◌, ℕ, Bool, cond, ◌||◌, ◌==◌, List, [], ◌∷◌, ◌++◌, map, sym, ap, ◌∙◌, arith}
+use Rattle.std.proofs.Common.{◌≡◌, ℕ, Bool, cond, ◌==◌, List, [], ◌∷◌, ◌++◌, map, sym, ap, ◌∙◌, arith}
 use Rattle.std.specs.Prelude.{Option, Some, None, is_some}
 use Rattle.std.specs.Ordering.{nat_cmp}
 use Rattle.std.specs.Cmp.{nat_cmp_total, unsigned_tied}
@@ -52,9 +52,6 @@ find_one : (q id : ℕ) (o : Option Progress) (rest : List (ℕ × Progress)) �
 find_one q id o rest = grind (arith, unsigned_tied q id)
 
 -- ---- an id has an entry where it is a key
-pub is_some-cond : {X : Type 0} (b : Bool) (x : X) (o : Option X) → is_some (cond b (Some x) o) ≡ (b || is_some o)
-is_some-cond b x o = grind arith
-
 pub keys-find : {X : Type 0} (es : List (ℕ × X)) (q : ℕ) → is_some (find nat_cmp q es) ≡ list_any (λ x. q == x) (map (λ m. m.0) es)
 keys-find es q = is_some-find nat_cmp q es ∙ (λ i. list_any (λ x. unsigned_tied q x i) (map (λ m. m.0) es))
 

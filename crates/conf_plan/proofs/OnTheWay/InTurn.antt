@@ -1,26 +1,15 @@
 -- The steps of the items of a list, as they are added one after another.
-use Rattle.std.proofs.Common.{◌≡◌, ℕ, ◌+◌, ◌^◌, ◌<◌, zero, suc, List, [], ◌∷◌, ◌++◌, length, take, get_or, slice_get, refl, sym, ap, subst, ◌∙◌, arith}
+use Rattle.std.proofs.Common.{◌≡◌, ℕ, ◌+◌, ◌<◌, zero, suc, List, [], ◌∷◌, ◌++◌, length, take, get_or, slice_get, refl, sym, ap, subst, ◌∙◌, arith}
 use Rattle.std.specs.Prelude.{flat_map}
 use Rattle.std.specs.List.{cons_option}
 use Rattle.std.proofs.lemmas.Grind.{flat_map-append}
 use Rattle.std.proofs.lemmas.List.{append-nil, take_all, take_more}
 use Rattle.std.proofs.lemmas.Option.{slice_get_past}
 use Rattle.std.proofs.lemmas.List.Concat.{flat_map-cons}
-use Rattle.std.proofs.lemmas.List.Elements.{All-nil, All-push}
-use Rattle.conf_change.specs.declared.change.Change.{Change}
-use Rattle.conf_change.specs.declared.change.Kind.{Kind}
 use Rattle.conf_change.specs.declared.step.Step.{Step}
-use Rattle.conf_plan.specs.OneAtATime.{one_change, in_turn}
-use Rattle.conf_plan.specs.PlanSteps.{HasU64Ids}
+use Rattle.conf_plan.specs.OneAtATime.{in_turn}
 use Rattle.conf_plan.specs.AddedSteps.{IsAdded}
 use Rattle.conf_plan.proofs.PlannedSteps.Cases.{added-more}
-
--- a step of one change
-pub added-change : (before after : List Step) (kind : Kind) (id : ℕ) → id < 2 ^ 64 → after ≡ before ++ one_change kind id ∷ [] → IsAdded before (one_change kind id ∷ []) after
-added-change before after kind id token e = record {
-  whole = e;
-  u64_ids = All-push HasU64Ids [] (one_change kind id) (All-nil HasU64Ids) (All-push (λ (change : Change). change.id < 2 ^ 64) [] (record { kind = kind; id = id }) (All-nil _) token);
-}
 
 -- the steps of some items, and those of further ones
 pub added-further : {X : Type 0} (of : X → List Step) (before now after : List Step) (items more all : List X) → all ≡ items ++ more → IsAdded before (flat_map of items) now

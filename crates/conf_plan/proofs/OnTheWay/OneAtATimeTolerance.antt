@@ -1,27 +1,24 @@
 -- On the way that changes one member at a time, the voters that are up outnumber those that are down by as many as at one of the ends.
 use Rattle.std.proofs.Common.{◌≡◌, ℕ, ◌+◌, ◌<◌, ◌≤◌, Bool, true, false, cond, not, ◌&&◌, ◌||◌, ◌⊎◌, inl, inr, List, [], ◌∷◌, ◌++◌, length, refl, sym, ap, subst, ◌∙◌, arith, eq-eqb}
 use Rattle.std.specs.List.{All}
-use Rattle.std.specs.Ordering.{nat_cmp}
-use Rattle.std.specs.Prelude.{filter}
 use Rattle.std.proofs.lemmas.Bool.{both_ways, cond_both, cond-true, and_parts, and_from, ltb-true, ne_eqb}
 use Rattle.std.proofs.lemmas.List.Elements.{All-append, All-head, All-tail, All-weaker}
-use Rattle.std.proofs.lemmas.List.Kept.{IsStrictlySortedBy-filter}
 use Rattle.std.proofs.lemmas.List.Sums.{count_by-le-length, length-filter}
 use Rattle.quorum_sets.specs.Ids.{Ids, no_ids, has, with_id, ascending, size, count_of, union, ids_where, is_empty, majority_passes}
 use Rattle.quorum_sets.specs.Tolerance.{Tolerates, commits_without}
 use Rattle.quorum_sets.specs.Voters.{Voters, majority}
-use Rattle.quorum_sets.proofs.Offered.{Tolerates-from_counts, ascending-ids_of, ascending-is_sorted, ascending-no_ids, commits_without-majority_passes, count_of-rest, counted-all, counts-from_Tolerates, has-no_ids, has-same_ids, has-union, has-with_id, size-with_id}
+use Rattle.quorum_sets.proofs.Offered.{Tolerates-from_counts, ascending-no_ids, commits_without-majority_passes, count_of-rest, counted-all, counts-from_Tolerates, has-no_ids, has-same_ids, has-union, has-with_id, size-with_id}
 use Rattle.conf_change.specs.Configuration.{Configuration, voters_of}
 use Rattle.conf_change.proofs.Offered.{is_empty-no_ids}
 use Rattle.conf_plan.specs.OnTheWay.{IsAsTolerant}
 use Rattle.conf_plan.specs.OneAtATime.{joining, retiring, leaving_learners, in_turn, order, down_in_order}
 use Rattle.conf_plan.proofs.FindingMoves.AscendingIds.{times}
-use Rattle.conf_plan.proofs.OnTheWay.OrderOfIds.{All-joining, All-where, AreOnce, AreOnce-first, AreOnce-order, AreOnce-rest, mixed, has-mixed_done, has-mixed_first, has-where, mixed-none_left}
+use Rattle.conf_plan.proofs.OnTheWay.OrderOfIds.{All-joining, All-where, AreOnce, AreOnce-first, AreOnce-order, AreOnce-rest, ascending-where, mixed, has-mixed_done, has-mixed_first, has-where, mixed-none_left}
 
 -- ---- counts of voters on the way
 -- where one more id is done, the counts differ by it alone
 pub counted-passing : (p : ℕ → Bool) (ids : Ids) → count_of p ids ≡ size (ids_where p (ascending ids))
-counted-passing p ids = sym (ap length (ascending-ids_of (filter p (ascending ids)) (IsStrictlySortedBy-filter nat_cmp p (ascending ids) (ascending-is_sorted ids))) ∙ length-filter p (ascending ids))
+counted-passing p ids = sym (ap length (ascending-where p ids) ∙ length-filter p (ascending ids))
 
 count_of-done : (p : ℕ → Bool) (had gets : Ids) (id : ℕ) (left : List ℕ) → times id left ≡ 0
     → count_of p (mixed had gets (id ∷ left)) + cond (p id && has gets id) 1 0 ≡ count_of p (mixed had gets left) + cond (p id && has had id) 1 0

@@ -1,13 +1,16 @@
 -- Ids that are done one after another: those that are left have their first roles, and the others those of the target.
 use Rattle.std.proofs.Common.{◌≡◌, ℕ, ◌+◌, ◌≤◌, Bool, true, cond, not, ◌&&◌, ◌||◌, ◌==◌, List, [], ◌∷◌, ◌++◌, refl, sym, ap, ◌∙◌, arith, eqb-true, eq-eqb}
+use Rattle.std.specs.Prelude.{filter}
 use Rattle.std.specs.Cmp.{nat_eq_equiv}
 use Rattle.std.specs.List.{All}
+use Rattle.std.specs.Ordering.{nat_cmp}
 use Rattle.std.proofs.lemmas.Bool.{and_parts}
 use Rattle.std.proofs.lemmas.List.Elements.{All-append}
+use Rattle.std.proofs.lemmas.List.Kept.{IsStrictlySortedBy-filter}
 use Rattle.std.proofs.lemmas.Map.Views.{All-from_any}
 use Rattle.std.proofs.lemmas.List.Sums.{sum_by-append}
 use Rattle.quorum_sets.specs.Ids.{Ids, has, ascending, union, ids_where}
-use Rattle.quorum_sets.proofs.Offered.{has-ascending, has-ids_where, has-same_ids, has-union}
+use Rattle.quorum_sets.proofs.Offered.{ascending-ids_of, ascending-is_sorted, has-ascending, has-ids_where, has-same_ids, has-union}
 use Rattle.conf_change.specs.Configuration.{Configuration, ValidByMember}
 use Rattle.conf_plan.specs.OneAtATime.{learners_first, joining, retiring, leaving_learners, new_learners, in_turn, order}
 use Rattle.conf_plan.specs.Planned.{single_with}
@@ -26,6 +29,22 @@ AreOnce-first id ids once = grind (arith, times-cons id id ids, eq-eqb id id ref
 -- ---- the order
 pub has-where : (test : ℕ → Bool) (ids : Ids) (q : ℕ) → has (ids_where test (ascending ids)) q ≡ (test q && has ids q)
 has-where test ids q = has-ids_where test (ascending ids) q ∙ ap (λ b. test q && b) (sym (has-ascending ids q))
+
+-- as lists
+pub ascending-where : (test : ℕ → Bool) (ids : Ids) → ascending (ids_where test (ascending ids)) ≡ filter test (ascending ids)
+ascending-where test ids = ascending-ids_of (filter test (ascending ids)) (IsStrictlySortedBy-filter nat_cmp test (ascending ids) (ascending-is_sorted ids))
+
+filter-both : (p q : ℕ → Bool) (xs : List ℕ) → filter p (filter q xs) ≡ filter (λ x. p x && q x) xs
+filter-both p q [] = refl
+filter-both p q (x ∷ xs) = grind (arith, filter-both p q xs)
+
+pub joining-filtered : (passes : ℕ → Bool) (c target : Configuration)
+    → let joins : ℕ → Bool = λ id. not (has c.incoming id) && passes id in
+    joining passes c target ≡ filter (λ id. has c.learners id && joins id) (ascending target.incoming) ++ filter (λ id. not (has c.learners id) && joins id) (ascending target.incoming)
+joining-filtered passes c target =
+    let joins : ℕ → Bool = λ id. not (has c.incoming id) && passes id in
+    let part = λ (test : ℕ → Bool). ascending-where test (ids_where joins (ascending target.incoming)) ∙ ap (filter test) (ascending-where joins target.incoming) ∙ filter-both test joins (ascending target.incoming) in
+    λ i. part (has c.learners) i ++ part (λ id. not (has c.learners id)) i
 
 -- what holds of each id of a set that passes a test holds of the list
 pub All-where : (P : ℕ → Type 0) (test : ℕ → Bool) (ids : Ids) → ((q : ℕ) → (test q && has ids q) ≡ true → P q) → All P (ascending (ids_where test (ascending ids)))

@@ -1,8 +1,7 @@
 -- The cases of the planner, and the steps that it adds.
 use Rattle.std.proofs.Common.{◌≡◌, ℕ, true, false, not, List, [], ◌∷◌, ◌++◌, sym, ap, subst, ◌∙◌, arith}
-use Rattle.std.specs.List.{All}
 use Rattle.std.proofs.lemmas.Bool.{ne_eqb, cond-true, cond-false}
-use Rattle.std.proofs.lemmas.List.{append_assoc, append-nil}
+use Rattle.std.proofs.lemmas.List.{append_assoc}
 use Rattle.std.proofs.lemmas.List.Elements.{All-append, All-nil, All-push}
 pub use Rattle.std.proofs.lemmas.Result.{on_ok_weaker as OnOk-weaker}
 use Rattle.quorum_sets.specs.Ids.{Ids, size, union}
@@ -40,9 +39,6 @@ pub own-is_valid : (now : Configuration) → IsSingle now → IsValidWithVoter (
 own-is_valid now single = subst IsValidWithVoter (sym (single_with-own now single)) single.valid_with_voter
 
 -- ---- steps that are added
-pub added-nothing : (before : List Step) → IsAdded before [] before
-added-nothing before = record { whole = sym (append-nil before); u64_ids = All-nil HasU64Ids }
-
 pub added-leave : (before after : List Step) → after ≡ before ++ LeaveJoint ∷ [] → IsAdded before (LeaveJoint ∷ []) after
 added-leave before after e = record { whole = e; u64_ids = All-push HasU64Ids [] LeaveJoint (All-nil HasU64Ids) (All-nil _) }
 
@@ -51,6 +47,3 @@ added-more before xs between ys after first second = record {
   whole = second.whole ∙ ap (λ steps. steps ++ ys) first.whole ∙ append_assoc before xs ys;
   u64_ids = All-append HasU64Ids xs ys first.u64_ids second.u64_ids;
 }
-
-pub added-is_path : (more after : List Step) → IsAdded [] more after → (after ≡ more) × All HasU64Ids after
-added-is_path more after added = (added.whole, subst (All HasU64Ids) (sym added.whole) added.u64_ids)

@@ -1,9 +1,9 @@
 -- Bytes that were searched for a newline and have none.
-use Rattle.std.proofs.Common.{◌≡◌, ℕ, zero, suc, ◌+◌, ◌≤◌, ◌<◌, Bool, true, false, List, [], ◌∷◌, ◌++◌, length, take, drop, refl, sym, ◌∙◌, ap, subst, add-zero, arith}
+use Rattle.std.proofs.Common.{◌≡◌, ℕ, zero, suc, ◌+◌, ◌≤◌, ◌<◌, Bool, true, false, List, [], ◌∷◌, ◌++◌, length, take, drop, refl, sym, ◌∙◌, ap, add-zero, arith}
 use Rattle.std.proofs.lemmas.Bool.{or_parts}
 use Rattle.std.specs.Prelude.{◌==◌, filter}
 use Rattle.std.specs.List.{list_any}
-use Rattle.std.proofs.lemmas.List.{append_assoc, append-nil, take-append-drop, take_all, take-take, take-append-le, length-append, length-take}
+use Rattle.std.proofs.lemmas.List.{append-nil, take-append-drop, take_all, take-take, take-append-le, length-append, length-take}
 use Rattle.std.proofs.lemmas.List.Elements.{filter-append}
 use Rattle.std.proofs.Math.Seq.{take-length, drop-length}
 use Rattle.ascii_text.specs.Lines.{first_len, full_lines, ends_in_newline}
@@ -68,14 +68,6 @@ pub first_len-farther : (searched : ℕ) (bytes full_line rest : List ℕ) → H
 first_len-farther searched bytes full_line [] clear is ends = let bad : true ≡ false = sym ends ∙ none-ends full_line (ap has_newline (is ∙ ap (λ n. take n bytes) (add-zero searched)) ∙ clear.none) in cc
 first_len-farther searched bytes full_line (b ∷ rest) clear is ends = first_len-some (b ∷ rest) (omega arith)
 
-pub begins-uncut : (full_line : List ℕ) (n : ℕ) (bytes : List ℕ) → BeginsWithLine full_line (take n bytes) → BeginsWithLine full_line bytes
-begins-uncut full_line n bytes begins = record {
-  rest = begins.rest ++ drop n bytes;
-  is = sym (take-append-drop n bytes) ∙ ap (λ t. t ++ drop n bytes) begins.is ∙ append_assoc full_line begins.rest (drop n bytes);
-  one = begins.one;
-  ends = begins.ends;
-}
-
 pub begins-within : (full_line bytes : List ℕ) → BeginsWithLine full_line bytes → length full_line ≤ length bytes
 begins-within full_line bytes begins = let len = length-append full_line begins.rest in let all = ap length begins.is in omega (arith, len, all)
 
@@ -91,9 +83,6 @@ none-more count bytes more clear =
     let within = clear.within in
     let len = length-append bytes more in
     record { within = omega (arith, within, len); none = ap has_newline (take-append-le count bytes more within) ∙ clear.none }
-
-pub none-uncut : (count n : ℕ) (bytes : List ℕ) → HasNoNewline count (take n bytes) → HasNoNewline count bytes
-none-uncut count n bytes clear = subst (HasNoNewline count) (take-append-drop n bytes) (none-more count (take n bytes) (drop n bytes) clear)
 
 -- one full line alone
 pub full_lines-one : (full_line : List ℕ) → first_len full_line ≡ length full_line → 0 < length full_line → full_lines full_line ≡ full_line ∷ []

@@ -23,9 +23,6 @@ begun-part start now text part rest =
     let whole : (without_last 10 text ++ more.0) ++ end ≡ without_double_end (text ++ rest) = ap (λ t. t ++ end) (sym more.1) ∙ text-ended (text ++ rest) in
     subst (λ t. AppendsPart start now t) whole (part-part start now _ end (part-part start now _ more.0 part))
 
-pub begun-more : (start now : Option (List ℕ)) (text more : List ℕ) → HasBegun start now text → HasBegun start now (text ++ more)
-begun-more start now text more begun rest = subst (λ t. AppendsPart start now (without_double_end t)) (sym (append_assoc text more rest)) (begun (more ++ rest))
-
 pub HasWritten-from_text : (newlines : ℕ) (start now : Option (List ℕ)) (text : List ℕ) → newlines ≡ newlines_at_end text → Appends start now (without_last 10 text) → HasWritten newlines start now text
 HasWritten-from_text newlines start now text count gained = record {
   counted = count;
@@ -71,16 +68,3 @@ finishes-part newlines old new a start text is =
 -- nothing is written
 pub finishes-none : (newlines : ℕ) (old : Option (List ℕ)) → FinishesPart newlines old old
 finishes-none newlines old start text is = subst (λ t. AppendsPart start old (without_double_end t)) (append-nil text) (is.begun [])
-
--- one part and then another
-pub continues-append : (a b c : ℕ) (old mid new : Option (List ℕ)) (xs ys : List ℕ) → Continues a b old mid xs → Continues b c mid new ys → Continues a c old new (xs ++ ys)
-continues-append a b c old mid new xs ys first second start text is =
-    subst (λ t. HasWritten c start new t) (append_assoc text xs ys) (second start (text ++ xs) (first start text is))
-
-pub breaks-first : (a : ℕ) (old new : Option (List ℕ)) (xs ys : List ℕ) → BreaksOff a old new xs → BreaksOff a old new (xs ++ ys)
-breaks-first a old new xs ys first start text is =
-    subst (λ t. HasBegun start new t) (append_assoc text xs ys) (begun-more start new (text ++ xs) ys (first start text is))
-
-pub breaks-second : (a b : ℕ) (old mid new : Option (List ℕ)) (xs ys : List ℕ) → Continues a b old mid xs → BreaksOff b mid new ys → BreaksOff a old new (xs ++ ys)
-breaks-second a b old mid new xs ys first second start text is =
-    subst (λ t. HasBegun start new t) (append_assoc text xs ys) (second start (text ++ xs) (first start text is))

@@ -7,7 +7,7 @@ use Rattle.std.specs.List.Sorted.{IsPermutation, IsPartitionPoint}
 use Rattle.std.proofs.lemmas.Bool.{or_left, or_right, ltb-true, lt-ltb, cases_Bool}
 use Rattle.std.proofs.lemmas.List.{length-map, get_or-take, get_or-drop}
 use Rattle.std.proofs.lemmas.List.Folds.{fold-map}
-use Rattle.std.proofs.lemmas.Option.{slice_get_within, get_or_from_slice_get, gets}
+use Rattle.std.proofs.lemmas.Option.{slice_get_within, get_or_from_slice_get}
 use Rattle.std.proofs.lemmas.List.Sums.{sum_by_more, sum_by-cons, sum_by-le, sum_by-take-drop, count_by-le-length}
 use Rattle.std.proofs.lemmas.List.Sorted.{length_permutation, sum_by-IsPermutation}
 use Rattle.quorum_sets.specs.Ids.{Ids, ascending, majority_passes, is_empty}
@@ -18,9 +18,6 @@ pub count_by-one_more : (test : ℕ → Bool) (xs : List ℕ) (k x : ℕ) → sl
 count_by-one_more test xs k x here =
     sum_by_more (λ y. cond (test y) 1 0) xs k 0 (slice_get_within xs k x here)
     ∙ ap (λ y. count_by test (take k xs) + cond (test y) 1 0) (get_or_from_slice_get xs k x 0 here)
-
--- for the loops over the ids of a set
-pub ruleset count_steps = (count_by-one_more, gets)
 
 -- ---- one test against others
 -- where each item that passes the first test passes one of the others, these count no less

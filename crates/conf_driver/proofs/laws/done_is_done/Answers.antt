@@ -19,12 +19,11 @@ use Rattle.conf_driver.specs.IdSets.{◌∪◌, ◌∩◌, ◌∖◌}
 use Rattle.conf_driver.specs.Next.{answer_in, answer_on, next_of, propose_first, situation}
 use Rattle.conf_driver.specs.Rows as row
 use Rattle.conf_driver.specs.Rows.{done_or_wait, first_of, if_any, may_stop, needed_at_target, rows_of_path, rows_of_step, rows_of_view, successors, transfer_to_one, wait_for}
-use Rattle.conf_driver.specs.Situation.{after_first, has_step, situation_of}
+use Rattle.conf_driver.specs.Situation.{Situation, after_first, has_step, situation_of}
 use Rattle.conf_driver.specs.View.{ViewState, caught_up_index, having, heard_from, known_index, lacking, match_of, up_and_caught_up, voter_ids}
 use Rattle.conf_driver.specs.declared.action.Action.TheVariants.{Done, Start, Stop, Stuck, Wait}
 use Rattle.conf_driver.specs.declared.action.StuckReason.TheVariants.{Reused}
 use Rattle.conf_driver.specs.declared.action.WaitReason.TheVariants.{Heard}
-use Rattle.conf_driver.specs.declared.situation.Situation.{Situation}
 use Rattle.conf_driver.proofs.Counting.{is_quorum-not_down}
 use Rattle.conf_driver.proofs.FirstRow.{by_rows, kind, kind-wait_for}
 use Rattle.conf_driver.proofs.IdsByMember.{has-common, has-common-is, has-without, has-without-is, in-common, in-second, in-without, common-is_empty, without-is_empty, not-in_second, up-unless_down, union-right, union-neither}

@@ -14,13 +14,12 @@ use Rattle.conf_plan.specs.declared.strategy.Strategy.{Strategy}
 use Rattle.conf_driver.specs.IdSets.{◌∪◌, ◌∩◌, ◌∖◌, just, or_else}
 use Rattle.conf_driver.specs.Next.{next_of, situation}
 use Rattle.conf_driver.specs.Rows as row
-use Rattle.conf_driver.specs.Situation.{has_step}
+use Rattle.conf_driver.specs.Situation.{Situation, has_step}
 use Rattle.conf_driver.specs.View.{ViewState, heard_from, lacking, match_of, up_and_caught_up, voter_ids}
 use Rattle.conf_driver.specs.Waits.{HasCome, IsVoterOrLeads, LacksWhatIsNamed}
 use Rattle.conf_driver.specs.declared.action.Action.TheVariants.{Wait}
 use Rattle.conf_driver.specs.declared.action.WaitReason.{WaitReason}
 use Rattle.conf_driver.specs.declared.action.WaitReason.TheVariants.{NoLeader, Pending, Heard, Unheard, Behind, Leaving}
-use Rattle.conf_driver.specs.declared.situation.Situation.{Situation}
 use Rattle.conf_driver.specs.declared.view.MemberView.{MemberView}
 use Rattle.conf_driver.proofs.Counted.{IsCounted}
 use Rattle.conf_driver.proofs.Counting.{quorum-grows, quorum-has_voter}

@@ -3,23 +3,21 @@ use Rattle.std.specs.Prelude.{nat_eq}
 use Rattle.quorum_sets.specs.Ids.{Ids}
 use Rattle.conf_change.specs.Configuration.{Configuration, member_ids}
 use Rattle.conf_driver.specs.IdSets.{◌∖◌}
+use Rattle.conf_driver.specs.Situation.{after_first}
 use Rattle.conf_driver.specs.View.{ViewState, lacking, voter_ids}
 use Rattle.conf_driver.proofs.situation.situation_of.Goals as goal
 
 pub returns : goal.returns
 returns c =
     let view = c.args.view.now in
-    let all = c.in_ok-configurations.ensures in
-    let before = ap (λ (t : Configuration × Configuration × Configuration). t.0) all in
-    let after = ap (λ (t : Configuration × Configuration × Configuration). t.1) all in
-    let target = ap (λ (t : Configuration × Configuration × Configuration). t.2) all in
+    let before = ap (λ (v : ViewState). v.conf_state) c.view.view_is in
+    let after = c.in_ok-after.ensures ∙ ap (λ (now : Configuration). after_first now c.args.path.now) before in
     let sets = c.in_ok-members.ensures in
     let voters = ap (λ (t : Ids × Ids × Ids). t.0) sets ∙ ap voter_ids before in
     let members = ap (λ (t : Ids × Ids × Ids). t.1) sets ∙ ap member_ids before in
     let voters_after = ap (λ (t : Ids × Ids × Ids). t.2) sets ∙ ap voter_ids after in
-    let down = ap (λ (t : Ids × Ids × Ids). t.0) c.in_ok-servers.ensures in
-    let running = ap (λ (t : Ids × Ids × Ids). t.1) c.in_ok-servers.ensures in
-    let retired = ap (λ (t : Ids × Ids × Ids). t.2) c.in_ok-servers.ensures in
+    let running = ap (λ (v : ViewState). v.running) c.view.view_is in
+    let retired = ap (λ (v : ViewState). v.retired) c.view.view_is in
     let lack_pending = ap (λ (t : Ids × Ids). t.0) c.in_ok-lacking.ensures ∙ ap (λ ids. lacking view view.pending_conf_index (ids ∖ c.args.down.now)) voters in
     let lack_configuration = ap (λ (t : Ids × Ids). t.1) c.in_ok-lacking.ensures ∙ ap (λ ids. lacking view view.conf_index (ids ∖ c.args.down.now)) members in
     let heard = ap (λ (t : Ids × Ids). t.0) c.in_ok-seen.ensures in
@@ -30,13 +28,13 @@ returns c =
     λ i. record {
       before = before i;
       after = after i;
-      target = target i;
+      target = c.args.target.now;
       has_step = has_step i;
       stalls = c.args.stalls;
       voters = voters i;
       members = members i;
       voters_after = voters_after i;
-      down = down i;
+      down = c.args.down.now;
       heard = heard i;
       up = up i;
       running = running i;

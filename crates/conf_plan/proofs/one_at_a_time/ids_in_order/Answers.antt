@@ -1,48 +1,35 @@
-use Rattle.std.proofs.Common.{rules, ◌≡◌, ℕ, Bool, not, ◌&&◌, ◌||◌, ◌++◌, ap, ◌∙◌, append_assoc}
-use Rattle.quorum_sets.specs.Ids.{Ids, has, ascending, ids_where}
-use Rattle.conf_change.specs.Configuration.{Configuration}
-use Rattle.conf_plan.specs.OneAtATime as spec
-use Rattle.conf_plan.specs.OneAtATime.{learners_first, in_turn}
-use Rattle.conf_plan.specs.Planned.{single_with}
+use Rattle.std.proofs.Common.{rules, ℕ, Bool, not, ◌||◌, ◌++◌, sym, ap, ◌∙◌, append_assoc}
+use Rattle.quorum_sets.specs.Ids.{has}
+use Rattle.conf_plan.specs.OneAtATime.{joining, retiring, leaving_learners, new_learners, in_turn}
+use Rattle.conf_plan.proofs.OnTheWay.OrderOfIds.{ascending-where}
 use Rattle.conf_plan.proofs.one_at_a_time.ids_in_order.Goals as goal
 
 pub returns : goal.returns
 returns g c =
+    let own = g.S.MemberSet.ids in
+    let start = c.args.start.now in
     let target = c.args.target.now in
-    let incoming = g.S.MemberSet.ids c.start.inside.incoming.now in
-    let learners = g.S.MemberSet.ids c.start.inside.learners.now in
-    let to = g.S.MemberSet.ids c.target.inside.incoming in
-    let to_learn = g.S.MemberSet.ids c.target.inside.learners in
-    let start = single_with incoming learners in
-    let is_down : ℕ → Bool = has (g.S.MemberSet.ids c.args.down.now) in
+    let votes = has (own c.start.inside.incoming.now) in
+    let learns = has (own c.start.inside.learners.now) in
+    let will_vote = has (own c.target.inside.incoming) in
+    let will_learn = has (own c.target.inside.learners) in
+    let is_down = has (own c.args.down.now) in
     let is_up : ℕ → Bool = λ id. not (is_down id) in
-    let joins : (ids : Ids) (passes : ℕ → Bool) → ids ≡ ids_where (λ id. not (has incoming id) && passes id) (ascending to) → learners_first learners (ascending ids) ≡ spec.joining passes start target =
-    λ ids passes is.
-    ap (λ s. learners_first learners (ascending s)) (is ∙ ap (λ (d : Configuration). ids_where (λ id. not (has incoming id) && passes id) (ascending d.incoming)) c.target.view_is) in
-    let retires : (ids : Ids) (passes : ℕ → Bool) → ids ≡ ids_where (λ id. not (has to id) && passes id) (ascending incoming) → ascending ids ≡ spec.retiring passes start target =
-    λ ids passes is. ap ascending (is ∙ ap (λ (d : Configuration). ids_where (λ id. not (has d.incoming id) && passes id) (ascending incoming)) c.target.view_is) in
-    let joins_up = joins _ is_up (c.in_ok-joining_up.ensures (λ id. not (has incoming id) && is_up id) (λ id answer given. search rules)) in
-    let joins_down = joins _ is_down (c.in_ok-joining_down.ensures (λ id. not (has incoming id) && is_down id) (λ id answer given. search rules)) in
-    let retires_up = retires _ is_up (c.in_ok-retiring_up.ensures (λ id. not (has to id) && is_up id) (λ id answer given. search rules)) in
-    let retires_down = retires _ is_down (c.in_ok-retiring_down.ensures (λ id. not (has to id) && is_down id) (λ id answer given. search rules)) in
-    let leaves : ascending (g.S.MemberSet.ids c.in_ok-leaving.leaving) ≡ spec.leaving_learners start target =
-    ap ascending
-    (c.in_ok-leaving.ensures (λ id. not (has incoming id || has to id || has to_learn id)) (λ id answer given. search rules)
-    ∙ ap (λ (d : Configuration). ids_where (λ id. not (has incoming id || has d.incoming id || has d.learners id)) (ascending learners)) c.target.view_is) in
-    let news : ascending (g.S.MemberSet.ids c.in_ok-new_learners.new_learners) ≡ spec.new_learners start target =
-    ap ascending
-    (c.in_ok-new_learners.ensures (λ id. not (has incoming id || has to id || has learners id)) (λ id answer given. search rules)
-    ∙ ap (λ (d : Configuration). ids_where (λ id. not (has incoming id || has d.incoming id || has learners id)) (ascending d.learners)) c.target.view_is) in
-    let joined : c.as_slice.result.now ≡ spec.joining is_up start target =
-    c.as_slice.ensures ∙ c.in_ok-add_learners_first.ensures ∙ (λ i. c.new-joins.ensures.items i ++ joins_up i) in
-    let with_first = c.in_ok-add_ids.ensures.ok ∙ (λ i. c.new-ids.ensures.items i ++ retires_down i) in
-    let with_leaving = c.in_ok-add_ids-2.ensures.ok ∙ (λ i. with_first i ++ leaves i) in
-    let with_turns = c.in_ok-add_in_turn.ensures ∙ (λ i. with_leaving i ++ in_turn (joined i) (retires_up i)) in
-    let with_last = c.in_ok-add_learners_first-2.ensures ∙ (λ i. with_turns i ++ joins_down i) in
-    let first = spec.retiring is_down start target in
-    let leaving = spec.leaving_learners start target in
-    let turns = in_turn (spec.joining is_up start target) (spec.retiring is_up start target) in
-    let last = spec.joining is_down start target in
-    let end = spec.new_learners start target in
-    rw (← c.start.view_is) (c.in_ok-add_ids-3.ensures.ok ∙ (λ i. with_last i ++ news i) ∙ append_assoc ((first ++ leaving) ++ turns) last end ∙ append_assoc (first ++ leaving) turns (last ++ end)
-    ∙ append_assoc first leaving (turns ++ (last ++ end)))
+    let leaves : ℕ → Bool = λ id. not (votes id || will_vote id || will_learn id) in
+    let comes : ℕ → Bool = λ id. not (votes id || will_vote id || learns id) in
+    let joins = c.as_slice.ensures ∙ c.in_ok-add_joining.ensures ∙ ap (λ ids. ids ++ joining is_up start target) c.new-joins.ensures.items in
+    let retires = c.as_slice-2.ensures ∙ c.in_ok-add_retiring.ensures ∙ ap (λ ids. ids ++ retiring is_up start target) c.new-retires.ensures.items in
+    let first = retiring is_down start target in
+    let leaving = leaving_learners start target in
+    let turns = in_turn (joining is_up start target) (retiring is_up start target) in
+    let last = joining is_down start target in
+    let new = new_learners start target in
+    let leaves_is = sym (ascending-where leaves (own c.start.inside.learners.now)) ∙ (λ i. leaving_learners (c.start.view_is i) (c.target.view_is i)) in
+    let comes_is = sym (ascending-where comes (own c.target.inside.learners)) ∙ (λ i. new_learners (c.start.view_is i) (c.target.view_is i)) in
+    let with_first = c.in_ok-add_retiring-2.ensures ∙ ap (λ ids. ids ++ first) c.new-ids.ensures.items in
+    let with_leaving = c.in_ok-add_filtered.ensures leaves (λ id answer given. search rules) ∙ (λ i. with_first i ++ leaves_is i) in
+    let with_turns = c.in_ok-add_in_turn.ensures ∙ (λ i. with_leaving i ++ in_turn (joins i) (retires i)) in
+    let with_last = c.in_ok-add_joining-2.ensures ∙ ap (λ ids. ids ++ last) with_turns in
+    c.in_ok-add_filtered-2.ensures comes (λ id answer given. search rules)
+    ∙ (λ i. with_last i ++ comes_is i)
+    ∙ append_assoc ((first ++ leaving) ++ turns) last new ∙ append_assoc (first ++ leaving) turns (last ++ new) ∙ append_assoc first leaving (turns ++ (last ++ new))

@@ -8,4 +8,4 @@ use Rattle.plan_output.proofs.json.lines_of.Given as goal
 abbrev pub invariant-loop-index : goal.invariant-loop-index
 invariant-loop-index l =
     let down = option_copied l.down in
-    l.lines.items ++ lines down l.stalls l.plan (length l.steps) (l.index + 1) l.before (drop l.index l.steps) ≡ lines down l.stalls l.plan (length l.steps) 1 (first_stage l.now) l.steps
+    l.lines.items ++ lines down l.stalls l.plan (length l.steps) (l.index + 1) l.stage (drop l.index l.steps) ≡ lines down l.stalls l.plan (length l.steps) 1 (first_stage l.now) l.steps

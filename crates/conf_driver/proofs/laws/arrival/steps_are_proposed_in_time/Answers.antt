@@ -17,12 +17,11 @@ use Rattle.conf_driver.specs.Next.{next_of, propose_first, situation}
 use Rattle.conf_driver.specs.Proposals.{KeepsQuorum}
 use Rattle.conf_driver.specs.Rows as row
 use Rattle.conf_driver.specs.Rows.{first_of, may_stop, rows_of_path, rows_of_step, rows_of_view, successors, transfer_to_one, wait_for}
-use Rattle.conf_driver.specs.Situation.{has_step, is_less, tolerance}
+use Rattle.conf_driver.specs.Situation.{Situation, has_step, is_less, tolerance}
 use Rattle.conf_driver.specs.View.{ViewState, having, heard_from, lacking, match_of, up_and_caught_up, voter_ids}
 use Rattle.conf_driver.specs.declared.action.Action.TheVariants.{Propose, Start, Stop, Stuck, Wait}
 use Rattle.conf_driver.specs.declared.action.StuckReason.TheVariants.{Reused}
 use Rattle.conf_driver.specs.declared.action.WaitReason.TheVariants.{Behind, Heard, Unheard}
-use Rattle.conf_driver.specs.declared.situation.Situation.{Situation}
 use Rattle.conf_driver.proofs.Counted.{IsCounted, quorum-of_more}
 use Rattle.conf_driver.proofs.Counting.{is_quorum-not_down}
 use Rattle.conf_driver.proofs.FirstStep.{after_first-is}

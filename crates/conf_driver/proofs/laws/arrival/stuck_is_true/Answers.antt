@@ -15,7 +15,7 @@ use Rattle.conf_driver.specs.Rows.{first_of, rows_of_path, rows_of_step}
 use Rattle.conf_driver.specs.View.{ViewState, voter_ids}
 use Rattle.conf_driver.specs.declared.action.Action.TheVariants.{Stuck}
 use Rattle.conf_driver.specs.declared.action.StuckReason.TheVariants.{QuorumLost, Stalls, Reused}
-use Rattle.conf_driver.specs.declared.situation.Situation.{Situation}
+use Rattle.conf_driver.specs.Situation.{Situation}
 use Rattle.conf_driver.proofs.Counted.{IsCounted}
 use Rattle.conf_driver.proofs.Counting.{is_quorum-not_down}
 use Rattle.conf_driver.proofs.IdsByMember.{in-common, in-without}
