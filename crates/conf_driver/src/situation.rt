@@ -60,11 +60,10 @@ pub(crate) fn situation_of<'a>(
         ≡ situation_of target.now down.now view.now path.now stalls) }
 {
     let before = &view.conf_state;
-    let after = after_first(before, path)?;
-    let members = members_of(before, &after)?;
-    let lacking = lacking_members(&members.0, &members.1, down, view)?;
+    let step = around_step(before, path)?;
+    let lacking = lacking_members(&step.1, &step.2, down, view)?;
     let seen = seen(alloc, down, view)?;
-    let (voters, members, voters_after) = members;
+    let (after, voters, members, voters_after) = step;
     let (lack_pending, lack_configuration) = lacking;
     let (heard, up) = seen;
     Ok(Situation {
@@ -88,17 +87,20 @@ pub(crate) fn situation_of<'a>(
     })
 }
 
-// The voters and the members before the step, and the voters after it.
-fn members_of(
+// The configuration after the first step, the voters and the members before it, and the voters after it.
+fn around_step(
     now: &Config<InlineIds>,
-    after: &Config<InlineIds>,
-) -> Result<(InlineIds, InlineIds, InlineIds), NoMemory>
-    ensures { IfOk result (λ all. all
-        ≡ (view_spec.voter_ids now.now, member_ids now.now, view_spec.voter_ids after.now)) }
+    path: &Path,
+) -> Result<(Config<InlineIds>, InlineIds, InlineIds, InlineIds), NoMemory>
+    ensures { let after = spec.after_first now.now path.now in
+        IfOk result (λ step. step ≡
+        (after, view_spec.voter_ids now.now, member_ids now.now, view_spec.voter_ids after)) }
 {
+    let after = after_first(now, path)?;
     let voters = voter_ids(now)?;
     let members = now.members()?;
-    Ok((voters, members, voter_ids(after)?))
+    let voters_after = voter_ids(&after)?;
+    Ok((after, voters, members, voters_after))
 }
 
 // Who is heard from, and who is up and has caught up.

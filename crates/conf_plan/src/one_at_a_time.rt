@@ -22,7 +22,7 @@
 //! simple v9                           9 joins, which is a learner already
 //! simple l4, simple v4                4 joins
 //! ```
-ghost use Rattle.std.specs.Prelude.{◌≡◌, not, [], ◌++◌, ◌&&◌, flat_map, IfOk, OnOk, if◌then◌else◌};
+ghost use Rattle.std.specs.Prelude.{◌≡◌, ℕ, Bool, not, [], ◌++◌, ◌&&◌, flat_map, IfOk, OnOk, if◌then◌else◌};
 ghost use Rattle.std.specs.List.{cons_option};
 ghost use Rattle.quorum_sets.specs.Ids.{has};
 ghost use Rattle.quorum_sets.specs.Tolerance.{commits_without};
@@ -102,10 +102,6 @@ fn ids_in_order<S: MemberSet>(
 ) -> Result<IdList, NoMemory>
     ensures { IfOk result (λ ids. ids.items ≡ order (S.ids down.now) start.now target.now) }
 {
-    let mut joins = SmallVec::new(alloc);
-    add_joining(&mut joins, start, target, down, false)?;
-    let mut retires = SmallVec::new(alloc);
-    add_retiring(&mut retires, start, target, down, false)?;
     let mut ids = SmallVec::new(alloc);
     add_retiring(&mut ids, start, target, down, true)?;
     add_filtered(&mut ids, start.learners, |id| {
@@ -113,7 +109,7 @@ fn ids_in_order<S: MemberSet>(
             || target.incoming.contains(id)
             || target.learners.contains(id))
     })?;
-    add_in_turn(&mut ids, joins.as_slice(), retires.as_slice())?;
+    add_moves_of_up(alloc, &mut ids, start, target, down)?;
     add_joining(&mut ids, start, target, down, true)?;
     add_filtered(&mut ids, &target.learners, |id| {
         !(start.incoming.contains(id)
@@ -121,6 +117,25 @@ fn ids_in_order<S: MemberSet>(
             || start.learners.contains(id))
     })?;
     Ok(ids)
+}
+
+// Appends the ids that are not down and have to become incoming voters, and those that have to stop being ones, in turn.
+fn add_moves_of_up<S: MemberSet>(
+    alloc: Global,
+    list: &mut IdList,
+    start: &NotJoint<S>,
+    target: &Config<S>,
+    down: &S,
+) -> Result<(), NoMemory>
+    ensures { let up : ℕ → Bool = λ id. not (has (S.ids down.now) id) in
+        OnOk result (list.new.items ≡ list.old.items
+        ++ in_turn (joining up start.now target.now) (retiring up start.now target.now)) }
+{
+    let mut joins = SmallVec::new(alloc);
+    add_joining(&mut joins, start, target, down, false)?;
+    let mut retires = SmallVec::new(alloc);
+    add_retiring(&mut retires, start, target, down, false)?;
+    add_in_turn(list, joins.as_slice(), retires.as_slice())
 }
 
 // Appends the ids that have to become incoming voters, of those that are down or of the others: the learners among

@@ -111,9 +111,13 @@ unless_refused (Some why) action = Err (NoAnswer why)
 abbrev pub action_for : Question → Result Action LineFault
 action_for q = unless_refused (no_answer q.strategy q.target q.view) (next_of q.strategy q.target q.down q.view)
 
+-- the object that answers a question, or why there is no answer
+abbrev pub answer_of : Question → Result Data LineFault
+answer_of q = given (action_for q) (λ action. Ok (action_json q action))
+
 -- the object that answers a line, or why it is refused
 abbrev pub answer_to : List ℕ → Result Data LineFault
-answer_to line = given (asked_in line) (λ q. given (action_for q) (λ action. Ok (action_json q action)))
+answer_to line = given (asked_in line) answer_of
 
 -- the object that says why a line is refused
 abbrev pub error_json : LineFault → Data

@@ -1,6 +1,8 @@
 -- What a line asks: what to do next on the way to a target, by a strategy, in a view of a cluster.
 use Rattle.std.specs.Prelude.{ℕ, List, codes, Option, Some, None, Result, Ok, Err}
+use Rattle.quorum_sets.specs.Ids.{Ids}
 use Rattle.conf_driver.specs.View.{ViewState}
+use Rattle.conf_plan.specs.declared.strategy.Strategy.{Strategy}
 use Rattle.serde_json.specs.Data.{Data, null, boolean, number, string, array, object}
 use Rattle.serde_json.specs.Find.{get}
 use Rattle.raft_json.specs.JsonText.{json_in}
@@ -34,14 +36,17 @@ view_in line =
       max_lag = max_lag;
     }))))))))))
 
+-- by which strategy, and while which ids are down
+abbrev pub request_in : Data → Result (Strategy × Ids) LineFault
+request_in line = given (strategy_at line) (λ strategy. given (ids_at key.Down line) (λ down. Ok (strategy, down)))
+
 -- the question that an object asks; its other keys are ignored
 abbrev pub question_in : Data → Result Question LineFault
 question_in line =
     given (view_in line) (λ view.
     given (configuration_at key.Target line) (λ target.
-    given (strategy_at line) (λ strategy.
-    given (ids_at key.Down line) (λ down.
-    Ok (record { view = view; target = target; strategy = strategy; down = down })))))
+    given (request_in line) (λ request.
+    Ok (record { view = view; target = target; strategy = request.0; down = request.1 }))))
 
 -- the question that a value asks
 abbrev pub question_of : Option Data → Result Question LineFault

@@ -58,8 +58,19 @@ fn answer_to(alloc: Global, line: &[u8]) -> Result<Value, LineFault>
     ensures no_float { IfOk result (λ v. has_float (view v) ≡ false) }
 {
     let question = read_question(alloc, line)?;
-    let action = action_for(alloc, &question)?;
-    Ok(action_value(alloc, &question, &action)?)
+    answer_of(alloc, &question)
+}
+
+// The object that answers a question, or why there is no answer.
+fn answer_of(alloc: Global, question: &Question) -> Result<Value, LineFault>
+    requires valid_now { is_valid question.now.view.conf_state ≡ true }
+    requires valid_target { is_valid question.now.target ≡ true }
+    ensures value { IfOk result (λ v. spec.answer_of question.now ≡ Ok (view v)) }
+    ensures fault { IfErr result (IsFaultOf (spec.answer_of question.now)) }
+    ensures no_float { IfOk result (λ v. has_float (view v) ≡ false) }
+{
+    let action = action_for(alloc, question)?;
+    Ok(action_value(alloc, question, &action)?)
 }
 
 // What to do next.

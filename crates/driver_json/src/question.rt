@@ -2,7 +2,7 @@
 ghost use Rattle.std.specs.Prelude.{◌≡◌, true, Ok, IfOk, IfErr};
 ghost use Rattle.conf_change.specs.Configuration.{is_valid};
 ghost use Rattle.serde_json.specs.View.{view};
-ghost use Rattle.driver_json.specs.Question.{asked_in, question_in, view_in};
+ghost use Rattle.driver_json.specs.Question.{asked_in, question_in, request_in, view_in};
 ghost use Rattle.driver_json.specs.Values.{IsFaultOf};
 
 use crate::line_fault::LineFault;
@@ -50,12 +50,23 @@ fn question_in(alloc: Global, line: &Value) -> Result<Question, LineFault>
     ensures valid_target { IfOk result (λ question. is_valid question.target ≡ true) }
     ensures fault { IfErr result (IsFaultOf (question_in (view line.now))) }
 {
+    let view = view_in(alloc, line)?;
+    let target = configuration_at(alloc, line, Key::Target)?;
+    let (strategy, down) = request_in(alloc, line)?;
     Ok(Question {
-        view: view_in(alloc, line)?,
-        target: configuration_at(alloc, line, Key::Target)?,
-        strategy: strategy_at(line)?,
-        down: ids_at(alloc, line, Key::Down)?,
+        view,
+        target,
+        strategy,
+        down,
     })
+}
+
+// By which strategy, and while which ids are down.
+fn request_in(alloc: Global, line: &Value) -> Result<(Strategy, InlineIds), LineFault>
+    ensures request { IfOk result (λ request. request_in (view line.now) ≡ Ok request) }
+    ensures fault { IfErr result (IsFaultOf (request_in (view line.now))) }
+{
+    Ok((strategy_at(line)?, ids_at(alloc, line, Key::Down)?))
 }
 
 // The view that an object has.

@@ -11,11 +11,12 @@ pub returns : goal.returns
 returns c =
     let view = c.args.view.now in
     let before = ap (λ (v : ViewState). v.conf_state) c.view.view_is in
-    let after = c.in_ok-after.ensures ∙ ap (λ (now : Configuration). after_first now c.args.path.now) before in
-    let sets = c.in_ok-members.ensures in
-    let voters = ap (λ (t : Ids × Ids × Ids). t.0) sets ∙ ap voter_ids before in
-    let members = ap (λ (t : Ids × Ids × Ids). t.1) sets ∙ ap member_ids before in
-    let voters_after = ap (λ (t : Ids × Ids × Ids). t.2) sets ∙ ap voter_ids after in
+    let after_is = ap (λ (now : Configuration). after_first now c.args.path.now) before in
+    let step = c.in_ok-step.ensures in
+    let after = ap (λ (t : Configuration × Ids × Ids × Ids). t.0) step ∙ after_is in
+    let voters = ap (λ (t : Configuration × Ids × Ids × Ids). t.1) step ∙ ap voter_ids before in
+    let members = ap (λ (t : Configuration × Ids × Ids × Ids). t.2) step ∙ ap member_ids before in
+    let voters_after = ap (λ (t : Configuration × Ids × Ids × Ids). t.3) step ∙ ap voter_ids after_is in
     let running = ap (λ (v : ViewState). v.running) c.view.view_is in
     let retired = ap (λ (v : ViewState). v.retired) c.view.view_is in
     let lack_pending = ap (λ (t : Ids × Ids). t.0) c.in_ok-lacking.ensures ∙ ap (λ ids. lacking view view.pending_conf_index (ids ∖ c.args.down.now)) voters in

@@ -17,8 +17,6 @@ returns g c =
     let is_up : ℕ → Bool = λ id. not (is_down id) in
     let leaves : ℕ → Bool = λ id. not (votes id || will_vote id || will_learn id) in
     let comes : ℕ → Bool = λ id. not (votes id || will_vote id || learns id) in
-    let joins = c.as_slice.ensures ∙ c.in_ok-add_joining.ensures ∙ ap (λ ids. ids ++ joining is_up start target) c.new-joins.ensures.items in
-    let retires = c.as_slice-2.ensures ∙ c.in_ok-add_retiring.ensures ∙ ap (λ ids. ids ++ retiring is_up start target) c.new-retires.ensures.items in
     let first = retiring is_down start target in
     let leaving = leaving_learners start target in
     let turns = in_turn (joining is_up start target) (retiring is_up start target) in
@@ -26,10 +24,10 @@ returns g c =
     let new = new_learners start target in
     let leaves_is = sym (ascending-where leaves (own c.start.inside.learners.now)) ∙ (λ i. leaving_learners (c.start.view_is i) (c.target.view_is i)) in
     let comes_is = sym (ascending-where comes (own c.target.inside.learners)) ∙ (λ i. new_learners (c.start.view_is i) (c.target.view_is i)) in
-    let with_first = c.in_ok-add_retiring-2.ensures ∙ ap (λ ids. ids ++ first) c.new-ids.ensures.items in
+    let with_first = c.in_ok-add_retiring.ensures ∙ ap (λ ids. ids ++ first) c.new-ids.ensures.items in
     let with_leaving = c.in_ok-add_filtered.ensures leaves (λ id answer given. search rules) ∙ (λ i. with_first i ++ leaves_is i) in
-    let with_turns = c.in_ok-add_in_turn.ensures ∙ (λ i. with_leaving i ++ in_turn (joins i) (retires i)) in
-    let with_last = c.in_ok-add_joining-2.ensures ∙ ap (λ ids. ids ++ last) with_turns in
+    let with_turns = c.in_ok-add_moves_of_up.ensures ∙ ap (λ ids. ids ++ turns) with_leaving in
+    let with_last = c.in_ok-add_joining.ensures ∙ ap (λ ids. ids ++ last) with_turns in
     c.in_ok-add_filtered-2.ensures comes (λ id answer given. search rules)
     ∙ (λ i. with_last i ++ comes_is i)
     ∙ append_assoc ((first ++ leaving) ++ turns) last new ∙ append_assoc (first ++ leaving) turns (last ++ new) ∙ append_assoc first leaving (turns ++ (last ++ new))
