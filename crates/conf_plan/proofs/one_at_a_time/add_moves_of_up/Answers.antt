@@ -1,6 +1,6 @@
 use Rattle.std.proofs.Common.{ℕ, Bool, not, ◌++◌, ap, ◌∙◌}
 use Rattle.quorum_sets.specs.Ids.{has}
-use Rattle.conf_plan.specs.OneAtATime.{joining, retiring, in_turn}
+use Rattle.conf_plan.specs.OneAtATime.{joining, retiring}
 use Rattle.conf_plan.proofs.one_at_a_time.add_moves_of_up.Goals as goal
 
 pub returns : goal.returns
@@ -10,4 +10,4 @@ returns g c =
     let is_up : ℕ → Bool = λ id. not (has (g.S.MemberSet.ids c.args.down.now) id) in
     let joins = c.as_slice.ensures ∙ c.in_ok-add_joining.ensures ∙ ap (λ ids. ids ++ joining is_up start target) c.new-joins.ensures.items in
     let retires = c.as_slice-2.ensures ∙ c.in_ok-add_retiring.ensures ∙ ap (λ ids. ids ++ retiring is_up start target) c.new-retires.ensures.items in
-    c.in_ok-add_in_turn.ensures ∙ (λ i. c.args.list.old.items ++ in_turn (joins i) (retires i))
+    rw (joins, retires) at c.add_in_turn.ensures
