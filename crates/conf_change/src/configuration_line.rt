@@ -9,7 +9,7 @@ ghost use Rattle.conf_change.specs.Violation.{first_repeat, repeat_in, valid_of,
 
 use crate::conf_state_line::read_conf_state;
 use crate::config::Config;
-use crate::restore::{RestoreFault, described_lists};
+use crate::restore::{RestoreFault, fill_sets};
 use crate::saved_configuration::{ConfState, ConfStateFault, SavedLists};
 use crate::violation::{Violation, first_violation};
 use quorum_sets::{MemberSet, NoMemory, TreeIds};
@@ -98,11 +98,12 @@ pub fn valid_lists<S: MemberSet>(
     ensures fault { IfErr result
         (λ fault. (fault ≡ ConfigurationFault.NoMemory) ⊎ (valid_of lists.now ≡ Err fault)) }
 {
-    let config = match described_lists(alloc, lists) {
-        Ok(config) => config,
+    let mut config = Config::empty(alloc);
+    match fill_sets(alloc, &mut config, lists) {
+        Ok(()) => {}
         Err(RestoreFault::NotAConfiguration) => return Err(listed_twice(alloc, lists)),
         Err(RestoreFault::NoMemory) => return Err(ConfigurationFault::NoMemory),
-    };
+    }
     match first_violation(&config) {
         None => Ok(config),
         Some(violation) => Err(ConfigurationFault::NotAConfiguration(violation)),

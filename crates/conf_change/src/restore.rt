@@ -9,11 +9,11 @@
 //! ```
 //!
 //! A ConfState has no progress, so each member begins anew, at the last index.
-ghost use Rattle.std.specs.Prelude.{◌≡◌, Some, None, Err, true, false, map, IfOk, MatchResult};
+ghost use Rattle.std.specs.Prelude.{◌≡◌, Some, None, Err, true, false, map, IfOk, OnOk, MatchResult};
 ghost use Rattle.std.specs.FinMap as finite;
 ghost use Rattle.quorum_sets.specs.AscendingLists.{IsAscending};
-ghost use Rattle.quorum_sets.specs.Ids.{has, ascending};
-ghost use Rattle.conf_change.specs.Configuration.{Configuration, has_voter_or_is_empty, is_restorable};
+ghost use Rattle.quorum_sets.specs.Ids.{no_ids, has, ascending};
+ghost use Rattle.conf_change.specs.Configuration.{Configuration, empty_configuration, has_voter_or_is_empty, is_restorable};
 ghost use Rattle.conf_change.specs.ConfState.{Describes, Lists, names_once, restored};
 ghost use Rattle.conf_change.specs.Described.{described};
 ghost use Rattle.conf_change.specs.Progress.{fresh_progress, all_fresh};
@@ -128,23 +128,45 @@ pub fn described_lists<S: MemberSet>(
     ensures value { IfOk result (λ config. described lists.now ≡ Some config) }
     ensures fault { result ≡ Err RestoreFault.NotAConfiguration → described lists.now ≡ None }
 {
-    Ok(Config {
-        incoming: set_from(alloc, lists.voters)?,
-        outgoing: set_from(alloc, lists.voters_outgoing)?,
-        learners: set_from(alloc, lists.learners)?,
-        learners_next: set_from(alloc, lists.learners_next)?,
-        auto_leave: lists.auto_leave,
-    })
+    let mut config = Config::empty(alloc);
+    fill_sets(alloc, &mut config, lists)?;
+    Ok(config)
 }
 
-// The set of the ids of a list. Refused if the list names an id twice, since the set is then smaller than the list.
-fn set_from<S: MemberSet>(alloc: Global, list: &[u64]) -> Result<S, RestoreFault>
-    ensures once { IfOk result (λ set. Lists list.now (S.ids set)) }
+// Makes the configuration that these lists describe of an empty one, in its place.
+pub(crate) fn fill_sets<S: MemberSet>(
+    alloc: Global,
+    config: &mut Config<S>,
+    lists: &SavedLists<'_>,
+) -> Result<(), RestoreFault>
+    requires empty { config.old ≡ empty_configuration }
+    ensures described { OnOk result (Describes lists.now config.new) }
+    ensures refused { result ≡ Err RestoreFault.NotAConfiguration → (c : Configuration)
+        → Describes lists.now c → ⊥ }
+    ensures value { OnOk result (described lists.now ≡ Some config.new) }
+    ensures fault { result ≡ Err RestoreFault.NotAConfiguration → described lists.now ≡ None }
+{
+    fill(alloc, &mut config.incoming, lists.voters)?;
+    fill(alloc, &mut config.outgoing, lists.voters_outgoing)?;
+    fill(alloc, &mut config.learners, lists.learners)?;
+    fill(alloc, &mut config.learners_next, lists.learners_next)?;
+    config.auto_leave = lists.auto_leave;
+    Ok(())
+}
+
+// Fills an empty set with the ids of a list. Refused if the list names an id twice, since the set is then smaller than
+// the list.
+fn fill<S: MemberSet>(alloc: Global, set: &mut S, list: &[u64]) -> Result<(), RestoreFault>
+    requires empty { S.ids set.old ≡ no_ids }
+    ensures once { OnOk result (Lists list.now (S.ids set.new)) }
     ensures twice { result ≡ Err RestoreFault.NotAConfiguration → names_once list.now ≡ false }
 {
-    let set = S::of_list(alloc, list)?;
+    if list.is_empty() {
+        return Ok(());
+    }
+    *set = S::of_list(alloc, list)?;
     if set.len() == list.len() {
-        Ok(set)
+        Ok(())
     } else {
         Err(RestoreFault::NotAConfiguration)
     }

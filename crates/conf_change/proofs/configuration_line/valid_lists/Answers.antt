@@ -5,8 +5,8 @@ use Rattle.conf_change.proofs.configuration_line.valid_lists.Goals as goal
 
 pub returns-in-None-clause-configuration : goal.returns-in-None-clause-configuration
 returns-in-None-clause-configuration g c =
-    valid_of-described c.args.lists.now c.in-Ok.config c.in-Ok.ensures.value ∙ ap (unless_violated c.in-Ok.config) (sym c.in-None.ensures.value)
+    valid_of-described c.args.lists.now _ c.in-Ok.ensures.value ∙ ap (unless_violated _) (sym c.in-None.ensures.value)
 
 pub returns-in-Some-clause-fault : goal.returns-in-Some-clause-fault
 returns-in-Some-clause-fault g c =
-    inr (valid_of-described c.args.lists.now c.in-Ok.config c.in-Ok.ensures.value ∙ ap (unless_violated c.in-Ok.config) (sym c.in-Some.ensures.value))
+    inr (valid_of-described c.args.lists.now _ c.in-Ok.ensures.value ∙ ap (unless_violated _) (sym c.in-Some.ensures.value))
