@@ -27,11 +27,6 @@ use Rattle.conf_tool.specs.declared.tool_fault.ToolFault.{ToolFault}
 use Rattle.conf_tool.specs.declared.tool_fault.ToolFault.TheVariants.{Script as ScriptFault, Configurations, NoMemory}
 use Rattle.conf_tool.proofs.ModeOutput.FirstParts.{appends-nothing, part-nothing}
 
--- ---- what holds after a call
-pub on-ok : {X : Type 0} (result : Result X ToolFault) (A B C D P : Type 0) → OnOk result A → OnOk result B → OnOk result C → OnOk result D → (A → B → C → D → P) → OnOk result P
-on-ok (Ok x) A B C D P a b c d gives = gives a b c d
-on-ok (Err fault) A B C D P a b c d gives = tt
-
 -- ---- statuses
 worse_of-twice : (a b c : Status) (outcome : Result Status ToolFault) → ◌≡◌ {A = Result Status ToolFault} (Ok c) (worse_of a (Ok b)) → worse_of a (worse_of b outcome) ≡ worse_of c outcome
 worse_of-twice a b c (Err fault) e = refl

@@ -62,46 +62,6 @@ pub(super) struct Planning {
     status: Status,
 }
 
-impl Planning {
-    /// Appends the reply to a pair, and begins the next one.
-    fn answer_pair(
-        &mut self,
-        current: &Current,
-        target: &Config<SessionIds>,
-        text: &mut Vec<u8>,
-    ) -> Result<(), ToolFault>
-        requires few { self.old.pair < 2 ^ 63 }
-        requires valid_now { is_valid current.now.config ≡ true }
-        requires valid_target { is_valid target.now ≡ true }
-        ensures next { OnOk result ((self.new.options ≡ self.old.options)
-            × (self.new.lines ≡ self.old.lines)
-            × (self.new.pair ≡ self.old.pair + 1) × (self.new.now ≡ self.old.now)) }
-        ensures session { OnOk result (self.new.session
-            ≡ session_between self.old.options self.old.session
-            (pair_between current.now target.now)) }
-        ensures status { OnOk result
-            (Ok self.new.status ≡ worse_of self.old.status
-            (Ok (plan_status self.old.options (pair_between current.now target.now)))) }
-        ensures text { OnOk result (text.new.items
-            ≡ text.old.items ++ pair_text self.old.options self.old.session self.old.pair
-            (pair_between current.now target.now)) }
-        ensures memory { IsOkUnless result OutOfMemory }
-    {
-        let status = pair_answer(
-            self.alloc,
-            text,
-            &self.options,
-            &mut self.session,
-            self.pair,
-            current,
-            target,
-        )?;
-        self.pair += 1;
-        self.status = worse(self.status, status);
-        Ok(())
-    }
-}
-
 // The worse of two statuses: a run is `Different` if one of its pairs is.
 fn worse(former: Status, latter: Status) -> Status
     ensures { Ok result ≡ worse_of former (Ok latter) }
@@ -189,18 +149,25 @@ impl Handler<Line> for Planning {
             return Ok(());
         }
         let origin = Origin::Line(self.lines);
-        match self.now.take() {
-            None => {
-                let written = line.as_slice();
-                self.now = Some(current_of(self.alloc, &self.options, origin, written)?);
-                Ok(())
-            }
-            Some(current) => {
-                let written = line.as_slice();
-                let target = target_of(self.alloc, &self.options, &current, origin, written)?;
-                self.answer_pair(&current, &target, text)
-            }
-        }
+        let written = line.as_slice();
+        let Some(current) = &self.now else {
+            self.now = Some(current_of(self.alloc, &self.options, origin, written)?);
+            return Ok(());
+        };
+        let target = target_of(self.alloc, &self.options, current, origin, written)?;
+        let status = pair_answer(
+            self.alloc,
+            text,
+            &self.options,
+            &mut self.session,
+            self.pair,
+            current,
+            &target,
+        )?;
+        self.pair += 1;
+        self.status = worse(self.status, status);
+        self.now = None;
+        Ok(())
     }
 
     // Nothing is printed at the end. An input without a pair, and one that ends before the target of a pair, is an
