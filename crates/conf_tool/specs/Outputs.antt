@@ -4,7 +4,7 @@ use Rattle.ascii_text.specs.Lines.{newline}
 use Rattle.std.specs.List.{list_any}
 use Rattle.dd_file.specs.Grammar.{Script, script_of, listing_of}
 use Rattle.dd_file.specs.Rewritten.{Entry, rewritten_text}
-use Rattle.dd_file.specs.declared.item.Item.{Item}
+use Rattle.dd_file.specs.Items.{Item}
 use Rattle.dd_file.specs.declared.fault.FileFault.{FileFault}
 use Rattle.conf_change.specs.Configuration.{Configuration, empty_configuration}
 use Rattle.conf_tool.specs.LineReply.{line_replies}

@@ -3,7 +3,7 @@ use Rattle.std.specs.Prelude.{ℕ, List, [], ◌∷◌, ◌++◌, Option, Some, 
 use Rattle.dd_file.specs.Rewritten.{rewritten_text}
 use Rattle.dd_file.specs.Script.{directive}
 use Rattle.dd_file.specs.DirectiveLine.{CommandText}
-use Rattle.dd_file.specs.declared.item.Item.{Item}
+use Rattle.dd_file.specs.Items.{Item}
 use Rattle.conf_change.specs.Configuration.{Configuration}
 use Rattle.conf_change.specs.ConfState.{lists_of}
 use Rattle.conf_change.specs.ConfStateLine.{conf_state_text}

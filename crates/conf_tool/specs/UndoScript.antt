@@ -5,8 +5,7 @@ use Rattle.std.specs.List.{join_with_byte}
 use Rattle.dd_file.specs.DirectiveText.{DirectiveText}
 use Rattle.dd_file.specs.DirectiveLine.{CommandText, with_key}
 use Rattle.dd_file.specs.Script.{directive}
-use Rattle.dd_file.specs.declared.item.Item.{Item}
-use Rattle.dd_file.specs.declared.item.Item.TheVariants.{Comment}
+use Rattle.dd_file.specs.Items.{Item, Comment}
 use Rattle.conf_change.specs.Changer.{ChangerState, Accepts}
 use Rattle.conf_change.specs.ConfStateLine.{truth_text}
 use Rattle.conf_change.specs.Step.{changes_of}

@@ -1,5 +1,6 @@
 -- An item or a line while its lines are read from buffered bytes.
-use Rattle.std.specs.Prelude.{◌≡◌, ℕ, ◌<◌, ◌≤◌, Bool, true, false, List, [], ◌∷◌, ◌++◌, length, Option, Some, None, Result, Ok, Err}
+use Rattle.std.specs.Prelude.{◌≡◌, ℕ, ◌<◌, ◌≤◌, Bool, true, false, List, [], ◌∷◌, ◌++◌, length, Option, Some, None, option_map, Result, Ok, Err}
+use Rattle.std.specs.Borrow.{Bor}
 use Rattle.ascii_text.specs.Lines.{full_lines, lines_of}
 use Rattle.dd_file.specs.Position.{Position, longest_input}
 use Rattle.dd_file.specs.Script.{FirstItem, NoItem, Ended, Open, first_line_of}
@@ -51,6 +52,17 @@ abbrev pub item_result : {A : Type 0} → (ℕ → A → A) → ℕ → ℕ → 
 item_result numbered first last None = Ok None
 item_result numbered first last (Some (Ok item)) = Ok (Some (numbered first item))
 item_result numbered first last (Some (Err fault)) = Err (fault_between first last fault)
+
+-- the result of a read, by a part that was filled if there was one
+abbrev pub finished : {A : Type 0} → A → Result Bool FileFault → Result (Option A) FileFault
+finished part (Ok true) = Ok (Some part)
+finished part (Ok false) = Ok None
+finished part (Err fault) = Err fault
+
+-- the result of a read that lends its part
+abbrev pub lent : {A : Type 0} → Result (Option (Bor A)) FileFault → Result (Option A) FileFault
+lent (Ok answer) = Ok (option_map (λ part. part.now) answer)
+lent (Err fault) = Err fault
 
 -- The draft has the lines that end in the first bytes, and the scan counts those lines and bytes. How many of the bytes
 -- after them have no newline is noted too.

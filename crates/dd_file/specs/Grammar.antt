@@ -5,7 +5,7 @@ use Rattle.std.specs.List.{concat}
 use Rattle.dd_file.specs.Position.{Position, start, longest_input}
 use Rattle.ascii_text.specs.Lines.{full_lines, line_of, ends_in_newline}
 use Rattle.dd_file.specs.Script.{FirstItem, NoItem, Ended, Open, first_of, first_line_of, at_line}
-use Rattle.dd_file.specs.declared.item.Item.{Item}
+use Rattle.dd_file.specs.Items.{Item}
 use Rattle.dd_file.specs.declared.fault.SyntaxFault.{SyntaxFault}
 use Rattle.dd_file.specs.declared.fault.SyntaxFault.TheVariants.{AfterDouble}
 use Rattle.dd_file.specs.declared.fault.FileFault.{FileFault}

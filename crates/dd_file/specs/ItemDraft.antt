@@ -5,12 +5,12 @@ use Rattle.std.specs.List.{list_any}
 use Rattle.ascii_text.specs.WhiteSpace.{is_blank}
 use Rattle.dd_file.specs.Cut.{cut}
 use Rattle.dd_file.specs.DirectiveLine.{CommandText, no_command, command_of}
-use Rattle.dd_file.specs.Script.{FirstItem, Ended, first_of, is_last_line, is_separator, is_dashes, cut_at_pair, directive, after_pair, in_double, in_single, after_separator, body, at_directive}
+use Rattle.dd_file.specs.Script.{FirstItem, Ended, first_of, is_last_line, is_separator, is_dashes, cut_at_pair, after_pair, in_double, in_single, after_separator, body, at_directive}
 use Rattle.dd_file.specs.Draft.{BegunItem}
+use Rattle.dd_file.specs.DirectiveText.{DirectiveText, directive_text}
 use Rattle.dd_file.specs.declared.draft_state.DraftState.{DraftState}
 use Rattle.dd_file.specs.declared.draft_state.DraftState.TheVariants.{Begin, CommentLine, BlankLines, DirectiveLines, NoCommand, Input, Separator, Single, Double, Dashes, Pair, Complete, AfterPair}
-use Rattle.dd_file.specs.declared.item.Item.{Item}
-use Rattle.dd_file.specs.declared.item.Item.TheVariants.{Comment, Blank}
+use Rattle.dd_file.specs.Items.{Item, Comment, Blank, Directive}
 use Rattle.dd_file.specs.declared.fault.SyntaxFault.{SyntaxFault}
 use Rattle.dd_file.specs.declared.fault.SyntaxFault.TheVariants.{BadDirective, AfterDouble, UnclosedDouble}
 
@@ -54,9 +54,13 @@ is_done state = false
 abbrev pub dashes_line : List ℕ
 dashes_line = codes "----"
 
+-- the directive at line n with these parts
+abbrev pub directive_of : ℕ → DraftParts → DirectiveText
+directive_of n parts = directive_text n parts.command parts.directive_lines parts.input parts.expected
+
 -- the directive of the parts so far
 abbrev pub drafted : DraftParts → Item
-drafted parts = directive 1 parts.command parts.directive_lines parts.input parts.expected
+drafted parts = Directive (directive_of 1 parts)
 
 -- the item of the lines so far if these lines follow, by state
 abbrev pub first_item_in : DraftState → DraftParts → List (List ℕ) → FirstItem Item
@@ -98,7 +102,7 @@ has_pair (line ∷ next ∷ lines) = (is_dashes line && is_dashes next) || has_p
 
 -- the parts so far fit a state: no line in them ends the part that it is in
 abbrev pub FitsIn : DraftState → DraftParts → Type 0
-FitsIn Begin parts = parts ≡ no_parts
+FitsIn Begin parts = (parts.directive_lines ≡ []) × (parts.input ≡ []) × (parts.expected ≡ [])
 FitsIn CommentLine parts = parts.input ≡ []
 FitsIn BlankLines parts = parts.input ≡ []
 FitsIn DirectiveLines parts = (list_any is_last_line parts.directive_lines ≡ false) × (parts.input ≡ []) × (parts.expected ≡ [])

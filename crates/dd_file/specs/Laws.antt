@@ -9,8 +9,7 @@ use Rattle.dd_file.specs.Script.{result_of, lines_left, first_of, at_line, direc
 use Rattle.dd_file.specs.Position.{longest_input}
 use Rattle.dd_file.specs.Grammar.{script_of}
 use Rattle.dd_file.specs.Rewritten.{Entry, entry, rewritten_text, is_output, is_directive, raw_lines_of}
-use Rattle.dd_file.specs.declared.item.Item.{Item}
-use Rattle.dd_file.specs.declared.item.Item.TheVariants.{Comment, Blank, Directive}
+use Rattle.dd_file.specs.Items.{Item, Comment, Blank, Directive}
 use Rattle.dd_file.specs.declared.fault.FileFault.{FileFault}
 use Rattle.dd_file.specs.declared.fault.FileFault.TheVariants.{Syntax, InputTooLong}
 

@@ -1,6 +1,7 @@
 pub mod Cut
 pub mod DirectiveLine
 pub mod DirectiveText
+pub mod Items
 pub mod Script
 pub mod Position
 pub mod Grammar

@@ -4,8 +4,7 @@ use Rattle.std.specs.List.{list_all, list_any, ends_with}
 use Rattle.ascii_text.specs.Lines.{newline, full_lines, lines_of, text_of, without_last}
 use Rattle.ascii_text.specs.WhiteSpace.{is_blank}
 use Rattle.dd_file.specs.Script.{is_dashes}
-use Rattle.dd_file.specs.declared.item.Item.{Item}
-use Rattle.dd_file.specs.declared.item.Item.TheVariants.{Comment, Blank, Directive}
+use Rattle.dd_file.specs.Items.{Item, Comment, Blank, Directive}
 
 -- the raw lines of an item; those of a directive end before its separator
 abbrev pub raw_lines_of : Item → List (List ℕ)

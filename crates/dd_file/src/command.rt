@@ -14,13 +14,10 @@ use smallvec::SmallVec;
 use std::alloc::{AllocError, Global};
 use std::marker::Model;
 
-/// The name of a command.
-pub(crate) type Name = SmallVec<u8, 16>;
-
 /// A command and its arguments: what a directive line parses to.
 #[derive(Drop)]
 pub(crate) struct Command {
-    pub(crate) name: Name,
+    pub(crate) name: SmallVec<u8, 16>,
     pub(crate) arguments: Vec<Argument>,
 }
 
@@ -41,7 +38,7 @@ impl Command {
         ensures { result ≡ no_command }
     {
         Command {
-            name: Name::new(alloc),
+            name: SmallVec::new(alloc),
             arguments: Vec::new(alloc),
         }
     }
@@ -79,7 +76,7 @@ pub(crate) fn parse_command(alloc: Global, text: &[u8]) -> Result<Option<Command
     }
     match parse_arguments(alloc, rest)? {
         Some(arguments) => Ok(Some(Command {
-            name: Name::from_slice(alloc, name)?,
+            name: SmallVec::from_slice(alloc, name)?,
             arguments,
         })),
         None => Ok(None),

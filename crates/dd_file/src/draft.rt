@@ -3,7 +3,7 @@ ghost use Rattle.std.specs.Prelude.{◌≡◌, ℕ, List, false, IfOk, OnOk};
 ghost use Rattle.dd_file.specs.Position.{Position, longest_input};
 ghost use Rattle.dd_file.specs.Script.{FirstItem};
 ghost use Rattle.dd_file.specs.Grammar.{next_of};
-ghost use Rattle.dd_file.specs.Draft.{BegunItem, IsBegun, IsGrammar, IsNew, Adds, item_result};
+ghost use Rattle.dd_file.specs.Draft.{BegunItem, IsBegun, IsGrammar, IsNew, Adds, finished, item_result};
 ghost use Rattle.dd_file.specs.declared.fault.FileFault.{FileFault as ReadFault};
 
 use crate::fault::FileFault;
@@ -14,9 +14,6 @@ use std::alloc::{AllocError, Global};
 pub trait Draft {
     /// What it is once its lines are read.
     type Part: Drop;
-
-    /// What a part that is no longer used leaves to a later one.
-    type Buffers: Drop;
 
     /// The first part of some lines.
     ghost first_item: { List (List ℕ) → FirstItem Self.Part };
@@ -33,26 +30,21 @@ pub trait Draft {
     /// Whether the draft can have a next line.
     ghost Fits: { Self → Type 0 };
 
-    /// Whether there is nothing in the buffers.
-    ghost AreEmpty: { Self.Buffers → Type 0 };
-
     /// A law: the parts are those of a grammar, and a draft that fits is ended or open.
     fn parts_are_of_a_grammar()
         ensures grammar { IsGrammar (next_of first_item numbered longest_input) IsFault }
         ensures begun { (draft : Self) → Fits draft → IsBegun (begun draft) };
 
-    /// Buffers without memory.
-    fn no_buffers(alloc: Global) -> Self::Buffers
-        ensures { AreEmpty result };
+    /// A part without memory, for `finish` to fill.
+    fn no_part(alloc: Global) -> Self::Part;
 
-    /// The buffers of a part, emptied.
-    fn buffers_of(alloc: Global, part: Self::Part) -> Self::Buffers
-        ensures { AreEmpty result };
-
-    /// A draft without lines, in empty buffers.
-    fn new(alloc: Global, buffers: Self::Buffers) -> Self
-        requires { AreEmpty buffers }
+    /// A draft without lines.
+    fn new(alloc: Global) -> Self
         ensures { IsNew first_item begun Fits result };
+
+    /// Drops all lines, and keeps the memory.
+    fn clear(&mut self)
+        ensures { IsNew first_item begun Fits self.new };
 
     /// Adds the next line, and returns whether the part ends with it. If memory runs out, the draft is no longer usable.
     fn add(&mut self, line: &[u8]) -> Result<bool, AllocError>
@@ -62,8 +54,14 @@ pub trait Draft {
         ensures added { OnOk result (Adds (begun self.old) line.now (begun self.new)) }
         ensures done { IfOk result (λ done. done ≡ (begun self.new).is_done) };
 
-    /// The part of the lines so far, if no further line comes; `None` if there are no lines. Its first and its last line
-    /// have these numbers.
-    fn finish(self, first: usize, last: usize) -> Result<Option<Self::Part>, FileFault>
-        ensures { result ≡ item_result numbered first last (begun self).result };
+    /// Makes `part` the part of the lines so far, if no further line comes, and returns whether there are lines. The first
+    /// and the last line of the part have these numbers. The draft takes the buffers that `part` had.
+    fn finish(
+        &mut self,
+        first: usize,
+        last: usize,
+        part: &mut Self::Part,
+    ) -> Result<bool, FileFault>
+        ensures { finished part.new result
+            ≡ item_result numbered first last (begun self.old).result };
 }

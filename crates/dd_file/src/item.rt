@@ -3,14 +3,13 @@
 //! A program needs both: it runs a directive by its command, arguments and input, and writes it again from its raw
 //! lines, so that spaces, continued lines and the order of arguments stay as they were. What does not name datadriven is
 //! own.
-ghost use Rattle.std.specs.Prelude.{◌≡◌, ◌≤◌, [], ◌∷◌, true, length, drop, map, IfOk, option_map, slice_get};
-ghost use Rattle.ascii_text.specs.WhiteSpace.{trimmed};
-ghost use Rattle.ascii_text.specs.Lines.{text_of};
+ghost use Rattle.std.specs.Prelude.{◌≡◌, [], ◌∷◌, true, false, map, IfOk, option_map, slice_get, MatchOption};
 ghost use Rattle.dd_file.specs.Script.{directive};
 ghost use Rattle.dd_file.specs.DirectiveLine.{has_keys, command_of};
 
-use crate::command::{Command, Name, parse_command};
-pub use crate::raw_lines::RawLines;
+use crate::command::{Command, parse_command};
+use crate::item_draft::DraftParts;
+use crate::raw_lines::RawLines;
 pub use crate::values::Values;
 use crate::values::ValuesKind;
 use ascii_text::white_space::trimmed;
@@ -90,69 +89,19 @@ impl Argument {
 #[derive(Drop)]
 pub struct Directive {
     line: usize,
-    command: Name,
-    arguments: Vec<Argument>,
-    /// The directive lines, and then the lines of the input.
-    raw_lines: RawLines,
-    /// How many of the raw lines are directive lines.
-    directive_line_count: usize,
-    expected: RawLines,
+    parts: DraftParts,
 }
 
 impl Model for Directive {
-    ghost use Rattle.std.specs.Prelude.{◌≡◌, ◌≤◌, true, length, drop};
-    ghost use Rattle.ascii_text.specs.Lines.{text_of};
-    ghost use Rattle.ascii_text.specs.WhiteSpace.{trimmed};
     ghost use Rattle.dd_file.specs.DirectiveText.{DirectiveText};
-    ghost use Rattle.dd_file.specs.DirectiveLine.{has_keys};
+    ghost use Rattle.dd_file.specs.ItemDraft.{directive_of};
 
     ghost Value = { DirectiveText };
 
-    ghost view = { λ a. record {
-      line = a.line;
-      command = a.command.items;
-      arguments = a.arguments.items;
-      input = trimmed (text_of (drop a.directive_line_count a.raw_lines));
-      expected = text_of a.expected;
-      raw_lines = a.raw_lines;
-    } };
-
-    ghost invariant = { λ a. (has_keys a.arguments.items ≡ true)
-        × (a.directive_line_count ≤ length a.raw_lines) };
+    ghost view = { λ a. directive_of a.line a.parts };
 }
 
 impl Directive {
-    /// The directive that begins at this line, counted from 1. The first `directive_line_count` raw lines are its
-    /// directive lines, and the others its input.
-    #[inline(always)]
-    pub(crate) fn new(
-        line: usize,
-        command: Command,
-        raw_lines: RawLines,
-        directive_line_count: usize,
-        expected: RawLines,
-    ) -> Directive
-        requires { directive_line_count ≤ length raw_lines }
-        ensures { result ≡ record {
-          line = line;
-          command = command.name;
-          arguments = command.arguments;
-          input = trimmed (text_of (drop directive_line_count raw_lines));
-          expected = text_of expected;
-          raw_lines = raw_lines;
-        } }
-    {
-        let Command { name, arguments } = command;
-        Directive {
-            line,
-            command: name,
-            arguments,
-            raw_lines,
-            directive_line_count,
-            expected,
-        }
-    }
-
     /// The line at which the directive begins, counted from 1 (datadriven's `TestData.Pos`).
     pub fn line(&self) -> usize
         ensures { result ≡ self.now.line }
@@ -164,14 +113,14 @@ impl Directive {
     pub fn command(&self) -> &[u8]
         ensures { result.now ≡ self.now.command }
     {
-        self.command.as_slice()
+        self.parts.command.name.as_slice()
     }
 
     /// The argument at an index, counted from 0; `None` after the last.
     pub fn arg(&self, i: usize) -> Option<&Argument>
         ensures { option_map (λ argument. argument.now) result ≡ slice_get self.now.arguments i }
     {
-        self.arguments.get(i)
+        self.parts.command.arguments.get(i)
     }
 
     /// The arguments, in the order of the directive line (datadriven's `TestData.CmdArgs`).
@@ -179,43 +128,64 @@ impl Directive {
         ensures arguments { result.now ≡ self.now.arguments }
         ensures keys { has_keys self.now.arguments ≡ true }
     {
-        self.arguments.as_slice()
+        self.parts.command.arguments.as_slice()
     }
 
     /// The input: what is between the directive line and the separator, trimmed (datadriven's `TestData.Input`).
     pub fn input(&self) -> &[u8]
         ensures { result.now ≡ self.now.input }
     {
-        trimmed(self.raw_lines.text_after(self.directive_line_count))
+        trimmed(self.parts.input())
     }
 
     /// The expected output: whole lines, or nothing (datadriven's `TestData.Expected`).
     pub fn expected(&self) -> &[u8]
         ensures { result.now ≡ self.now.expected }
     {
-        self.expected.text()
+        self.parts.expected.text()
     }
 }
 
-/// An item of a script. Every line of a script belongs to one of its items (datadriven returns directives alone).
+/// What an item is.
+#[derive(Clone, Copy)]
+pub(crate) enum ItemKind {
+    Comment,
+    Blank,
+    Directive,
+}
+
+/// An item of a script: a comment, one line whose first byte that is not white space is `#`; a blank, a line of white
+/// space only, or continued lines that hold nothing but their backslashes; or a directive, a command with its input and
+/// its expected output. Every line of a script belongs to one of its items (datadriven returns directives alone).
 #[derive(Drop)]
-pub enum Item {
-    /// One line, whose first byte that is not white space is `#`.
-    Comment(RawLines),
-    /// A line of white space only, or continued lines that hold nothing but their backslashes.
-    Blank(RawLines),
-    /// A command with its input and its expected output.
-    Directive(Directive),
+pub struct Item {
+    kind: ItemKind,
+    /// The directive. A comment or a blank has its raw lines in one too.
+    directive: Directive,
+}
+
+impl Model for Item {
+    ghost use Rattle.dd_file.specs.Items.{Item as ItemText, item_of};
+
+    ghost Value = { ItemText };
+
+    ghost view = { λ a. item_of a.kind a.directive };
 }
 
 impl Item {
+    ghost use Rattle.dd_file.specs.Items.{Comment, Directive as OfDirective, item_of};
+    ghost use Rattle.dd_file.specs.ItemDraft.{directive_of};
     ghost use Rattle.dd_file.specs.Rewritten.{raw_lines_of, kept_text, is_directive};
 
     /// A comment of one line, which should begin with `#`: this is not checked. It fails only if memory runs out.
     pub fn comment(alloc: Global, line: Vec<u8>) -> Result<Item, AllocError>
-        ensures { IfOk result (λ item. item ≡ Item.Comment (line.items ∷ [])) }
+        ensures { IfOk result (λ item. item ≡ Comment (line.items ∷ [])) }
     {
-        Ok(Item::Comment(RawLines::of_line(alloc, line)?))
+        let parts = DraftParts::of_lines(alloc, line, Command::none(alloc), &[])?;
+        Ok(Item {
+            kind: ItemKind::Comment,
+            directive: Directive { line: 1, parts },
+        })
     }
 
     /// A directive that a program makes itself, at line 1: a directive line, lines of input, and no expected output.
@@ -233,10 +203,48 @@ impl Item {
         let Some(command) = parse_command(alloc, line.as_slice())? else {
             return Ok(None);
         };
-        let mut lines = RawLines::of_line(alloc, line)?;
-        lines.push_all(input)?;
-        let expected = RawLines::new(alloc);
-        Ok(Some(Item::Directive(Directive::new(1, command, lines, 1, expected))))
+        let parts = DraftParts::of_lines(alloc, line, command, input)?;
+        Ok(Some(Item {
+            kind: ItemKind::Directive,
+            directive: Directive { line: 1, parts },
+        }))
+    }
+
+    /// A blank without lines.
+    pub(crate) fn empty(alloc: Global) -> Item {
+        Item {
+            kind: ItemKind::Blank,
+            directive: Directive {
+                line: 1,
+                parts: DraftParts::new(alloc),
+            },
+        }
+    }
+
+    /// Becomes the item of a draft's parts that begins at this line. The draft gets the memory of the item before.
+    #[inline(always)]
+    pub(crate) fn fill(&mut self, kind: ItemKind, line: usize, parts: &mut DraftParts)
+        ensures { self.new ≡ item_of kind (directive_of line parts.old) }
+    {
+        self.kind = kind;
+        match kind {
+            ItemKind::Comment | ItemKind::Blank => self.directive.parts.swap_raw_lines(parts),
+            ItemKind::Directive => {
+                self.directive.line = line;
+                self.directive.parts.swap(parts);
+            }
+        }
+    }
+
+    /// The directive, if the item is one.
+    pub fn as_directive(&self) -> Option<&Directive>
+        ensures { MatchOption result (is_directive self.now ≡ false)
+            (λ directive. self.now ≡ OfDirective directive.now) }
+    {
+        match self.kind {
+            ItemKind::Directive => Some(&self.directive),
+            ItemKind::Comment | ItemKind::Blank => None,
+        }
     }
 
     /// The raw line at an index, counted from 0; `None` after the last. The raw lines of a directive end before its
@@ -244,38 +252,26 @@ impl Item {
     pub fn raw_line(&self, i: usize) -> Option<&[u8]>
         ensures { option_map (λ line. line.now) result ≡ slice_get (raw_lines_of self.now) i }
     {
-        match self {
-            Item::Comment(lines) => lines.get(i),
-            Item::Blank(lines) => lines.get(i),
-            Item::Directive(directive) => directive.raw_lines.get(i),
-        }
+        self.raw_lines().get(i)
     }
 
     /// The raw lines as one text, each with a newline.
     pub(crate) fn raw_text(&self) -> &[u8]
         ensures { result.now ≡ kept_text self.now }
     {
-        match self {
-            Item::Comment(lines) => lines.text(),
-            Item::Blank(lines) => lines.text(),
-            Item::Directive(directive) => directive.raw_lines.text(),
-        }
+        self.raw_lines().text()
     }
 
-    /// The buffers of the raw lines and of the expected output.
-    #[inline(always)]
-    pub(crate) fn into_buffers(self, alloc: Global) -> (RawLines, RawLines) {
-        match self {
-            Item::Comment(lines) => (lines, RawLines::new(alloc)),
-            Item::Blank(lines) => (lines, RawLines::new(alloc)),
-            Item::Directive(directive) => (directive.raw_lines, directive.expected),
-        }
+    fn raw_lines(&self) -> &RawLines
+        ensures { result.now ≡ raw_lines_of self.now }
+    {
+        self.directive.parts.raw_lines()
     }
 
     /// Whether the item is a directive, after which an output is written.
     pub(crate) fn is_directive(&self) -> bool
         ensures { result ≡ is_directive self.now }
     {
-        matches!(self, Item::Directive(_))
+        self.as_directive().is_some()
     }
 }

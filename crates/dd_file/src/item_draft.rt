@@ -4,32 +4,34 @@
 //! lines before it have led to ([`DraftState`]): a directive line, input, expected output, or a line that is not
 //! stored, such as a separator. It reports when the item is complete. Lines that come after that belong to the next
 //! item.
-ghost use Rattle.std.specs.Prelude.{◌≡◌, [], ◌∷◌, ◌++◌, false, IfOk, OnOk};
+ghost use Rattle.std.specs.Prelude.{◌≡◌, [], ◌∷◌, ◌++◌, false, map, IfOk, OnOk};
+ghost use Rattle.ascii_text.specs.Lines.{text_of};
 ghost use Rattle.dd_file.specs.ItemDraft.{FitsIn, AddsIn, draft_after_directive_lines, is_done};
 
 use crate::command::{Command, parse_command};
 use crate::draft::Draft;
 use crate::draft_state::DraftState;
 use crate::fault::{FileFault, SyntaxFault};
-use crate::item::{Directive, Item};
+use crate::item::{Item, ItemKind};
 use crate::joined_lines::joined;
 use crate::line_kinds::{is_comment, is_continued, is_dashes, is_separator};
 use crate::raw_lines::RawLines;
 use ascii_text::white_space::{is_blank, trimmed};
 use std::alloc::{AllocError, Global};
 use std::marker::Model;
+use std::mem::swap;
 
 /// The lines of an item so far, by the parts that they belong to.
 #[derive(Drop)]
-struct DraftParts {
+pub(crate) struct DraftParts {
     alloc: Global,
     /// The directive lines, and then the lines of the input.
     raw_lines: RawLines,
     /// How many of the raw lines are directive lines.
     directive_line_count: usize,
     /// The command of the directive lines, once they are complete.
-    command: Command,
-    expected: RawLines,
+    pub(crate) command: Command,
+    pub(crate) expected: RawLines,
 }
 
 impl Model for DraftParts {
@@ -49,6 +51,94 @@ impl Model for DraftParts {
 }
 
 impl DraftParts {
+    ghost use Rattle.dd_file.specs.ItemDraft.{no_parts};
+
+    /// No lines.
+    pub(crate) fn new(alloc: Global) -> DraftParts
+        ensures { result ≡ no_parts }
+    {
+        DraftParts {
+            alloc,
+            raw_lines: RawLines::new(alloc),
+            directive_line_count: 0,
+            command: Command::none(alloc),
+            expected: RawLines::new(alloc),
+        }
+    }
+
+    /// One directive line with the command that it parses to, and lines of input.
+    pub(crate) fn of_lines(
+        alloc: Global,
+        line: Vec<u8>,
+        command: Command,
+        input: &[Vec<u8>],
+    ) -> Result<DraftParts, AllocError>
+        ensures { IfOk result (λ parts. parts ≡ record {
+          directive_lines = line.items ∷ [];
+          input = map (λ line. line.items) input.now;
+          command = command;
+          expected = [];
+        }) }
+    {
+        let mut raw_lines = RawLines::of_line(alloc, line)?;
+        raw_lines.push_all(input)?;
+        Ok(DraftParts {
+            alloc,
+            raw_lines,
+            directive_line_count: 1,
+            command,
+            expected: RawLines::new(alloc),
+        })
+    }
+
+    /// Drops all lines, and keeps the memory.
+    fn clear(&mut self)
+        ensures { FitsIn DraftState.Begin self.new }
+    {
+        self.raw_lines.clear();
+        self.directive_line_count = 0;
+        self.expected.clear();
+    }
+
+    /// Exchanges the raw lines with others.
+    #[inline(always)]
+    pub(crate) fn swap_raw_lines(&mut self, other: &mut DraftParts)
+        ensures { self.new ≡ record self.old {
+          directive_lines = other.old.directive_lines;
+          input = other.old.input;
+        } }
+    {
+        swap(&mut self.raw_lines, &mut other.raw_lines);
+        swap(
+            &mut self.directive_line_count,
+            &mut other.directive_line_count,
+        );
+    }
+
+    /// Exchanges all lines and the command with others.
+    #[inline(always)]
+    pub(crate) fn swap(&mut self, other: &mut DraftParts)
+        ensures { self.new ≡ other.old }
+    {
+        swap(&mut self.command, &mut other.command);
+        swap(&mut self.expected, &mut other.expected);
+        self.swap_raw_lines(other);
+    }
+
+    /// The directive lines, and then the lines of the input.
+    pub(crate) fn raw_lines(&self) -> &RawLines
+        ensures { result.now ≡ self.now.directive_lines ++ self.now.input }
+    {
+        &self.raw_lines
+    }
+
+    /// The lines of the input as one text, each with a newline.
+    pub(crate) fn input(&self) -> &[u8]
+        ensures { result.now ≡ text_of self.now.input }
+    {
+        self.raw_lines.text_after(self.directive_line_count)
+    }
+
     /// Adds a line in this state, and returns the state after it.
     fn next_state(&mut self, state: DraftState, line: &[u8]) -> Result<DraftState, AllocError>
         requires fits { FitsIn state self.old }
@@ -129,7 +219,7 @@ impl DraftParts {
         if self.directive_line_count == 1 {
             return self.end_directive_lines(trimmed(line));
         }
-        let text = joined(self.alloc, &self.raw_lines)?;
+        let text = joined(self.alloc, self.raw_lines())?;
         self.end_directive_lines(text.as_slice())
     }
 
@@ -243,9 +333,6 @@ impl Model for ItemDraft {
 impl Draft for ItemDraft {
     type Part = Item;
 
-    /// Those of the raw lines and of the expected output.
-    type Buffers = (RawLines, RawLines);
-
     ghost use Rattle.dd_file.specs.Script.{first_of, at_line};
     ghost use Rattle.dd_file.specs.Answer.{IsItemFault};
     ghost use Rattle.dd_file.specs.ItemDraft.{FitsIn, begun_item};
@@ -260,35 +347,22 @@ impl Draft for ItemDraft {
 
     ghost Fits = { λ draft. FitsIn draft.state draft.parts };
 
-    ghost AreEmpty = { λ buffers. (buffers.0 ≡ []) × (buffers.1 ≡ []) };
-
     fn parts_are_of_a_grammar() {}
 
-    fn no_buffers(alloc: Global) -> (RawLines, RawLines) {
-        (RawLines::new(alloc), RawLines::new(alloc))
+    fn no_part(alloc: Global) -> Item {
+        Item::empty(alloc)
     }
 
-    #[inline(always)]
-    fn buffers_of(alloc: Global, item: Item) -> (RawLines, RawLines) {
-        let (mut raw_lines, mut expected) = item.into_buffers(alloc);
-        raw_lines.clear();
-        expected.clear();
-        (raw_lines, expected)
-    }
-
-    fn new(alloc: Global, buffers: (RawLines, RawLines)) -> ItemDraft {
-        let (raw_lines, expected) = buffers;
-        let parts = DraftParts {
-            alloc,
-            raw_lines,
-            directive_line_count: 0,
-            command: Command::none(alloc),
-            expected,
-        };
+    fn new(alloc: Global) -> ItemDraft {
         ItemDraft {
-            parts,
+            parts: DraftParts::new(alloc),
             state: DraftState::Begin,
         }
+    }
+
+    fn clear(&mut self) {
+        self.parts.clear();
+        self.state = DraftState::Begin;
     }
 
     fn add(&mut self, line: &[u8]) -> Result<bool, AllocError> {
@@ -299,39 +373,25 @@ impl Draft for ItemDraft {
     // A script may end after the input, the separator or the output of a directive, but not within continued lines or
     // between double separators.
     #[inline(always)]
-    fn finish(self, first: usize, last: usize) -> Result<Option<Item>, FileFault> {
-        let ItemDraft { parts, state } = self;
-        let DraftParts {
-            alloc: _,
-            raw_lines,
-            directive_line_count,
-            command,
-            expected,
-        } = parts;
-        match state {
-            DraftState::Begin => Ok(None),
-            DraftState::CommentLine => Ok(Some(Item::Comment(raw_lines))),
-            DraftState::BlankLines => Ok(Some(Item::Blank(raw_lines))),
+    fn finish(&mut self, first: usize, last: usize, item: &mut Item) -> Result<bool, FileFault> {
+        let kind = match self.state {
+            DraftState::Begin => return Ok(false),
+            DraftState::CommentLine => ItemKind::Comment,
+            DraftState::BlankLines => ItemKind::Blank,
             DraftState::DirectiveLines | DraftState::NoCommand => {
-                Err(SyntaxFault::BadDirective.between(first, last))
+                return Err(SyntaxFault::BadDirective.between(first, last));
             }
             DraftState::Double | DraftState::Dashes => {
-                Err(SyntaxFault::UnclosedDouble.between(first, last))
+                return Err(SyntaxFault::UnclosedDouble.between(first, last));
             }
-            DraftState::AfterPair => Err(SyntaxFault::AfterDouble.between(first, last)),
+            DraftState::AfterPair => return Err(SyntaxFault::AfterDouble.between(first, last)),
             DraftState::Input
             | DraftState::Separator
             | DraftState::Single
             | DraftState::Pair
-            | DraftState::Complete => {
-                Ok(Some(Item::Directive(Directive::new(
-                    first,
-                    command,
-                    raw_lines,
-                    directive_line_count,
-                    expected,
-                ))))
-            }
-        }
+            | DraftState::Complete => ItemKind::Directive,
+        };
+        item.fill(kind, first, &mut self.parts);
+        Ok(true)
     }
 }

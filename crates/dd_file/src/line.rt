@@ -6,6 +6,7 @@ use crate::fault::FileFault;
 use smallvec::SmallVec;
 use std::alloc::{AllocError, Global};
 use std::marker::Model;
+use std::mem::swap;
 
 /// A line without its newline. It need not be UTF-8.
 #[derive(Drop)]
@@ -33,22 +34,20 @@ impl Line {
 /// A line while it is read: an item of one line, which is complete once it is there.
 #[derive(Drop)]
 pub struct LineDraft {
-    alloc: Global,
-    line: Option<Line>,
+    line: Line,
+    has_line: bool,
 }
 
 impl Model for LineDraft {
-    ghost use Rattle.std.specs.Prelude.{List, ℕ, Option};
+    ghost use Rattle.std.specs.Prelude.{List, ℕ, Option, Some, None, if◌then◌else◌};
 
     ghost Value = { Option (List ℕ) };
 
-    ghost view = { λ a. a.line };
+    ghost view = { λ a. if a.has_line then Some a.line else None };
 }
 
 impl Draft for LineDraft {
     type Part = Line;
-
-    type Buffers = ();
 
     ghost use Rattle.std.specs.Prelude.{⊤};
     ghost use Rattle.dd_file.specs.Script.{first_line_of};
@@ -65,33 +64,35 @@ impl Draft for LineDraft {
 
     ghost Fits = { λ draft. ⊤ };
 
-    ghost AreEmpty = { λ buffers. ⊤ };
-
     fn parts_are_of_a_grammar() {}
 
-    fn no_buffers(alloc: Global) {
-        let _ = alloc;
+    fn no_part(alloc: Global) -> Line {
+        Line {
+            bytes: SmallVec::new(alloc),
+        }
     }
 
-    fn buffers_of(alloc: Global, line: Line) {
-        let _ = alloc;
-        drop(line);
+    fn new(alloc: Global) -> LineDraft {
+        LineDraft {
+            line: Self::no_part(alloc),
+            has_line: false,
+        }
     }
 
-    fn new(alloc: Global, buffers: ()) -> LineDraft {
-        let _ = buffers;
-        LineDraft { alloc, line: None }
+    fn clear(&mut self) {
+        self.has_line = false;
     }
 
     fn add(&mut self, line: &[u8]) -> Result<bool, AllocError> {
-        let bytes = SmallVec::from_slice(self.alloc, line)?;
-        self.line = Some(Line { bytes });
+        self.line.bytes.clear();
+        self.line.bytes.extend_from_slice(line)?;
+        self.has_line = true;
         Ok(true)
     }
 
-    fn finish(self, first: usize, last: usize) -> Result<Option<Line>, FileFault> {
+    fn finish(&mut self, first: usize, last: usize, line: &mut Line) -> Result<bool, FileFault> {
         let _ = (first, last);
-        let LineDraft { alloc: _, line } = self;
-        Ok(line)
+        swap(line, &mut self.line);
+        Ok(self.has_line)
     }
 }

@@ -15,7 +15,7 @@ use std::marker::Model;
 
 /// Lines without their newlines, in the order in which they were added.
 #[derive(Drop)]
-pub struct RawLines {
+pub(crate) struct RawLines {
     /// The lines, each with a newline.
     text: Vec<u8>,
     /// The positions of those newlines.
@@ -91,7 +91,7 @@ impl RawLines {
     }
 
     /// The line at an index, counted from 0; `None` after the last.
-    pub fn get(&self, i: usize) -> Option<&[u8]>
+    pub(crate) fn get(&self, i: usize) -> Option<&[u8]>
         ensures { option_map (λ line. line.now) result ≡ slice_get self.now i }
     {
         if i >= self.count() {

@@ -6,7 +6,7 @@ ghost use Rattle.dd_file.specs.Grammar.{next_of};
 ghost use Rattle.dd_file.specs.ReaderState.{IsBounded, fresh};
 ghost use Rattle.dd_file.specs.Buffered.{IsFirstBuffered, within_limit};
 ghost use Rattle.dd_file.specs.Answer.{ReadsOn, FlushesFirst, fault_of};
-ghost use Rattle.dd_file.specs.Draft.{DraftOf, IsNew};
+ghost use Rattle.dd_file.specs.Draft.{DraftOf, finished, lent};
 
 use crate::device::{Nowhere, Sink, Source};
 use crate::draft::Draft;
@@ -15,15 +15,14 @@ use crate::input::Input;
 use crate::scan::{Scan, add_last_line, add_lines};
 use std::alloc::Global;
 use std::marker::Model;
-use std::mem::replace;
 
 /// Reads the parts of an input from a [`Source`]: the items of a script, or lines.
 #[derive(Drop)]
 pub struct Parts<D: Draft> {
-    alloc: Global,
     input: Input,
-    /// The empty buffers of a part that is no longer used.
-    buffers: D::Buffers,
+    draft: D,
+    /// The part that was read last, which is lent.
+    part: D::Part,
 }
 
 impl<D: Draft> Model for Parts<D> {
@@ -33,10 +32,14 @@ impl<D: Draft> Model for Parts<D> {
 
     ghost view = { λ a. a.input };
 
-    ghost invariant = { λ a. IsBounded a.input × D.AreEmpty a.buffers };
+    ghost invariant = { λ a. IsBounded a.input };
 }
 
 impl<D: Draft + Drop> Parts<D> {
+    ghost use Rattle.std.specs.Borrow.{sem};
+    ghost use Rattle.std.specs.Io.BufRead.{Rests};
+    ghost use Rattle.dd_file.specs.contracts.read_ahead.Parts.{the_row};
+
     /// A reader at the beginning of its input. It fails only if memory runs out.
     pub fn new(alloc: Global) -> Result<Parts<D>, FileFault>
         ensures fresh { IfOk result (λ parts. parts ≡ fresh) }
@@ -44,19 +47,20 @@ impl<D: Draft + Drop> Parts<D> {
     {
         let input = Input::new(alloc).map_err(|_| FileFault::NoMemory)?;
         Ok(Parts {
-            alloc,
             input,
-            buffers: D::no_buffers(alloc),
+            draft: D::new(alloc),
+            part: D::no_part(alloc),
         })
     }
 
-    /// The next part; `None` at the end and from then on. The errors are those of a script's syntax, `InputTooLong` for an
-    /// input of 2^30 bytes or more, `Read` if a read failed, and `NoMemory`. An error is permanent: later calls return it
-    /// again, and read nothing.
-    pub fn next<R: Source>(&mut self, reader: &mut R) -> Result<Option<D::Part>, FileFault>
-        ensures { ReadsOn R.remaining R.has_failed (next_of D.first_item D.numbered longest_input)
-            D.IsFault
-            self.old self.new reader.old reader.new result }
+    /// The next part, which is lent until the next call; `None` at the end and from then on. The errors are those of a
+    /// script's syntax, `InputTooLong` for an input of 2^30 bytes or more, `Read` if a read failed, and `NoMemory`. An
+    /// error is permanent: later calls return it again, and read nothing.
+    pub fn next<R: Source>(&mut self, reader: &mut R) -> Result<Option<&D::Part>, FileFault>
+        // Of the state once the part is no longer lent.
+        ensures* reads { sem 𝓛 (Rests (the_row D.row D.Part.row D.Draft) self.entry (λ new.
+            ReadsOn R.remaining R.has_failed (next_of D.first_item D.numbered longest_input)
+            D.IsFault self.old new reader.old reader.new (lent result))) }
     {
         match self.next_after_flush(reader, &mut Nowhere) {
             Ok(answer) => answer,
@@ -70,15 +74,17 @@ impl<D: Draft + Drop> Parts<D> {
         &mut self,
         reader: &mut R,
         writer: &mut W,
-    ) -> Result<Result<Option<D::Part>, FileFault>, WriteFault>
-        ensures reads { IfOk result
-            (ReadsOn R.remaining R.has_failed (next_of D.first_item D.numbered longest_input)
-            D.IsFault self.old self.new reader.old reader.new) }
+    ) -> Result<Result<Option<&D::Part>, FileFault>, WriteFault>
+        // Of the state once the part is no longer lent.
+        ensures* reads { sem 𝓛 (Rests (the_row D.row D.Part.row D.Draft) self.entry (λ new.
+            IfOk result (λ answer. ReadsOn R.remaining R.has_failed
+            (next_of D.first_item D.numbered longest_input) D.IsFault self.old new reader.old
+            reader.new (lent answer)) × OnErr result (new ≡ self.old))) }
         ensures buffered { IsFirstBuffered D.first_item self.old
             → (reader.new ≡ reader.old) × (writer.new ≡ writer.old) }
         ensures flushed { self.old.fault ≡ None
             → FlushesFirst W.IsFlushed reader.old reader.new writer.new result }
-        ensures unread { OnErr result ((self.new ≡ self.old) × (reader.new ≡ reader.old)) }
+        ensures unread { OnErr result (reader.new ≡ reader.old) }
         ensures kept { Keeps (W.contents writer.old) (W.contents writer.new) }
         ensures write { W.has_failed writer.new ≡ (W.has_failed writer.old || is_err result) }
     {
@@ -92,46 +98,38 @@ impl<D: Draft + Drop> Parts<D> {
             D::parts_are_of_a_grammar();
             return Ok(Ok(None));
         }
-        let answer = read(self.draft(), &mut self.input, reader, writer)?;
+        let answer = read(
+            &mut self.draft,
+            &mut self.part,
+            &mut self.input,
+            reader,
+            writer,
+        )?;
         self.input.set_fault(fault_in(&answer));
-        Ok(answer)
-    }
-
-    /// A part without lines, in the buffers that are reused.
-    #[inline(always)]
-    fn draft(&mut self) -> D
-        ensures draft { IsNew D.first_item D.begun D.Fits result }
-        ensures same { self.new ≡ self.old }
-    {
-        let empty = D::no_buffers(self.alloc);
-        D::new(self.alloc, replace(&mut self.buffers, empty))
-    }
-
-    /// Takes back a part that is no longer used, so that a later one can reuse its buffers.
-    #[inline(always)]
-    pub fn reuse(&mut self, part: D::Part)
-        ensures { self.new ≡ self.old }
-    {
-        self.buffers = D::buffers_of(self.alloc, part);
+        Ok(match answer {
+            Ok(true) => Ok(Some(&self.part)),
+            Ok(false) => Ok(None),
+            Err(fault) => Err(fault),
+        })
     }
 }
 
 /// The next part. If it is not buffered, the writer is flushed, and then the rest of the part is read.
 #[inline(always)]
 fn read<D: Draft + Drop, R: Source, W: Sink>(
-    mut draft: D,
+    draft: &mut D,
+    part: &mut D::Part,
     input: &mut Input,
     reader: &mut R,
     writer: &mut W,
-) -> Result<Result<Option<D::Part>, FileFault>, WriteFault>
-    requires none { IsNew D.first_item D.begun D.Fits draft }
+) -> Result<Result<bool, FileFault>, WriteFault>
     requires faultless { input.old.fault ≡ None }
     requires unended { input.old.is_ended ≡ false }
     requires bounded { IsBounded input.old }
     ensures reads { IfOk result (λ answer. ReadsOn R.remaining R.has_failed
         (next_of D.first_item D.numbered longest_input) D.IsFault input.old
-        (record input.new { fault = fault_of answer })
-        reader.old reader.new answer) }
+        (record input.new { fault = fault_of (finished part.new answer) })
+        reader.old reader.new (finished part.new answer)) }
     ensures buffered { IsFirstBuffered D.first_item input.old → (reader.new ≡ reader.old)
         × (writer.new ≡ writer.old) }
     ensures flushed { FlushesFirst W.IsFlushed reader.old reader.new writer.new result }
@@ -142,18 +140,19 @@ fn read<D: Draft + Drop, R: Source, W: Sink>(
     let _ = &*reader;
     let _ = &*writer;
     D::parts_are_of_a_grammar();
+    draft.clear();
     let mut scan = Scan::new();
-    match add_lines(&mut draft, &mut scan, input.within_limit()) {
+    match add_lines(draft, &mut scan, input.within_limit()) {
         Ok(true) => {
             let first = input.count() + 1;
             input.pass(scan.lines, scan.bytes);
-            Ok(draft.finish(first, input.count()))
+            Ok(draft.finish(first, input.count(), part))
         }
         Ok(false) => {
             if writer.flush_all().is_err() {
                 return Err(WriteFault);
             }
-            Ok(read_rest(draft, scan, input, reader))
+            Ok(read_rest(draft, part, scan, input, reader))
         }
         Err(_) => Ok(Err(FileFault::NoMemory)),
     }
@@ -162,19 +161,21 @@ fn read<D: Draft + Drop, R: Source, W: Sink>(
 /// Reads until all lines of the next part are buffered or the input has ended, and returns the part. The draft has the
 /// lines that are buffered. This call may wait for input, so the output is to be flushed before it.
 fn read_rest<D: Draft + Drop, R: Source>(
-    mut draft: D,
+    draft: &mut D,
+    part: &mut D::Part,
     mut scan: Scan,
     input: &mut Input,
     reader: &mut R,
-) -> Result<Option<D::Part>, FileFault>
-    requires so_far { DraftOf D.first_item D.begun D.Fits draft scan (within_limit input.old) }
-    requires open_end { (D.begun draft).is_done ≡ false }
+) -> Result<bool, FileFault>
+    requires so_far { DraftOf D.first_item D.begun D.Fits draft.old scan (within_limit input.old) }
+    requires open_end { (D.begun draft.old).is_done ≡ false }
     requires searched { scan.bytes + scan.searched ≡ length (within_limit input.old) }
     requires faultless { input.old.fault ≡ None }
     requires unended { input.old.is_ended ≡ false }
     ensures { ReadsOn R.remaining R.has_failed (next_of D.first_item D.numbered longest_input)
         D.IsFault input.old
-        (record input.new { fault = fault_of result }) reader.old reader.new result }
+        (record input.new { fault = fault_of (finished part.new result) }) reader.old reader.new
+        (finished part.new result) }
 {
     D::parts_are_of_a_grammar();
     let first = input.count() + 1;
@@ -187,19 +188,19 @@ fn read_rest<D: Draft + Drop, R: Source>(
             Ok(false) => break,
             Err(fault) => return Err(fault),
         }
-        match add_lines(&mut draft, &mut scan, input.within_limit()) {
+        match add_lines(draft, &mut scan, input.within_limit()) {
             Ok(true) => {
                 input.pass(scan.lines, scan.bytes);
-                return draft.finish(first, input.count());
+                return draft.finish(first, input.count(), part);
             }
             Ok(false) => {}
             Err(_) => return Err(FileFault::NoMemory),
         }
     }
-    match add_last_line(&mut draft, scan, input.within_limit()) {
+    match add_last_line(draft, scan, input.within_limit()) {
         Ok(count) => {
             input.end(count);
-            draft.finish(first, input.count())
+            draft.finish(first, input.count(), part)
         }
         Err(_) => Err(FileFault::NoMemory),
     }

@@ -35,7 +35,7 @@ fn is_written(item: &Item, is_double: bool, text: &'static [u8]) -> bool {
     let mut writer = ToWrite::new(Matching::with(text));
     let mut rewriter = Rewriter::new();
     let mut is_kept = rewriter.keep(&mut writer, item).is_ok();
-    if let Item::Directive(_) = item {
+    if item.as_directive().is_some() {
         let actual = if is_double {
             b"a\n\n".as_slice()
         } else {
@@ -47,25 +47,22 @@ fn is_written(item: &Item, is_double: bool, text: &'static [u8]) -> bool {
 }
 
 fn is_item(item: &Item, text: &'static [u8], expected: &[u8]) -> bool {
-    let expects = match item {
-        Item::Directive(directive) => directive.expected() == expected,
-        _ => expected.is_empty(),
+    let expects = match item.as_directive() {
+        Some(directive) => directive.expected() == expected,
+        None => expected.is_empty(),
     };
     expects & is_written(item, false, text)
 }
 
-// Whether a reader gives these items until memory runs out, and whether memory lasts. Each item is given back, so that
-// the next one reuses its memory. Once memory ran out, the reader gives no more.
+// Whether a reader gives these items until memory runs out, and whether memory lasts. Once memory ran out, the reader
+// gives no more.
 fn gives_items(reader: &mut Reader) -> (bool, bool) {
     let mut source = FromRead::new(SCRIPT);
     let mut is_so = true;
     let mut has_memory = true;
     for (text, expected) in &ITEMS {
         match reader.next(&mut source) {
-            Ok(Some(item)) => {
-                is_so &= has_memory & is_item(&item, *text, *expected);
-                reader.reuse(item);
-            }
+            Ok(Some(item)) => is_so &= has_memory & is_item(item, *text, *expected),
             Err(FileFault::NoMemory) => has_memory = false,
             _ => is_so = false,
         }
@@ -167,21 +164,23 @@ fn makes_items(rt: HostRuntime) {
     assert!(rt; is_comment_written(rt.alloc()) & is_directive_written(rt.alloc()));
 }
 
-/// The item that a text begins with.
-pub(crate) fn first_item(alloc: Global, text: &[u8]) -> Result<Option<Item>, FileFault> {
+// Whether a directive with a blank line before its separator is read, and written in both forms.
+fn is_read_and_written(alloc: Global) -> Result<bool, FileFault> {
     let mut reader = Reader::new(alloc)?;
-    reader.next(&mut FromRead::new(text))
+    match reader.next(&mut FromRead::new(b"vote\n\n----\n"))? {
+        Some(item) => Ok(
+            is_written(item, false, b"vote\n\n----\na\n")
+                & is_written(item, true, b"vote\n\n----\n----\na\n\n----\n----\n"),
+        ),
+        None => Ok(false),
+    }
 }
 
-// Whether a directive with a blank line before its separator is written in both forms.
 fn is_written_twice(alloc: Global) -> bool {
-    match twice!(FileFault::NoMemory, first_item(alloc, b"vote\n\n----\n")) {
-        Ok(Some(item)) => {
-            is_written(&item, false, b"vote\n\n----\na\n")
-                & is_written(&item, true, b"vote\n\n----\n----\na\n\n----\n----\n")
-        }
-        _ => false,
-    }
+    matches!(
+        twice!(FileFault::NoMemory, is_read_and_written(alloc)),
+        Ok(true)
+    )
 }
 
 #[test]

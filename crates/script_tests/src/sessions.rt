@@ -1,10 +1,11 @@
 //! What sessions answer to directives, and the plans that undo their changes.
-use crate::files::first_item;
 use conf_change::Floor;
 use conf_plan::{Plan, PlanTextFault, read_plan};
 use conf_session::{Session, UndoFault, undo_fault_text};
+use dd_file::device::FromRead;
 use dd_file::fault::FileFault;
 use dd_file::item::{Directive, Item};
+use dd_file::reader::Reader;
 use quorum_sets::NoMemory;
 use std::alloc::Global;
 use test_support::equal::{has_steps, is_same};
@@ -213,16 +214,40 @@ fn follows(copy: &mut Session, directive: &Directive, expected: &[u8]) -> bool {
     }
 }
 
-fn is_row(alloc: Global, session: &mut Session, copy: &mut Session, row: Row) -> bool {
+// Whether the directive that a text begins with is read, and has this output.
+fn is_read_and_answered(
+    alloc: Global,
+    session: &mut Session,
+    copy: &mut Session,
+    row: Row,
+) -> Result<bool, FileFault> {
     let (text, expected) = row;
-    match twice!(FileFault::NoMemory, first_item(alloc, text)) {
-        Ok(Some(Item::Directive(directive))) => {
-            has_output(session, copy, &directive, expected)
-                & follows(copy, &directive, expected)
+    let mut reader = Reader::new(alloc)?;
+    match reader.next(&mut FromRead::new(text))? {
+        Some(item) => Ok(has_outputs(session, copy, item, expected)),
+        None => Ok(false),
+    }
+}
+
+fn has_outputs(session: &mut Session, copy: &mut Session, item: &Item, expected: &[u8]) -> bool {
+    match item.as_directive() {
+        Some(directive) => {
+            has_output(session, copy, directive, expected)
+                & follows(copy, directive, expected)
                 & is_same_session(session, copy)
         }
-        _ => false,
+        None => false,
     }
+}
+
+fn is_row(alloc: Global, session: &mut Session, copy: &mut Session, row: Row) -> bool {
+    matches!(
+        twice!(
+            FileFault::NoMemory,
+            is_read_and_answered(alloc, session, copy, row)
+        ),
+        Ok(true)
+    )
 }
 
 fn have_outputs(alloc: Global, session: &mut Session, copy: &mut Session, rows: &[Row]) -> bool {

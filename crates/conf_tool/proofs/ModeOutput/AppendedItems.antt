@@ -3,7 +3,7 @@ use Rattle.std.proofs.Common.{◌≡◌, ℕ, ◌+◌, ◌≤◌, List, [], ◌�
 use Rattle.std.specs.Prelude.{Result, Ok, Err, OnOk, Some, slice_get, codes}
 use Rattle.std.proofs.lemmas.List.{append_assoc, append-nil, take_all}
 use Rattle.dd_file.specs.Rewritten.{entry_text}
-use Rattle.dd_file.specs.declared.item.Item.{Item}
+use Rattle.dd_file.specs.Items.{Item}
 use Rattle.conf_change.specs.declared.step.Step.{Step}
 use Rattle.quorum_sets.proofs.Offered.{take-one_more}
 use Rattle.conf_session.specs.SessionState.{SessionState}

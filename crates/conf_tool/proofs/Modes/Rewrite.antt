@@ -5,7 +5,7 @@ use Rattle.std.proofs.lemmas.List.{append-nil, take_all}
 use Rattle.ascii_text.specs.Lines.{without_last}
 use Rattle.dd_file.specs.Grammar.{Script}
 use Rattle.dd_file.specs.Rewritten.{newlines_at_end, pending_newline, rest_of_script, without_double_end}
-use Rattle.dd_file.specs.declared.item.Item.{Item}
+use Rattle.dd_file.specs.Items.{Item}
 use Rattle.dd_file.proofs.Offered.{rest-more}
 use Rattle.conf_change.specs.declared.floor.Floor.{Floor}
 use Rattle.conf_session.specs.SessionState.{SessionState, new_session}

@@ -11,8 +11,7 @@ use Rattle.dd_file.specs.Grammar.{script_of}
 use Rattle.dd_file.specs.Rewritten.{Entry, rewritten_text}
 use Rattle.dd_file.specs.Script.{is_separator}
 use Rattle.dd_file.specs.Laws.{is_line, IsWellFormed, DirectiveIsWellFormed, WrittenScript, item_has_keys, IsComplete, moved, directives_of, moved_fault, JoinedItems}
-use Rattle.dd_file.specs.declared.item.Item.{Item}
-use Rattle.dd_file.specs.declared.item.Item.TheVariants.{Comment, Blank, Directive}
+use Rattle.dd_file.specs.Items.{Item, Comment, Blank, Directive}
 use Rattle.dd_file.specs.declared.fault.FileFault.{FileFault}
 use Rattle.conf_change.specs.declared.change.Change.{Change}
 use Rattle.conf_change.specs.declared.change.Kind.{Kind}

@@ -11,8 +11,7 @@ use Rattle.dd_file.specs.DirectiveText.{DirectiveText}
 use Rattle.dd_file.specs.Position.{longest_input}
 use Rattle.dd_file.specs.Rewritten.{entry_text, kept_text, output_text, has_blank_line, opening, closing, rewritten_text, without_double_end}
 use Rattle.dd_file.specs.Laws.{is_line, IsWellFormed, DirectiveIsWellFormed, WrittenScript, item_has_keys}
-use Rattle.dd_file.specs.declared.item.Item.{Item}
-use Rattle.dd_file.specs.declared.item.Item.TheVariants.{Blank, Directive}
+use Rattle.dd_file.specs.Items.{Item, Blank, Directive}
 use Rattle.dd_file.proofs.Offered.{double_end-after, double_end-pushed, ends_with-append}
 use Rattle.conf_change.specs.Configuration.{Configuration, has_voter, voters_of}
 use Rattle.conf_change.specs.ConfState.{lists_of}

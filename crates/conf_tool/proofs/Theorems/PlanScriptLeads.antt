@@ -13,8 +13,7 @@ use Rattle.dd_file.specs.Position.{longest_input}
 use Rattle.dd_file.specs.Grammar.{script_of}
 use Rattle.dd_file.specs.Rewritten.{rewritten_text}
 use Rattle.dd_file.specs.Laws.{DirectiveIsWellFormed, WrittenScript, directives_of}
-use Rattle.dd_file.specs.declared.item.Item.{Item}
-use Rattle.dd_file.specs.declared.item.Item.TheVariants.{Comment, Blank, Directive}
+use Rattle.dd_file.specs.Items.{Item, Comment, Blank, Directive}
 use Rattle.conf_change.specs.Changer.{begun_with}
 use Rattle.conf_change.specs.Configuration.{Configuration, has_voter, is_restorable}
 use Rattle.conf_change.specs.ConfState.{ConfStateLists, Describes, lists_of, restored}

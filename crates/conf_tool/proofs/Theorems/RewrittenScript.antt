@@ -9,8 +9,7 @@ use Rattle.dd_file.specs.Position.{longest_input}
 use Rattle.dd_file.specs.Grammar.{script_of}
 use Rattle.dd_file.specs.Rewritten.{Entry, entry, is_output, rewritten_text}
 use Rattle.dd_file.specs.Laws.{IsSameItem, AreWellFormed, AreReadAgain, AreOver, LastIsRemoved, ReadAgain, ends_in_long_blank, ItemsAreWellFormed, WrittenScript, ItemsHaveKeys, directives_of, item_has_keys}
-use Rattle.dd_file.specs.declared.item.Item.{Item}
-use Rattle.dd_file.specs.declared.item.Item.TheVariants.{Comment, Blank, Directive}
+use Rattle.dd_file.specs.Items.{Item, Comment, Blank, Directive}
 use Rattle.conf_change.specs.declared.floor.Floor.{Floor}
 use Rattle.conf_session.specs.SessionState.{SessionState, new_session}
 use Rattle.conf_session.specs.Commands.{Answer, answer}

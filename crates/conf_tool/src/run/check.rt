@@ -47,7 +47,7 @@ impl Checking {
         ensures text { OnOk result (text.new.items
             ≡ text.old.items ++ report (entry item.now (actual_for self.old.session item.now))) }
     {
-        let Item::Directive(directive) = item else {
+        let Some(directive) = item.as_directive() else {
             return Ok(());
         };
         let actual = self.session.step(directive)?;

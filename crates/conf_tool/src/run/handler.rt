@@ -161,8 +161,7 @@ pub(super) fn run_by_part<D: Draft + Drop, M: Handler<D::Part> + Drop, R: Source
         let read = parts.next_after_flush(reader, writer)?;
         match read {
             Ok(Some(part)) => {
-                reply(&mut mode, &part, &mut text, writer)?;
-                parts.reuse(part);
+                reply(&mut mode, part, &mut text, writer)?;
             }
             Ok(None) => return finish(&mut mode, None, &mut text, writer),
             Err(fault) => match ToolFault::from(fault) {

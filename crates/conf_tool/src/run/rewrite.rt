@@ -36,7 +36,7 @@ pub(super) fn rewrite_item(
     ensures text { OnOk result (text.new.items ≡ text.old.items
         ++ answered_text session.old (item.now ∷ [])) }
 {
-    let Item::Directive(directive) = item else {
+    let Some(directive) = item.as_directive() else {
         return append_entry(text, item, b"");
     };
     let actual = session.step(directive)?;

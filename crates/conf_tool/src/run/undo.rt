@@ -95,7 +95,7 @@ impl Handler<Item> for Undoing {
     #[inline(always)]
     fn answer(&mut self, item: &Item, text: &mut Vec<u8>) -> Result<(), ToolFault> {
         let _ = &*text;
-        if let Item::Directive(directive) = item {
+        if let Some(directive) = item.as_directive() {
             let actual = self.session.step(directive)?;
             self.session.reuse(actual);
         }

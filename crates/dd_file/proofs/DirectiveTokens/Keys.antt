@@ -6,7 +6,7 @@ use Rattle.ascii_text.specs.WhiteSpace.{without_leading_space}
 use Rattle.dd_file.specs.DirectiveLine.{ArgumentText, CommandText, Leading, leading, bytes_while, with_key, is_key_byte, is_key, is_equals, values_at, after_key, as_token, argument_at, before_others, from_token, arguments_within, arguments_of, has_keys, is_name, command_of}
 use Rattle.dd_file.specs.Script.{joined}
 use Rattle.dd_file.specs.Laws.{AreWellFormed, item_has_keys}
-use Rattle.dd_file.specs.declared.item.Item.{Item}
+use Rattle.dd_file.specs.Items.{Item}
 use Rattle.dd_file.proofs.ScriptGrammar.LinesOfItem.{ReadItem, ReadComment, ReadBlank, ReadBlankHead, ReadDirective, given-read}
 
 -- the leading bytes pass

@@ -10,7 +10,7 @@ use Rattle.dd_file.specs.Grammar.{next_line, next_item, from_first_item, with_co
 use Rattle.dd_file.specs.InOrder.{TakesBytes}
 use Rattle.dd_file.specs.Answer.{IsLineFault, IsItemFault}
 use Rattle.dd_file.specs.Draft.{IsBegun, IsSound, IsGrammar, begun_line}
-use Rattle.dd_file.specs.declared.item.Item.{Item}
+use Rattle.dd_file.specs.Items.{Item}
 use Rattle.dd_file.specs.declared.fault.SyntaxFault.{SyntaxFault}
 use Rattle.dd_file.specs.declared.fault.SyntaxFault.TheVariants.{BadDirective, AfterDouble, UnclosedDouble}
 use Rattle.dd_file.specs.declared.fault.FileFault.{FileFault}

@@ -7,7 +7,7 @@ use Rattle.dd_file.specs.Cut.{cut}
 use Rattle.dd_file.specs.Script.{Ended, Open, is_last_line, is_separator, cut_at_pair, directive, in_double, in_single, body, at_directive}
 use Rattle.dd_file.specs.ItemDraft.{DraftParts, DraftText, FitsIn, first_item_in, result_in, dashes_line, is_done, begun_item}
 use Rattle.dd_file.specs.Draft.{IsEnded, IsBegun, opened}
-use Rattle.dd_file.specs.declared.item.Item.TheVariants.{Comment, Blank}
+use Rattle.dd_file.specs.Items.{Comment, Blank}
 use Rattle.dd_file.specs.declared.draft_state.DraftState.{DraftState}
 use Rattle.dd_file.specs.declared.draft_state.DraftState.TheVariants.{Begin, CommentLine, BlankLines, DirectiveLines, NoCommand, Input, Separator, Single, Double, Dashes, Pair, Complete, AfterPair}
 use Rattle.dd_file.proofs.ScriptGrammar.Cuts.{cut-whole, pair-whole, has_pair-prefix}

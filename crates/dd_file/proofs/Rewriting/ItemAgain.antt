@@ -13,8 +13,7 @@ use Rattle.dd_file.specs.Script.{FirstItem, Ended, Open, first_of, joined, is_co
 use Rattle.dd_file.specs.ItemDraft.{dashes_line, has_pair}
 use Rattle.dd_file.specs.Rewritten.{entry_text, output_text, opening, closing, has_blank_line, is_output, is_output_line}
 use Rattle.dd_file.specs.Laws.{is_line, IsSameItem}
-use Rattle.dd_file.specs.declared.item.Item.{Item}
-use Rattle.dd_file.specs.declared.item.Item.TheVariants.{Comment, Blank}
+use Rattle.dd_file.specs.Items.{Item, Comment, Blank}
 use Rattle.dd_file.proofs.TextLines.CarriageReturns.{without_return, without_returns, trimmed-without_return, ends-without_returns, any-without_returns, is_separator-without_return, is_last_line-without_return, joined-without_returns}
 use Rattle.ascii_text.proofs.Offered.{is_blank-without_last}
 use Rattle.dd_file.proofs.TextLines.CutAgain.{lines_of-text_of, text_of-append, IsOutputOf, output-lines, output-returns, has_blank_line-lines}

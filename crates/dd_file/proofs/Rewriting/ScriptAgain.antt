@@ -16,8 +16,7 @@ use Rattle.dd_file.specs.Position.{longest_input}
 use Rattle.dd_file.specs.Grammar.{Script, script_of, with_first}
 use Rattle.dd_file.specs.Rewritten.{Entry, entry, entry_text, has_blank_line, is_output, rewritten_text, without_double_end}
 use Rattle.dd_file.specs.Laws.{is_line, AreWellFormed, IsSameItem, AreReadAgain, AreOver, LastIsRemoved, ReadAgain, ends_in_long_blank}
-use Rattle.dd_file.specs.declared.item.Item.{Item}
-use Rattle.dd_file.specs.declared.item.Item.TheVariants.{Comment, Blank}
+use Rattle.dd_file.specs.Items.{Item, Comment, Blank}
 use Rattle.ascii_text.proofs.Offered.{list-by_last}
 use Rattle.dd_file.proofs.TextLines.LastNewlines.{double_end-pushed}
 use Rattle.dd_file.proofs.TextLines.CutAgain.{text_of-append, text_of-end, text_of-whole, output-lines}

@@ -9,8 +9,7 @@ use Rattle.dd_file.specs.Script.{FirstItem, NoItem, Ended, Open, result_of, line
 use Rattle.dd_file.specs.Position.{Position, start, longest_input}
 use Rattle.dd_file.specs.Grammar.{Script, with_first, followed, first_items, next_item, script_of, is_too_long, from_first_item, with_count, fault_between}
 use Rattle.dd_file.specs.Laws.{moved, moved_fault}
-use Rattle.dd_file.specs.declared.item.Item.{Item}
-use Rattle.dd_file.specs.declared.item.Item.TheVariants.{Directive}
+use Rattle.dd_file.specs.Items.{Item, Directive}
 use Rattle.dd_file.specs.declared.fault.SyntaxFault.{SyntaxFault}
 use Rattle.ascii_text.proofs.Offered.{full_lines-first, first_len-bound}
 use Rattle.dd_file.proofs.ScriptGrammar.MoreLines.{first_of-left, left-drop, lines_left-shorter}

@@ -7,7 +7,7 @@ use Rattle.dd_file.specs.Script.{FirstItem, NoItem, Ended, Open, result_of, firs
 use Rattle.dd_file.specs.Position.{Position, start, longest_input}
 use Rattle.dd_file.specs.Grammar.{followed, first_items, with_count, from_first_item, next_item, script_of, is_too_long, full_lines_within}
 use Rattle.dd_file.specs.Laws.{is_line, AreWellFormed}
-use Rattle.dd_file.specs.declared.item.Item.{Item}
+use Rattle.dd_file.specs.Items.{Item}
 use Rattle.dd_file.specs.declared.fault.SyntaxFault.{SyntaxFault}
 
 -- what all elements are, those of a part are

@@ -7,8 +7,7 @@ use Rattle.dd_file.specs.Script.{FirstItem, NoItem, Ended, Open, result_of, line
 use Rattle.dd_file.specs.Position.{longest_input}
 use Rattle.dd_file.specs.Grammar.{Script, script_of, with_first}
 use Rattle.dd_file.specs.Laws.{has_separator, IsComplete, Done, More, directive_in, directives_of, moved, moved_fault}
-use Rattle.dd_file.specs.declared.item.Item.{Item}
-use Rattle.dd_file.specs.declared.item.Item.TheVariants.{Blank}
+use Rattle.dd_file.specs.Items.{Item, Blank}
 use Rattle.dd_file.specs.Buffered.{is_whole_text}
 use Rattle.dd_file.proofs.TextLines.TextAfter.{lines-append, whole-after, lines-newline}
 use Rattle.dd_file.proofs.ScriptGrammar.MoreLines.{first_of-local, first_of-left, first_of-closes}

@@ -10,8 +10,7 @@ use Rattle.dd_file.specs.Cut.{Cut, Whole, Parted, cut}
 use Rattle.dd_file.specs.DirectiveLine.{CommandText, command_of}
 use Rattle.dd_file.specs.Script.{Ended, result_of, first_of, is_comment, is_last_line, is_separator, is_dashes, cut_at_pair, joined, directive, after_pair, in_double, in_single, after_separator, body, at_command, after_directive_lines, at_directive, at_line}
 use Rattle.dd_file.specs.Laws.{is_line, IsWellFormed}
-use Rattle.dd_file.specs.declared.item.Item.{Item}
-use Rattle.dd_file.specs.declared.item.Item.TheVariants.{Comment, Blank}
+use Rattle.dd_file.specs.Items.{Item, Comment, Blank}
 use Rattle.dd_file.proofs.ScriptGrammar.Cuts.{IsCut, IsWhole, IsParted, cut-is, cut-parted}
 
 -- directive lines, which begin with this line: all but the last are continued

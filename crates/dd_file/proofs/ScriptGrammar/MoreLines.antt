@@ -9,8 +9,7 @@ use Rattle.dd_file.specs.Cut.{Cut, cut}
 use Rattle.dd_file.specs.DirectiveLine.{CommandText, command_of}
 use Rattle.dd_file.specs.Script.{FirstItem, NoItem, Ended, Open, result_of, lines_left, first_of, is_comment, is_last_line, is_separator, is_dashes, cut_at_pair, joined, directive, after_pair, in_double, in_single, after_separator, body, at_command, after_directive_lines, at_directive}
 use Rattle.dd_file.specs.Laws.{has_separator}
-use Rattle.dd_file.specs.declared.item.Item.{Item}
-use Rattle.dd_file.specs.declared.item.Item.TheVariants.{Comment, Blank}
+use Rattle.dd_file.specs.Items.{Item, Comment, Blank}
 use Rattle.dd_file.specs.declared.fault.SyntaxFault.{SyntaxFault}
 use Rattle.dd_file.specs.declared.fault.SyntaxFault.TheVariants.{AfterDouble}
 use Rattle.dd_file.proofs.ScriptGrammar.Cuts.{IsCut, IsWhole, IsParted, cut-is, cut-parted, cut-local, IsPair, NoPair, HasPair, pair-is}

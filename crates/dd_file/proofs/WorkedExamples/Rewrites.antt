@@ -4,7 +4,7 @@ use Rattle.ascii_text.specs.Lines.{newline, lines_of}
 use Rattle.dd_file.specs.DirectiveText.{DirectiveText}
 use Rattle.dd_file.specs.Rewritten.{output_text, newlines_at_end, without_double_end}
 use Rattle.dd_file.specs.Laws.{IsComplete, Done, More, has_separator}
-use Rattle.dd_file.specs.declared.item.Item.TheVariants.{Comment, Directive}
+use Rattle.dd_file.specs.Items.{Comment, Directive}
 
 -- of two newlines at the end one is dropped, and of three one too
 pub two_newlines : without_double_end ((codes "# a" ++ newline) ++ newline) ≡ codes "# a" ++ newline

@@ -112,7 +112,7 @@ fn show_values(rt: &impl Runtime, shown: &mut Vec<u8>, argument: &Argument) {
 
 // The values of the first argument of a directive.
 fn show_first_values(rt: &impl Runtime, shown: &mut Vec<u8>, item: &Item) {
-    if let Item::Directive(directive) = item {
+    if let Some(directive) = item.as_directive() {
         if let Some(argument) = directive.arg(0) {
             show_values(rt, shown, argument);
         }
@@ -124,7 +124,7 @@ fn values_of(rt: &impl Runtime, line: &str) -> Vec<u8> {
     let mut items = Reader::new(rt.alloc()).expect(rt, "a reader");
     let mut shown = Vec::new(rt.alloc());
     let item = items.next(&mut source).expect(rt, "an item");
-    if let Some(item) = &item {
+    if let Some(item) = item {
         show_first_values(rt, &mut shown, item);
     }
     shown
@@ -166,9 +166,9 @@ fn show_directive(rt: &impl Runtime, shown: &mut Vec<u8>, directive: &Directive)
 }
 
 fn show_item(rt: &impl Runtime, shown: &mut Vec<u8>, item: &Item) {
-    match item {
-        Item::Directive(directive) => show_directive(rt, shown, directive),
-        _ => show_lines(rt, shown, item),
+    match item.as_directive() {
+        Some(directive) => show_directive(rt, shown, directive),
+        None => show_lines(rt, shown, item),
     }
     show(rt, shown, b"|");
 }
@@ -187,7 +187,7 @@ fn show_next_item<R: Source>(
 ) -> bool {
     match reader.next(source) {
         Ok(Some(item)) => {
-            show_item(rt, shown, &item);
+            show_item(rt, shown, item);
             true
         }
         Ok(None) => false,
@@ -327,15 +327,15 @@ fn show_buffered_item<R: Source>(
     shown: &mut Vec<u8>,
     reader: &mut Reader,
     source: &mut R,
-) -> Option<Item> {
+) {
     let mut writer = unflushed(rt);
     let answer = reader
         .next_after_flush(source, &mut writer)
         .expect(rt, "a flush");
-    let item = answer.expect(rt, "an item or the end")?;
-    show_unflushed(rt, shown, writer);
-    show_item(rt, shown, &item);
-    Some(item)
+    if let Some(item) = answer.expect(rt, "an item or the end") {
+        show_unflushed(rt, shown, writer);
+        show_item(rt, shown, item);
+    }
 }
 
 // A script, and its items as they are printed if the first read gives all of it.
@@ -349,20 +349,7 @@ fn reads_buffered_items(rt: HostRuntime) {
     let mut reader = Reader::new(rt.alloc()).expect(&rt, "a reader");
     let mut shown = Vec::new(rt.alloc());
     for _ in 0..9 {
-        let _item = show_buffered_item(&rt, &mut shown, &mut reader, &mut source);
-    }
-    assert!(rt; shown.as_slice() == BUFFERED_ITEMS);
-}
-
-#[test]
-fn reuses_items(rt: HostRuntime) {
-    let mut source = FromRead::new(BUFFERED_SCRIPT);
-    let mut reader = Reader::new(rt.alloc()).expect(&rt, "a reader");
-    let mut shown = Vec::new(rt.alloc());
-    for _ in 0..9 {
-        if let Some(item) = show_buffered_item(&rt, &mut shown, &mut reader, &mut source) {
-            reader.reuse(item);
-        }
+        show_buffered_item(&rt, &mut shown, &mut reader, &mut source);
     }
     assert!(rt; shown.as_slice() == BUFFERED_ITEMS);
 }

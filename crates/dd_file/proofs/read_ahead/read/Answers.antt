@@ -1,7 +1,7 @@
 use Rattle.std.proofs.Common.{◌-◌, length, take, sym, ap, subst, ◌∙◌, arith}
 use Rattle.std.proofs.lemmas.List.{length-take}
 use Rattle.dd_file.specs.Position.{longest_input}
-use Rattle.dd_file.specs.Draft.{DraftOf}
+use Rattle.dd_file.specs.Draft.{DraftOf, finished}
 use Rattle.dd_file.proofs.Reading.BufferFilled.{filled-none}
 use Rattle.dd_file.proofs.Reading.LinesOfDraft.{draft-bound, draft-uncut}
 use Rattle.dd_file.proofs.Reading.DraftAnswers.{item-reads, open-buffered}
@@ -21,7 +21,7 @@ returns-in-Ok-true-clause-reads g c =
     let size = length-take n input.buffered in
     let limit = c.count-first.ensures.limit in
     let ahead = c.requires.bounded c.requires.faultless in
-    item-reads c.parts_are_of_a_grammar.ensures.begun draft g.D.Draft.numbered c.parts_are_of_a_grammar.ensures.grammar input input c.pass.new.self c.args.reader.now _ c.finish.result c.count-first.result c.count.result (filled-none input c.args.reader.now) c.requires.faultless c.requires.unended
+    item-reads c.parts_are_of_a_grammar.ensures.begun draft g.D.Draft.numbered c.parts_are_of_a_grammar.ensures.grammar input input c.pass.new.self c.args.reader.now _ (finished c.finish.new.part c.finish.result) c.count-first.result c.count.result (filled-none input c.args.reader.now) c.requires.faultless c.requires.unended
     scan (draft-uncut n input.buffered lines) (sym c.in-Ok-true.ensures.done ∙ c.in-Ok-true.field-0-test) (omega (arith, bound.1, size, limit)) (omega (arith, ahead)) c.pass.ensures.passed c.pass.ensures.counted c.finish.ensures c.count-first.ensures.count c.count.ensures.count
 
 pub returns-then-is_err-clause-buffered : goal.returns-then-is_err-clause-buffered

@@ -2,7 +2,7 @@ use Rattle.std.proofs.Common.{◌≡◌, ◌+◌, ◌-◌, true, length, take, r
 use Rattle.std.proofs.lemmas.List.{length-append, length-take, take_all}
 use Rattle.dd_file.specs.Position.{longest_input}
 use Rattle.dd_file.specs.Buffered.{ended, within_limit}
-use Rattle.dd_file.specs.Draft.{DraftOf, DraftOfAll}
+use Rattle.dd_file.specs.Draft.{DraftOf, DraftOfAll, finished}
 use Rattle.dd_file.specs.ReaderState.{ReaderState}
 use Rattle.dd_file.proofs.Reading.BufferFilled.{filled-more, filled-last, filled-none, answer-too_long, interrupted, no-memory}
 use Rattle.dd_file.proofs.Reading.LinesOfDraft.{draft-bound, draft-cut, draft-more, draft-uncut}
@@ -65,7 +65,7 @@ returns-in-Ok-true-add_lines g c =
     let total : length now.buffered ≡ length before.buffered + length filled.bytes_read = ap length filled.buffered ∙ length-append before.buffered filled.bytes_read in
     let ahead = filled.ahead in
     let position = ap (λ (s : ReaderState). s.position.bytes) c.in-Ok-true.ensures.same in
-    item-reads c.parts_are_of_a_grammar.ensures.begun draft g.D.Draft.numbered c.parts_are_of_a_grammar.ensures.grammar c.args.input.now now c.pass.new.self c.args.reader.now c.fill.new.reader c.finish.result c.count-first.result c.count.result
+    item-reads c.parts_are_of_a_grammar.ensures.begun draft g.D.Draft.numbered c.parts_are_of_a_grammar.ensures.grammar c.args.input.now now c.pass.new.self c.args.reader.now c.fill.new.reader (finished c.finish.new.part c.finish.result) c.count-first.result c.count.result
     (filled-more _ before _ _ c.read.reader _ true loop.filled c.in-Ok-true.ensures.same filled c.in-Ok-true.ensures.failed) c.requires.faultless c.requires.unended
     scan (draft-uncut n now.buffered lines) (sym c.in-Ok-true-add_lines.ensures.done ∙ c.in-Ok-true-add_lines.field-0-test) (omega (arith, bound.1, size, within, position)) (omega (arith, total, ahead, some, searched, size_before, within)) c.pass.ensures.passed c.pass.ensures.counted
     c.finish.ensures c.count-first.ensures.count c.count.ensures.count
@@ -100,6 +100,6 @@ returns-in-Ok g c =
     let all : c.within_limit-2.result.now ≡ now.buffered = c.within_limit-2.ensures ∙ ap within_limit last.0 ∙ whole in
     let few = c.in-Ok.ensures.few in
     let size = ap length all in
-    last-reads c.parts_are_of_a_grammar.ensures.begun c.add_last_line.new.draft g.D.Draft.numbered c.parts_are_of_a_grammar.ensures.grammar c.args.input.now now c.end.new.self c.args.reader.now c.fill.new.reader c.finish-in-Ok.result c.count-first.result c.count-in-Ok.result last.1 c.requires.faultless c.requires.unended
+    last-reads c.parts_are_of_a_grammar.ensures.begun c.add_last_line.new.draft g.D.Draft.numbered c.parts_are_of_a_grammar.ensures.grammar c.args.input.now now c.end.new.self c.args.reader.now c.fill.new.reader (finished c.finish-in-Ok.new.part c.finish-in-Ok.result) c.count-first.result c.count-in-Ok.result last.1 c.requires.faultless c.requires.unended
     c.in-Ok.count (subst (DraftOfAll g.D.Draft.first_item g.D.Draft.begun g.D.Draft.Fits c.add_last_line.new.draft c.in-Ok.count) all c.in-Ok.ensures.all) (omega (arith, few, size)) last.2 within (c.end.ensures.ended ∙ ap (λ (s : ReaderState). ended s c.in-Ok.count) last.0) c.end.ensures.counted
     c.finish-in-Ok.ensures c.count-first.ensures.count c.count-in-Ok.ensures.count

@@ -1,5 +1,6 @@
 use Rattle.std.proofs.Common.{◌≡◌, true, false, ap, ◌≤◌, ◌∙◌, ◌++◌, ◌∷◌, [], sym, subst, refl, length-append, arith}
-use Rattle.std.specs.Prelude.{Option, Some}
+use Rattle.std.specs.Prelude.{Option, None, Some}
+use Rattle.std.specs.Borrow.{Bor}
 use Rattle.std.proofs.Math.Bool.{or-false}
 use Rattle.std.proofs.lemmas.Result.{err_from_is_err_and}
 use Rattle.dd_file.specs.Device.{AppendsPart, LosesPrefix}
@@ -9,7 +10,7 @@ use Rattle.dd_file.specs.ReaderState.{ReaderState}
 use Rattle.conf_tool.specs.Answered.{script}
 use Rattle.conf_tool.proofs.ModeOutput.FirstParts.{means-of, part-nothing, wrote-kept, wrote-nothing, wrote-prefix}
 use Rattle.conf_tool.specs.Run.{Means}
-use Rattle.conf_tool.proofs.ModeInput.PositionReached.{Reached, loses-nothing, loses-more, reached-begin, reached-end, reached-fault, reached-part, reached-next, reached-prefix}
+use Rattle.conf_tool.proofs.ModeInput.PositionReached.{loses-nothing, loses-more, reached-begin, reached-end, reached-fault, reached-part, reached-next, reached-prefix}
 use Rattle.conf_tool.proofs.ModeInput.Faults.{input-fault, input-uncut, reader-fault, reader-means, reader-read, reader-unwritten, reader-flushed, or-fault}
 use Rattle.conf_tool.proofs.run.handler.run_by_part.Goals as goal
 
@@ -40,7 +41,7 @@ returns-in_err-read g c =
     let remaining = g.R.Source.remaining in
     let before = g.W.Sink.contents c.args.writer.now in
     let after = g.W.Sink.contents c.next_after_flush.new.writer in
-    let same = c.in_err-read.ensures.unread.1 in
+    let same = c.in_err-read.ensures.unread in
     let lost = subst (λ r. LosesPrefix (remaining c.each.reader) (remaining r)) (sym same) (loses-nothing (remaining c.each.reader)) in
     rw (p.1, p.2) (record {
       output = λ input more agrees.
@@ -58,16 +59,15 @@ reply-requires g c = (_, c.each.invariant.answered, omega (arith, c.each.invaria
 
 pub each-preserved : goal.each-preserved
 each-preserved g c =
-    let reads = rw (c.in-Ok-Some.is, c.in-Ok-Some.field-0-is) at c.in_ok-read.ensures.reads in
-    let same = sym c.reuse.ensures in
-    let parts = c.each.invariant.parts ++ c.in-Ok-Some.part ∷ [] in
+    let some : c.in-Ok-Some.field-0 ≡ Some c.in-Ok-Some.part = rw c.in-Ok-Some.is at c.in-Ok-Some.field-0-is in
+    let reads = (rw (c.in_ok-read.was, c.in-Ok-Some.is, some) at c.next_after_flush.follows.holds-at-none).0 in
+    let parts = c.each.invariant.parts ++ c.in-Ok-Some.part.now ∷ [] in
     record {
       parts = parts;
-      reached = subst (λ (s : ReaderState). Reached {A = g.row.D-Part.Denot} (next_of g.D.Draft.first_item g.D.Draft.numbered longest_input) (g.R.Source.remaining c.args.reader.now) (g.R.Source.remaining c.next_after_flush.new.reader) s parts) same
-          (reached-next _ _ _ _ _ _ _ _ _ _ _ c.requires.in_turn c.each.invariant.reached reads);
-      answered = subst (g.M.Handler.HasAnswered c.reply.new.mode) (sym (length-append c.each.invariant.parts (c.in-Ok-Some.part ∷ []))) (c.in_ok-reply-in-Ok-Some.ensures.answered _ c.each.invariant.answered);
+      reached = reached-next _ _ _ _ _ _ _ _ _ _ _ c.requires.in_turn c.each.invariant.reached reads;
+      answered = subst (g.M.Handler.HasAnswered c.reply.new.mode) (sym (length-append c.each.invariant.parts (c.in-Ok-Some.part.now ∷ []))) (c.in_ok-reply-in-Ok-Some.ensures.answered _ c.each.invariant.answered);
       wrote = c.in_ok-reply-in-Ok-Some.ensures.wrote _ _ _ (wrote-kept _ _ _ _ _ _ c.each.invariant.wrote c.next_after_flush.ensures.kept);
-      counted = subst (λ (s : ReaderState). s.position.lines ≤ longest_input) same reads.counted;
+      counted = reads.counted;
       unread = reads.read c.each.invariant.reached.open_end ∙ or-false _ ∙ c.each.invariant.unread;
       unwritten = c.in_ok-reply-in-Ok-Some.ensures.write ∙ or-false _ ∙ c.in_ok-read.ensures.write ∙ or-false _ ∙ c.each.invariant.unwritten;
     }
@@ -75,25 +75,27 @@ each-preserved g c =
 pub returns-in_err-reply-in-Ok-Some-clause-output : goal.returns-in_err-reply-in-Ok-Some-clause-output
 returns-in_err-reply-in-Ok-Some-clause-output g c = λ input more agrees.
     let p = err_from_is_err_and c.from_residual-in_err-reply-in-Ok-Some.result c.from_residual-in_err-reply-in-Ok-Some.ensures.1 in
-    let reads = rw (c.in-Ok-Some.is, c.in-Ok-Some.field-0-is) at c.in_ok-read.ensures.reads in
+    let some : c.in-Ok-Some.field-0 ≡ Some c.in-Ok-Some.part = rw c.in-Ok-Some.is at c.in-Ok-Some.field-0-is in
+    let reads = (rw (c.in_ok-read.was, c.in-Ok-Some.is, some) at c.next_after_flush.follows.holds-at-none).0 in
     let prefix = reached-part _ _ _ _ _ _ _ _ _ _ _ c.requires.in_turn c.each.invariant.reached reads input more agrees in
     rw (p.1, p.2) (means-of (g.M.Handler.whole c.args.options) _ _ _ _ _ prefix.is
     (c.in_err-reply-in-Ok-Some.ensures.stop _ _ _ (wrote-kept _ _ _ _ _ _ c.each.invariant.wrote c.next_after_flush.ensures.kept) prefix.rest))
 
 pub returns-in_err-reply-in-Ok-Some-clause-consumed : goal.returns-in_err-reply-in-Ok-Some-clause-consumed
-returns-in_err-reply-in-Ok-Some-clause-consumed g c = loses-more _ _ _ c.each.invariant.reached.consumed c.in_ok-read.ensures.reads.moves.consumed
+returns-in_err-reply-in-Ok-Some-clause-consumed g c = loses-more _ _ _ c.each.invariant.reached.consumed (rw c.in_ok-read.was at c.next_after_flush.follows.holds-at-none).0.moves.consumed
 
 pub finish-requires : goal.finish-requires
 finish-requires g c = (_, c.each.invariant.answered)
 
 pub returns-in-Ok-None-clause-output : goal.returns-in-Ok-None-clause-output
 returns-in-Ok-None-clause-output g c = λ input more agrees.
-    let reads = rw (c.in-Ok-None.is, c.in-Ok-None.field-0-is) at c.in_ok-read.ensures.reads in
+    let none : c.in-Ok-None.field-0 ≡ None = rw c.in-Ok-None.is at c.in-Ok-None.field-0-is in
+    let reads = (rw (c.in_ok-read.was, c.in-Ok-None.is, none) at c.next_after_flush.follows.holds-at-none).0 in
     let prefix = reached-end _ _ _ _ _ _ _ _ _ _ c.requires.in_turn c.each.invariant.reached reads input more agrees in
     subst (λ s. Means (g.M.Handler.whole c.args.options s) c.finish.result (g.W.Sink.contents c.args.writer.now) (g.W.Sink.contents c.finish.new.writer)) (sym prefix) (c.finish.ensures.output _ _ _ (wrote-kept _ _ _ _ _ _ c.each.invariant.wrote c.next_after_flush.ensures.kept))
 
 pub returns-in-Ok-None-clause-consumed : goal.returns-in-Ok-None-clause-consumed
-returns-in-Ok-None-clause-consumed g c = loses-more _ _ _ c.each.invariant.reached.consumed c.in_ok-read.ensures.reads.moves.consumed
+returns-in-Ok-None-clause-consumed g c = loses-more _ _ _ c.each.invariant.reached.consumed (rw c.in_ok-read.was at c.next_after_flush.follows.holds-at-none).0.moves.consumed
 
 pub finish-requires-in-Script : goal.finish-requires-in-Script
 finish-requires-in-Script g c = (_, c.each.invariant.answered)
@@ -101,12 +103,12 @@ finish-requires-in-Script g c = (_, c.each.invariant.answered)
 pub returns-in-Script-clause-output : goal.returns-in-Script-clause-output
 returns-in-Script-clause-output g c = λ input more agrees.
     let converted = input-fault c.in-Err.fault c.in-Script.fault (sym c.in-Script.is ∙ c.from.ensures) in
-    let prefix = reached-fault _ _ _ _ _ _ _ _ _ _ _ c.requires.in_turn c.each.invariant.reached (rw c.in-Err.is at c.in_ok-read.ensures.reads) (input-uncut _ _ converted) input more agrees
+    let prefix = reached-fault _ _ _ _ _ _ _ _ _ _ _ c.requires.in_turn c.each.invariant.reached (rw (c.in_ok-read.was, c.in-Err.is) at c.next_after_flush.follows.holds-at-none).0 (input-uncut _ _ converted) input more agrees
     ∙ ap (λ f. script c.each.invariant.parts (Some f)) converted.same in
     subst (λ s. Means (g.M.Handler.whole c.args.options s) c.finish-in-Script.result (g.W.Sink.contents c.args.writer.now) (g.W.Sink.contents c.finish-in-Script.new.writer)) (sym prefix) (c.finish-in-Script.ensures.output _ _ _ (wrote-kept _ _ _ _ _ _ c.each.invariant.wrote c.next_after_flush.ensures.kept))
 
 pub returns-in-Script-clause-consumed : goal.returns-in-Script-clause-consumed
-returns-in-Script-clause-consumed g c = loses-more _ _ _ c.each.invariant.reached.consumed c.in_ok-read.ensures.reads.moves.consumed
+returns-in-Script-clause-consumed g c = loses-more _ _ _ c.each.invariant.reached.consumed (rw c.in_ok-read.was at c.next_after_flush.follows.holds-at-none).0.moves.consumed
 
 pub returns-in_default : goal.returns-in_default
 returns-in_default g c =
@@ -115,14 +117,14 @@ returns-in_default g c =
     let after = g.W.Sink.contents c.next_after_flush.new.writer in
     record {
       output = λ input more agrees.
-          let prefix = reached-prefix _ _ _ _ _ _ c.each.invariant.reached c.in_ok-read.ensures.reads.moves.consumed input more agrees in
+          let prefix = reached-prefix _ _ _ _ _ _ c.each.invariant.reached (rw c.in_ok-read.was at c.next_after_flush.follows.holds-at-none).0.moves.consumed input more agrees in
           reader-means _ _ converted (g.M.Handler.whole c.args.options (script_from (next_of g.D.Draft.first_item g.D.Draft.numbered longest_input) start input)) before after
           (subst (λ s. AppendsPart before after (g.M.Handler.whole c.args.options s).text) (sym prefix.is) (wrote-prefix _ _ _ _ _ (wrote-kept _ _ _ _ _ _ c.each.invariant.wrote c.next_after_flush.ensures.kept) prefix.rest));
-      consumed = loses-more _ _ _ c.each.invariant.reached.consumed c.in_ok-read.ensures.reads.moves.consumed;
-      read = or-fault _ _ _ _ _ ((rw c.in-Err.is at c.in_ok-read.ensures.reads).read c.each.invariant.reached.open_end) (reader-read _ _ converted) c.each.invariant.unread;
+      consumed = loses-more _ _ _ c.each.invariant.reached.consumed (rw c.in_ok-read.was at c.next_after_flush.follows.holds-at-none).0.moves.consumed;
+      read = or-fault _ _ _ _ _ ((rw (c.in_ok-read.was, c.in-Err.is) at c.next_after_flush.follows.holds-at-none).0.read c.each.invariant.reached.open_end) (reader-read _ _ converted) c.each.invariant.unread;
       write = or-fault _ _ _ _ _ c.in_ok-read.ensures.write (reader-unwritten _ _ converted) c.each.invariant.unwritten;
-      asks = λ failed. reader-flushed (g.W.Sink.IsFlushed c.next_after_flush.new.writer) _ (Option g.row.D-Part.Denot) _ _ converted failed (rw c.in-Err.is at (c.in_ok-read.ensures.flushed c.each.invariant.reached.open_end));
-      kinds = rw c.from.ensures (c.requires.faults _ _ ((rw c.in-Err.is at c.in_ok-read.ensures.reads).kind c.each.invariant.reached.open_end));
+      asks = λ failed. reader-flushed (g.W.Sink.IsFlushed c.next_after_flush.new.writer) _ (Option (Bor g.row.D-Part.Denot)) _ _ converted failed (rw c.in-Err.is at (c.in_ok-read.ensures.flushed c.each.invariant.reached.open_end));
+      kinds = rw c.from.ensures (c.requires.faults _ _ ((rw (c.in_ok-read.was, c.in-Err.is) at c.next_after_flush.follows.holds-at-none).0.kind c.each.invariant.reached.open_end));
     }
 
 pub returns-in_err-reply-in-Ok-Some-clause-write : goal.returns-in_err-reply-in-Ok-Some-clause-write

@@ -1,5 +1,5 @@
 use Rattle.std.proofs.Common.{◌≡◌, ◌≤◌, ℕ, ◌++◌, ◌∷◌, [], List, length, refl, sym, ap, ◌∙◌, length-append, length-take-le, arith, rules}
-use Rattle.std.proofs.lemmas.List.{take-append-drop, append-nil}
+use Rattle.std.proofs.lemmas.List.{append-nil}
 use Rattle.std.proofs.lemmas.Result.{IfOk-weaker}
 use Rattle.ascii_text.specs.WhiteSpace.{trimmed}
 use Rattle.dd_file.specs.Script.{joined}
@@ -31,8 +31,7 @@ returns c =
     let line = c.args.line.now in
     let lines = old.directive_lines ++ line ∷ [] in
     let kept = c.in_ok-keep_directive_line.ensures in
-    let raw : c.self.inside.raw_lines ≡ lines = sym (take-append-drop c.self.inside.directive_line_count c.self.inside.raw_lines)
-    ∙ ap (λ (parts : DraftParts). parts.directive_lines ++ parts.input) (c.self.view_is ∙ kept) ∙ ap (λ input. lines ++ input) c.requires.fits.1 ∙ append-nil lines in
+    let raw = c.raw_lines.ensures ∙ ap (λ (parts : DraftParts). parts.directive_lines ++ parts.input) kept ∙ ap (λ input. lines ++ input) c.requires.fits.1 ∙ append-nil lines in
     let text : c.as_slice.result.now ≡ joined lines = c.as_slice.ensures.value ∙ c.in_ok-text.ensures ∙ ap joined raw in
     IfOk-weaker c.end_directive_lines-2.result _ _
     (λ next is. adds-last old line _ _ next _ c.requires.fits (search rules) kept text is) c.end_directive_lines-2.ensures
