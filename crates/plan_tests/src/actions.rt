@@ -1,14 +1,16 @@
 //! What to do next: for each row of the table a view and the answer.
-ghost use Rattle.std.specs.Prelude.{◌≡◌, true};
+ghost use Rattle.std.specs.Prelude.{◌≡◌, true, IfOk};
 ghost use Rattle.conf_change.specs.Configuration.{is_valid};
 
-use conf_change::{Config, Step, check};
+use crate::assertions::holds_at;
+use crate::paths::{THREE, config_at, ids};
+use crate::plans::is_step;
+use conf_change::Config;
 use conf_driver::{Action, MemberView, NextFault, StuckReason, View, WaitReason, next};
-use conf_plan::{Strategy, changes_text, command_text};
-use quorum_sets::{InlineIds, MemberSet, NoMemory};
+use conf_plan::Strategy;
+use quorum_sets::{InlineIds, NoMemory};
 use std::alloc::Global;
 use test_support::equal::has_ids;
-use test_support::restoring::changer_at;
 use test_support::twice;
 
 // What is expected.
@@ -48,8 +50,6 @@ const ONE_TWO: &str = "Voters:[1 2] VotersOutgoing:[] Learners:[] LearnersNext:[
 
 const TWO_THREE: &str =
     "Voters:[2 3] VotersOutgoing:[] Learners:[] LearnersNext:[] AutoLeave:false";
-
-const THREE: &str = "Voters:[1 2 3] VotersOutgoing:[] Learners:[] LearnersNext:[] AutoLeave:false";
 
 const TARGET: &str = "Voters:[1 2 4] VotersOutgoing:[] Learners:[] LearnersNext:[] AutoLeave:false";
 
@@ -365,13 +365,6 @@ static ROWS: [Row; 41] = [
     },
 ];
 
-fn ids_of(alloc: Global, list: &[u64]) -> InlineIds {
-    match InlineIds::of_list(alloc, list) {
-        Ok(ids) => ids,
-        Err(_) => InlineIds::empty(alloc),
-    }
-}
-
 fn members_of(alloc: Global, list: &[(u64, u64, bool)]) -> Result<Vec<MemberView>, NoMemory> {
     let mut members = Vec::new(alloc);
     for (id, matched, recent_active) in list {
@@ -384,28 +377,21 @@ fn members_of(alloc: Global, list: &[(u64, u64, bool)]) -> Result<Vec<MemberView
     Ok(members)
 }
 
-fn view_of(alloc: Global, row: &Row, now: &Config<InlineIds>) -> Result<View, NoMemory> {
+fn view_of(alloc: Global, row: &Row) -> Result<View, NoMemory>
+    ensures { IfOk result (λ view. is_valid view.conf_state ≡ true) }
+{
+    let progress = members_of(alloc, row.members)?;
     Ok(View {
-        conf_state: now.try_clone()?,
+        conf_state: config_at(alloc, row.now),
         conf_index: row.conf_index,
         lead: row.lead,
         commit: row.commit,
         pending_conf_index: row.pending,
-        progress: members_of(alloc, row.members)?,
-        running: ids_of(alloc, row.running),
-        retired: ids_of(alloc, row.retired),
+        progress,
+        running: ids(alloc, row.running),
+        retired: ids(alloc, row.retired),
         max_lag: row.max_lag,
     })
-}
-
-// Whether a step has this command and these changes.
-fn is_step(alloc: Global, step: &Step, command: &str, changes: &str) -> bool {
-    match twice!(NoMemory, changes_text(alloc, step.changes())) {
-        Ok(text) => {
-            (command_text(step) == command.as_bytes()) & (text.as_slice() == changes.as_bytes())
-        }
-        Err(_) => false,
-    }
 }
 
 fn is_answer(alloc: Global, action: &Action, expected: Answer) -> bool {
@@ -414,7 +400,7 @@ fn is_answer(alloc: Global, action: &Action, expected: Answer) -> bool {
         (Action::Stop(ids), Answer::Stop(list)) => has_ids(ids, list),
         (Action::Transfer(id), Answer::Transfer(to)) => *id == to,
         (Action::Propose(step), Answer::Propose(command, changes)) => {
-            is_step(alloc, step, command, changes)
+            is_step(alloc, Some(step), command, changes)
         }
         (Action::Wait(why, ids), Answer::Wait(reason, list)) => {
             (*why == reason) & has_ids(ids, list)
@@ -423,6 +409,13 @@ fn is_answer(alloc: Global, action: &Action, expected: Answer) -> bool {
             (*why == reason) & has_ids(ids, list)
         }
         (Action::Done, Answer::Done) => true,
+        _ => false,
+    }
+}
+
+fn is_fault(fault: NextFault, expected: Answer) -> bool {
+    match expected {
+        Answer::Fault(expected) => fault == expected,
         _ => false,
     }
 }
@@ -437,35 +430,33 @@ fn is_next(
     requires valid_now { is_valid view.now.conf_state ≡ true }
     requires valid_target { is_valid target.now ≡ true }
 {
-    let answer = twice!(
+    match twice!(
         NextFault::NoMemory,
         next(alloc, row.strategy, target, down, view)
-    );
-    match (answer, row.answer) {
-        (Ok(action), expected) => is_answer(alloc, &action, expected),
-        (Err(fault), Answer::Fault(expected)) => fault == expected,
-        _ => false,
+    ) {
+        Ok(action) => is_answer(alloc, &action, row.answer),
+        Err(fault) => is_fault(fault, row.answer),
+    }
+}
+
+fn is_next_to(alloc: Global, row: &Row, target: &Config<InlineIds>, down: &InlineIds) -> bool
+    requires { is_valid target.now ≡ true }
+{
+    match twice!(NoMemory, view_of(alloc, row)) {
+        Ok(view) => is_next(alloc, row, target, down, &view),
+        Err(_) => false,
     }
 }
 
 fn is_row(alloc: Global, row: &Row) -> bool {
-    let now = changer_at::<InlineIds>(alloc, row.now);
-    let target = changer_at::<InlineIds>(alloc, row.target);
-    let target = target.tracker().config();
-    let down = ids_of(alloc, row.down);
-    match twice!(NoMemory, view_of(alloc, row, now.tracker().config())) {
-        Ok(view) => {
-            check(&view.conf_state).is_ok()
-                && check(target).is_ok()
-                && is_next(alloc, row, target, &down, &view)
-        }
-        Err(_) => false,
-    }
+    let target = config_at(alloc, row.target);
+    let down = ids(alloc, row.down);
+    is_next_to(alloc, row, &target, &down)
 }
 
 #[test]
 fn decides_by_each_row(rt: HostRuntime) {
     for (index, row) in ROWS.iter().enumerate() {
-        assert!(rt; is_row(rt.alloc(), row), "row {index}");
+        holds_at(&rt, index, is_row(rt.alloc(), row));
     }
 }

@@ -8,6 +8,8 @@ mod actions;
 #[cfg(test)]
 mod ample;
 #[cfg(test)]
+mod assertions;
+#[cfg(test)]
 mod paths;
 #[cfg(test)]
 mod plan_inputs;

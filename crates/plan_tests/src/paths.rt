@@ -2,6 +2,7 @@
 ghost use Rattle.std.specs.Prelude.{◌≡◌, true};
 ghost use Rattle.conf_change.specs.Configuration.{is_valid};
 
+use crate::assertions::holds_at;
 use conf_change::{Changer, Config, Refused, Step, check};
 use conf_plan::{NoPath, Path, Strategy, catching_up, plan_by, print_path};
 use quorum_sets::{InlineIds, MemberSet, NoMemory, TreeIds};
@@ -18,7 +19,9 @@ type Row = (&'static str, &'static str, &'static [Expected]);
 
 const ONE: &str = "Voters:[1] VotersOutgoing:[] Learners:[] LearnersNext:[] AutoLeave:false";
 
-const THREE: &str = "Voters:[1 2 3] VotersOutgoing:[] Learners:[] LearnersNext:[] AutoLeave:false";
+/// Three voters.
+pub(crate) const THREE: &str =
+    "Voters:[1 2 3] VotersOutgoing:[] Learners:[] LearnersNext:[] AutoLeave:false";
 
 const TWO_OF_THREE: &str =
     "Voters:[3 4 5] VotersOutgoing:[] Learners:[] LearnersNext:[] AutoLeave:false";
@@ -194,8 +197,24 @@ static ROWS: [Row; 13] = [
     ),
 ];
 
-/// The path by a strategy, made while these ids are down.
-pub(crate) fn path_of<S: MemberSet>(
+/// The configuration of a line; an empty one if the line has none.
+pub(crate) fn config_at<S: MemberSet>(alloc: Global, line: &str) -> Config<S>
+    ensures { is_valid result ≡ true }
+{
+    let mut changer = changer_at(alloc, line);
+    changer.take_config()
+}
+
+/// The set of some ids; an empty one if memory ran out twice, so that its row fails without a branch for it.
+pub(crate) fn ids(alloc: Global, ids: &[u64]) -> InlineIds {
+    match twice!(NoMemory, InlineIds::of_list(alloc, ids)) {
+        Ok(set) => set,
+        Err(_) => InlineIds::empty(alloc),
+    }
+}
+
+// The path by a strategy, made while these ids are down.
+fn path_of<S: MemberSet>(
     alloc: Global,
     strategy: Strategy,
     now: &Config<S>,
@@ -224,6 +243,15 @@ pub(crate) fn path_between<S: MemberSet>(
     } else {
         None
     }
+}
+
+/// The shortest path between valid configurations, if there is one.
+pub(crate) fn shortest_path<S: MemberSet>(
+    alloc: Global,
+    now: &Config<S>,
+    target: &Config<S>,
+) -> Option<Path> {
+    path_between(alloc, Strategy::Shortest, now, target, &S::empty(alloc))
 }
 
 fn is_accepted<S: MemberSet>(changer: &mut Changer<S>, step: &Step) -> bool {
@@ -260,7 +288,8 @@ fn is_step<S: MemberSet>(
     }
 }
 
-fn is_printed(alloc: Global, path: &Path, expected: &str) -> bool {
+/// Whether a path is printed as this text.
+pub(crate) fn is_printed(alloc: Global, path: &Path, expected: &str) -> bool {
     appends!(alloc, expected, |text| print_path(text, path))
 }
 
@@ -300,18 +329,19 @@ fn leads<S: MemberSet>(
 
 fn is_path<S: MemberSet>(alloc: Global, row: &Row, expected: &Expected) -> bool {
     let mut changer = changer_at::<S>(alloc, row.0);
-    let other = changer_at::<S>(alloc, row.1);
-    leads(alloc, &mut changer, other.tracker().config(), expected)
+    let target = config_at::<S>(alloc, row.1);
+    leads(alloc, &mut changer, &target, expected)
 }
 
 #[test]
 fn makes_paths_by_each_strategy(rt: HostRuntime) {
     for (index, row) in ROWS.iter().enumerate() {
         for expected in row.2 {
-            assert!(rt;
+            holds_at(
+                &rt,
+                index,
                 is_path::<TreeIds>(rt.alloc(), row, expected)
                     & is_path::<InlineIds>(rt.alloc(), row, expected),
-                "row {index}"
             );
         }
     }

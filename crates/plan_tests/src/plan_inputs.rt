@@ -2,9 +2,13 @@
 ghost use Rattle.std.specs.Prelude.{◌≡◌, true, IfOk};
 ghost use Rattle.conf_change.specs.Configuration.{is_valid};
 
+use crate::assertions::holds_at;
+use crate::paths::ids;
 use conf_change::{Config, Violation};
-use plan_input::{IdHint, ShortToken, TextFault, first_nonmember, read_current, read_target};
-use quorum_sets::{InlineIds, MemberSet, NoMemory};
+use plan_input::{
+    Current, IdHint, ShortToken, TextFault, first_nonmember, read_current, read_target,
+};
+use quorum_sets::InlineIds;
 use std::alloc::Global;
 use test_support::twice;
 
@@ -171,10 +175,16 @@ static BARE: [(&str, &str); 2] = [
     ("r1 18446744073709551616", "18446744073709551616"),
 ];
 
+fn current_in(alloc: Global, text: &str) -> Result<Current, TextFault>
+    ensures { IfOk result (λ current. is_valid current.config ≡ true) }
+{
+    twice!(TextFault::NoMemory, read_current(alloc, text.as_bytes()))
+}
+
 fn current(alloc: Global, text: &str) -> Result<Config<InlineIds>, TextFault>
     ensures { IfOk result (λ c. is_valid c ≡ true) }
 {
-    Ok(twice!(TextFault::NoMemory, read_current(alloc, text.as_bytes()))?.config)
+    Ok(current_in(alloc, text)?.config)
 }
 
 fn target(
@@ -205,21 +215,38 @@ fn is_target(
     }
 }
 
+// Whether a text denotes this configuration, as the current one and as the target.
+fn is_text_of(alloc: Global, config: &Config<InlineIds>, text: &str) -> bool
+    requires { is_valid config.now ≡ true }
+{
+    match current(alloc, text) {
+        Ok(others) => config.same(&others) & is_target(alloc, config, text, config),
+        Err(_) => false,
+    }
+}
+
 // Whether two texts denote the same configuration, as the current one and as the target.
 fn is_same(alloc: Global, text: &str, other: &str) -> bool {
-    match (current(alloc, text), current(alloc, other)) {
-        (Ok(config), Ok(others)) => {
-            config.same(&others) & is_target(alloc, &config, other, &config)
-        }
-        _ => false,
+    match current(alloc, text) {
+        Ok(config) => is_text_of(alloc, &config, other),
+        Err(_) => false,
+    }
+}
+
+fn changes_from(alloc: Global, now: &Config<InlineIds>, changes: &str, expected: &str) -> bool
+    requires { is_valid now.now ≡ true }
+{
+    match current(alloc, expected) {
+        Ok(expected) => is_target(alloc, now, changes, &expected),
+        Err(_) => false,
     }
 }
 
 // Whether changes make this target of the current configuration.
 fn changes_to(alloc: Global, now: &str, changes: &str, expected: &str) -> bool {
-    match (current(alloc, now), current(alloc, expected)) {
-        (Ok(now), Ok(expected)) => is_target(alloc, &now, changes, &expected),
-        _ => false,
+    match current(alloc, now) {
+        Ok(now) => changes_from(alloc, &now, changes, expected),
+        Err(_) => false,
     }
 }
 
@@ -241,15 +268,16 @@ fn is_no_current(alloc: Global, text: &str, fault: TextFault) -> bool {
     current(alloc, text).err() == Some(fault)
 }
 
+// Whether two texts denote the same configuration, whichever is the current one.
+fn are_same(alloc: Global, text: &str, other: &str) -> bool {
+    is_same(alloc, text, other) & is_same(alloc, other, text)
+}
+
 #[test]
 fn reads_each_form(rt: HostRuntime) {
     for texts in [&SIMPLE[..], &JOINT[..], &EMPTY[..]] {
         for text in texts {
-            assert!(rt;
-                is_same(rt.alloc(), texts[0], *text) & is_same(rt.alloc(), *text, texts[0]),
-                "{}",
-                *text
-            );
+            holds_at(&rt, *text, are_same(rt.alloc(), texts[0], *text));
         }
     }
 }
@@ -257,10 +285,10 @@ fn reads_each_form(rt: HostRuntime) {
 #[test]
 fn reads_changes_as_the_target(rt: HostRuntime) {
     for (now, changes, expected) in &CHANGED {
-        assert!(rt;
+        holds_at(
+            &rt,
+            *changes,
             changes_to(rt.alloc(), *now, *changes, *expected),
-            "{}",
-            *changes
         );
     }
 }
@@ -268,39 +296,38 @@ fn reads_changes_as_the_target(rt: HostRuntime) {
 #[test]
 fn refuses_changes(rt: HostRuntime) {
     for (now, changes, fault) in &REFUSED_CHANGES {
-        assert!(rt;
+        holds_at(
+            &rt,
+            *changes,
             is_no_target_of(rt.alloc(), *now, *changes, *fault),
-            "{}",
-            *changes
         );
     }
+}
+
+// Whether a text is refused as the current configuration, and as the target of a single voter.
+fn is_refused(alloc: Global, text: &str, as_current: TextFault, as_target: TextFault) -> bool {
+    is_no_current(alloc, text, as_current) & is_no_target(alloc, text, as_target)
 }
 
 #[test]
 fn refuses_other_texts(rt: HostRuntime) {
     for (text, fault) in &REFUSED {
-        assert!(rt;
-            is_no_current(rt.alloc(), *text, *fault) & is_no_target(rt.alloc(), *text, *fault),
-            "{}",
-            *text
-        );
+        holds_at(&rt, *text, is_refused(rt.alloc(), *text, *fault, *fault));
     }
     for (text, token) in &OTHERS {
-        let bad_change = TextFault::BadChange(ShortToken::new(token.as_bytes()), IdHint::NONE);
-        assert!(rt;
-            is_no_current(rt.alloc(), *text, TextFault::UnknownForm)
-                & is_no_target(rt.alloc(), *text, bad_change),
-            "{}",
-            *text
+        let fault = TextFault::BadChange(ShortToken::new(token.as_bytes()), IdHint::NONE);
+        holds_at(
+            &rt,
+            *text,
+            is_refused(rt.alloc(), *text, TextFault::UnknownForm, fault),
         );
     }
     for (text, token) in &BARE {
-        let bare = TextFault::BareId(ShortToken::new(token.as_bytes()));
-        assert!(rt;
-            is_no_current(rt.alloc(), *text, TextFault::UnknownForm)
-                & is_no_target(rt.alloc(), *text, bare),
-            "{}",
-            *text
+        let fault = TextFault::BareId(ShortToken::new(token.as_bytes()));
+        holds_at(
+            &rt,
+            *text,
+            is_refused(rt.alloc(), *text, TextFault::UnknownForm, fault),
         );
     }
 }
@@ -318,23 +345,25 @@ static LISTS: [(&str, bool); 6] = [
     ("voters=(1)", false),
 ];
 
+// Whether a text is the current configuration, and a list of members or not.
+fn is_list(alloc: Global, text: &str, expected: bool) -> bool {
+    match current_in(alloc, text) {
+        Ok(current) => current.is_member_list == expected,
+        Err(_) => false,
+    }
+}
+
 #[test]
 fn finds_lists_of_members(rt: HostRuntime) {
     for (text, expected) in &LISTS {
-        let current = twice!(
-            TextFault::NoMemory,
-            read_current(rt.alloc(), text.as_bytes())
-        );
-        assert!(rt;
-            current.is_ok_and(|current| current.is_member_list == *expected),
-            "{}",
-            *text
-        );
+        holds_at(&rt, *text, is_list(rt.alloc(), *text, *expected));
     }
 }
 
 // The ids that are down, two configurations, and the least of the ids that is a member of neither.
-static NONMEMBERS: [(&[u64], &str, &str, Option<u64>); 6] = [
+type Nonmember = (&'static [u64], &'static str, &'static str, Option<u64>);
+
+static NONMEMBERS: [Nonmember; 6] = [
     (&[], "voters=(1)", "voters=(2)", None),
     (&[2, 1], "voters=(1)", "voters=(2)", None),
     (&[9, 7, 1], "voters=(1)", "voters=(2)", Some(7)),
@@ -353,30 +382,34 @@ static NONMEMBERS: [(&[u64], &str, &str, Option<u64>); 6] = [
     ),
 ];
 
-// Whether this is the least of the ids that are down and members of neither configuration.
-fn has_nonmember(
+// The least of the ids that are down and members of neither configuration.
+fn nonmember(
     alloc: Global,
     down: &[u64],
-    now: &str,
-    target: &str,
-    expected: Option<u64>,
-) -> bool {
-    match (current(alloc, now), current(alloc, target)) {
-        (Ok(now), Ok(target)) => match twice!(NoMemory, InlineIds::of_list(alloc, down)) {
-            Ok(down) => first_nonmember(Some(&down), &now, &target) == expected,
-            Err(_) => false,
-        },
-        _ => false,
+    now: &Config<InlineIds>,
+    target: &Config<InlineIds>,
+) -> Option<u64> {
+    let down = ids(alloc, down);
+    first_nonmember(Some(&down), now, target)
+}
+
+fn has_nonmember_from(alloc: Global, now: &Config<InlineIds>, row: &Nonmember) -> bool {
+    match current(alloc, row.2) {
+        Ok(target) => nonmember(alloc, row.0, now, &target) == row.3,
+        Err(_) => false,
+    }
+}
+
+fn has_nonmember(alloc: Global, row: &Nonmember) -> bool {
+    match current(alloc, row.1) {
+        Ok(now) => has_nonmember_from(alloc, &now, row),
+        Err(_) => false,
     }
 }
 
 #[test]
 fn finds_nonmembers(rt: HostRuntime) {
-    for (down, now, target, expected) in &NONMEMBERS {
-        assert!(rt;
-            has_nonmember(rt.alloc(), *down, *now, *target, *expected),
-            "{}",
-            *target
-        );
+    for (index, row) in NONMEMBERS.iter().enumerate() {
+        holds_at(&rt, index, has_nonmember(rt.alloc(), row));
     }
 }

@@ -2,11 +2,13 @@
 ghost use Rattle.std.specs.Prelude.{◌≡◌, true};
 ghost use Rattle.conf_change.specs.Configuration.{is_valid};
 
-use crate::paths::path_of;
-use conf_change::{Changer, Config, Refused, Step, check};
+use crate::assertions::holds_at;
+use crate::paths;
+use crate::paths::{config_at, shortest_path};
+use conf_change::{Changer, Config, Refused, Step};
 use conf_plan::{
-    Path, Plan, PlanFault, PlanTextFault, StepRefused, Strategy, apply_plan, changes_text,
-    command_text, plan, print_path, print_plan, read_path, read_plan,
+    Path, Plan, PlanFault, PlanTextFault, StepRefused, apply_plan, changes_text, command_text,
+    plan, print_plan, read_path, read_plan,
 };
 use quorum_sets::{InlineIds, MemberSet, NoMemory, TreeIds};
 use std::alloc::Global;
@@ -168,13 +170,17 @@ static ROWS: [Row; 5] = [
     },
 ];
 
-// The plan that a text is parsed as.
-fn plan_of(alloc: Global, text: &str) -> Result<Plan, PlanTextFault> {
+/// The plan that a text is parsed as.
+pub(crate) fn plan_of(alloc: Global, text: &str) -> Result<Plan, PlanTextFault> {
     twice!(PlanTextFault::NoMemory, read_plan(alloc, text.as_bytes()))
 }
 
-// Whether this is the plan from one configuration to another, and the shortest path has its steps.
-fn is_planned<S: MemberSet>(
+/// The path that a text is parsed as.
+pub(crate) fn path_in(alloc: Global, text: &str) -> Result<Path, PlanTextFault> {
+    twice!(PlanTextFault::NoMemory, read_path(alloc, text.as_bytes()))
+}
+
+fn is_plan<S: MemberSet>(
     alloc: Global,
     now: &Config<S>,
     target: &Config<S>,
@@ -183,22 +189,29 @@ fn is_planned<S: MemberSet>(
     requires now { is_valid now.now ≡ true }
     requires target { is_valid target.now ≡ true }
 {
-    let answer = twice!(PlanFault::NoMemory, plan(alloc, now, target));
-    let none_down = S::empty(alloc);
-    let path = path_of(alloc, Strategy::Shortest, now, target, &none_down);
-    match (answer, path) {
-        (Ok(plan), Ok(path)) => {
-            has_steps(plan.as_slice(), expected.as_slice())
-                & has_steps(path.as_slice(), expected.as_slice())
-        }
-        _ => false,
+    match twice!(PlanFault::NoMemory, plan(alloc, now, target)) {
+        Ok(plan) => has_steps(plan.as_slice(), expected.as_slice()),
+        Err(_) => false,
     }
 }
 
-fn leads<S: MemberSet>(alloc: Global, now: &Config<S>, target: &str, expected: &Plan) -> bool {
-    let changer = changer_at::<S>(alloc, target);
-    let target = changer.tracker().config();
-    check(now).is_ok() && check(target).is_ok() && is_planned(alloc, now, target, expected)
+fn is_shortest<S: MemberSet>(
+    alloc: Global,
+    now: &Config<S>,
+    target: &Config<S>,
+    expected: &Plan,
+) -> bool {
+    match shortest_path(alloc, now, target) {
+        Some(path) => has_steps(path.as_slice(), expected.as_slice()),
+        None => false,
+    }
+}
+
+// Whether this is the plan from one configuration to another, and the shortest path has its steps.
+fn leads<S: MemberSet>(alloc: Global, now: &str, target: &str, expected: &Plan) -> bool {
+    let now = config_at::<S>(alloc, now);
+    let target = config_at::<S>(alloc, target);
+    is_plan(alloc, &now, &target, expected) & is_shortest(alloc, &now, &target, expected)
 }
 
 // How many steps of a plan a changer accepts: all of them, unless memory runs out.
@@ -260,13 +273,14 @@ fn acknowledge<S: MemberSet>(changer: &mut Changer<S>, indexes: &[(u64, u64)]) -
 fn is_row<S: MemberSet>(alloc: Global, row: &Row, plan: &Plan) -> bool {
     let mut changer = changer_at::<S>(alloc, row.now);
     let mut other = changer_at::<S>(alloc, row.now);
-    leads(alloc, changer.tracker().config(), row.target, plan)
+    leads::<S>(alloc, row.now, row.target, plan)
         & acknowledge(&mut changer, row.acknowledged)
         & acknowledge(&mut other, row.acknowledged)
         & is_applied(alloc, &mut changer, &mut other, plan, row.shown)
 }
 
-fn is_printed(alloc: Global, plan: &Plan, expected: &str) -> bool {
+/// Whether a plan is printed as this text.
+pub(crate) fn is_printed(alloc: Global, plan: &Plan, expected: &str) -> bool {
     appends!(alloc, expected, |text| print_plan(text, plan))
 }
 
@@ -284,7 +298,7 @@ fn is_row_of_both(alloc: Global, row: &Row) -> bool {
 #[test]
 fn makes_and_applies_plans(rt: HostRuntime) {
     for row in &ROWS {
-        assert!(rt; is_row_of_both(rt.alloc(), row), "{}", row.plan);
+        holds_at(&rt, row.plan, is_row_of_both(rt.alloc(), row));
     }
 }
 
@@ -323,18 +337,16 @@ static LONG_TEXTS: [(&str, Result<&str, PlanTextFault>); 4] = [
 ];
 
 fn is_read(alloc: Global, text: &str, expected: Result<&str, PlanTextFault>) -> bool {
-    let read = twice!(PlanTextFault::NoMemory, read_path(alloc, text.as_bytes()));
-    match (read, expected) {
-        (Ok(path), Ok(lines)) => appends!(alloc, lines, |text| print_path(text, &path)),
-        (Err(fault), Err(expected)) => fault == expected,
-        _ => false,
+    match path_in(alloc, text) {
+        Ok(path) => paths::is_printed(alloc, &path, expected.unwrap_or("")),
+        Err(fault) => expected.err() == Some(fault),
     }
 }
 
 #[test]
 fn reads_paths_of_any_length(rt: HostRuntime) {
     for (text, expected) in &LONG_TEXTS {
-        assert!(rt; is_read(rt.alloc(), *text, *expected), "{text}");
+        holds_at(&rt, *text, is_read(rt.alloc(), *text, *expected));
     }
 }
 
@@ -355,8 +367,8 @@ static TOKENS_OF_STEPS: [(&str, &str, &str); 5] = [
     ("simple", "simple", ""),
 ];
 
-// Whether a step has this command and these changes.
-fn is_step(alloc: Global, step: Option<&Step>, command: &str, changes: &str) -> bool {
+/// Whether there is a step with this command and these changes.
+pub(crate) fn is_step(alloc: Global, step: Option<&Step>, command: &str, changes: &str) -> bool {
     let Some(step) = step else {
         return false;
     };
@@ -383,16 +395,17 @@ fn is_no_plan(alloc: Global, text: &str, expected: PlanTextFault) -> bool {
 #[test]
 fn refuses_bad_plan_texts(rt: HostRuntime) {
     for (text, expected) in &NO_PLANS {
-        assert!(rt; is_no_plan(rt.alloc(), *text, *expected), "{text}");
+        holds_at(&rt, *text, is_no_plan(rt.alloc(), *text, *expected));
     }
 }
 
 #[test]
 fn reads_steps(rt: HostRuntime) {
     for (text, command, changes) in &TOKENS_OF_STEPS {
-        assert!(rt;
+        holds_at(
+            &rt,
+            *text,
             begins_with(rt.alloc(), *text, *command, *changes),
-            "{text}"
         );
     }
 }

@@ -1,14 +1,12 @@
 //! The tables and the JSON lines of paths, and whether the paths stall.
-ghost use Rattle.std.specs.Prelude.{◌≡◌, true};
-ghost use Rattle.conf_change.specs.Configuration.{is_restorable};
-
-use crate::paths::{TWO_OF_FIVE, path_between};
+use crate::assertions::{holds, holds_at};
+use crate::paths::{THREE, TWO_OF_FIVE, config_at, ids, path_between};
 use conf_change::Config;
 use conf_plan::{Path, Strategy};
 use plan_output::{Output, add_no_plan_line, add_path, stalls};
-use quorum_sets::{InlineIds, MemberSet, NoMemory};
+use quorum_sets::{InlineIds, NoMemory};
 use std::alloc::Global;
-use test_support::restoring::{FIVE, changer_at};
+use test_support::restoring::FIVE;
 use test_support::{appends, twice};
 
 // The current configuration, the target, the strategy of the path, the ids that are down if there are any, the output
@@ -22,8 +20,6 @@ struct Row {
     text: &'static str,
     stalls: bool,
 }
-
-const THREE: &str = "Voters:[1 2 3] VotersOutgoing:[] Learners:[] LearnersNext:[] AutoLeave:false";
 
 // Five voters, in which 6 and 7 replace 4 and 5.
 const OTHERS_OF_FIVE: &str =
@@ -293,9 +289,7 @@ fn is_printed(
     now: &Config<InlineIds>,
     path: &Path,
     down: &InlineIds,
-) -> bool
-    requires { is_restorable now.now ≡ true }
-{
+) -> bool {
     let named = if row.down.is_empty() {
         None
     } else {
@@ -315,9 +309,7 @@ fn is_row(
     now: &Config<InlineIds>,
     target: &Config<InlineIds>,
     down: &InlineIds,
-) -> bool
-    requires { is_restorable now.now ≡ true }
-{
+) -> bool {
     match path_between(alloc, row.strategy, now, target, down) {
         Some(path) => is_printed(alloc, row, now, &path, down),
         None => false,
@@ -325,18 +317,10 @@ fn is_row(
 }
 
 fn is_row_over(alloc: Global, row: &Row) -> bool {
-    let now = changer_at::<InlineIds>(alloc, row.now);
-    let target = changer_at::<InlineIds>(alloc, row.target);
-    match twice!(NoMemory, InlineIds::of_list(alloc, row.down)) {
-        Ok(down) => is_row(
-            alloc,
-            row,
-            now.tracker().config(),
-            target.tracker().config(),
-            &down,
-        ),
-        Err(_) => false,
-    }
+    let now = config_at(alloc, row.now);
+    let target = config_at(alloc, row.target);
+    let down = ids(alloc, row.down);
+    is_row(alloc, row, &now, &target, &down)
 }
 
 fn is_no_plan_line(alloc: Global, number: u64, why: &str, expected: &str) -> bool {
@@ -350,7 +334,7 @@ fn is_no_plan_line(alloc: Global, number: u64, why: &str, expected: &str) -> boo
 #[test]
 fn prints_paths(rt: HostRuntime) {
     for (index, row) in ROWS.iter().enumerate() {
-        assert!(rt; is_row_over(rt.alloc(), row), "row {index}");
+        holds_at(&rt, index, is_row_over(rt.alloc(), row));
     }
 }
 
@@ -358,5 +342,5 @@ fn prints_paths(rt: HostRuntime) {
 fn prints_lines_without_a_path(rt: HostRuntime) {
     let why = "the target is joint";
     let expected = "{\"no_plan\":\"the target is joint\",\"plan\":7}\n";
-    assert!(rt; is_no_plan_line(rt.alloc(), 7, why, expected));
+    holds(&rt, is_no_plan_line(rt.alloc(), 7, why, expected));
 }

@@ -1,10 +1,12 @@
 //! The notes that paths stall.
-use crate::paths::{TWO_OF_FIVE, path_between};
-use conf_plan::Strategy;
+use crate::assertions::holds_at;
+use crate::paths::{THREE, TWO_OF_FIVE, config_at, ids, path_between};
+use conf_change::Config;
+use conf_plan::{Path, Strategy};
 use plan_output::stall_note;
-use quorum_sets::{InlineIds, MemberSet, NoMemory};
+use quorum_sets::{InlineIds, NoMemory};
 use std::alloc::Global;
-use test_support::restoring::{FIVE, changer_at};
+use test_support::restoring::FIVE;
 use test_support::twice;
 
 // The current configuration, the target, the ids that are down, and the note of the shortest path, if it stalls.
@@ -14,8 +16,6 @@ type Row = (
     &'static [u64],
     Option<&'static str>,
 );
-
-const THREE: &str = "Voters:[1 2 3] VotersOutgoing:[] Learners:[] LearnersNext:[] AutoLeave:false";
 
 static ROWS: [Row; 7] = [
     (FIVE, TWO_OF_FIVE, &[], None),
@@ -61,27 +61,43 @@ fn is_note(note: Option<&Vec<u8>>, expected: Option<&str>) -> bool {
     }
 }
 
-fn has_note(alloc: Global, row: &Row) -> bool {
-    let (now, target, down, expected) = row;
-    let current = changer_at::<InlineIds>(alloc, now);
-    let wanted = changer_at::<InlineIds>(alloc, target);
-    let now = current.tracker().config();
-    let target = wanted.tracker().config();
-    let Ok(down) = twice!(NoMemory, InlineIds::of_list(alloc, down)) else {
-        return false;
-    };
-    let Some(path) = path_between(alloc, Strategy::Shortest, now, target, &down) else {
-        return false;
-    };
-    match twice!(NoMemory, stall_note(alloc, now, &path, Some(&down))) {
-        Ok(note) => is_note(note.as_ref(), *expected),
+// Whether the shortest path from a configuration has this note, or none.
+fn has_note(
+    alloc: Global,
+    now: &Config<InlineIds>,
+    path: &Path,
+    down: &InlineIds,
+    expected: Option<&str>,
+) -> bool {
+    match twice!(NoMemory, stall_note(alloc, now, path, Some(down))) {
+        Ok(note) => is_note(note.as_ref(), expected),
         Err(_) => false,
     }
+}
+
+fn is_row_from(
+    alloc: Global,
+    row: &Row,
+    now: &Config<InlineIds>,
+    target: &Config<InlineIds>,
+    down: &InlineIds,
+) -> bool {
+    match path_between(alloc, Strategy::Shortest, now, target, down) {
+        Some(path) => has_note(alloc, now, &path, down, row.3),
+        None => false,
+    }
+}
+
+fn is_row(alloc: Global, row: &Row) -> bool {
+    let now = config_at(alloc, row.0);
+    let target = config_at(alloc, row.1);
+    let down = ids(alloc, row.2);
+    is_row_from(alloc, row, &now, &target, &down)
 }
 
 #[test]
 fn notes_that_paths_stall(rt: HostRuntime) {
     for (index, row) in ROWS.iter().enumerate() {
-        assert!(rt; has_note(rt.alloc(), row), "row {index}");
+        holds_at(&rt, index, is_row(rt.alloc(), row));
     }
 }

@@ -4,6 +4,7 @@ ghost use Rattle.std.specs.Prelude.{◌≡◌, ◌≤◌, true};
 ghost use Rattle.conf_change.specs.Configuration.{is_valid};
 
 use crate::ample::configurations::config_of;
+use crate::assertions::holds_at;
 use conf_change::{Change, Changer, Config, Kind, Step, StepKind, check, conf_state};
 use conf_plan::{NoPath, Path, Strategy, plan_by};
 use quorum_sets::{MemberSet, TreeIds};
@@ -75,6 +76,19 @@ fn changer_at(rt: &impl Runtime, config: &Config<TreeIds>) -> Changer<TreeIds> {
     Changer::restore(rt.alloc(), &state, 0).expect(rt, "a changer")
 }
 
+// The code of the configuration that a step leads to, if the step is accepted.
+fn next_code(
+    rt: &impl Runtime,
+    before: &Changer<TreeIds>,
+    kind: StepKind,
+    changes: &[Change],
+) -> Option<usize> {
+    let mut after = Changer::new(rt.alloc(), 0);
+    let is_accepted = after.become_next(before, kind, changes).is_ok();
+    let code = code_of(after.tracker().config());
+    is_accepted.then_some(code)
+}
+
 // Adds the configuration that a step leads to, if the step is accepted.
 fn add_next(
     rt: &impl Runtime,
@@ -83,11 +97,8 @@ fn add_next(
     kind: StepKind,
     changes: &[Change],
 ) {
-    let mut after = Changer::new(rt.alloc(), 0);
-    if after.become_next(before, kind, changes).is_ok() {
-        nexts
-            .push(code_of(after.tracker().config()))
-            .expect(rt, "a code");
+    if let Some(code) = next_code(rt, before, kind, changes) {
+        nexts.push(code).expect(rt, "a code");
     }
 }
 
@@ -157,14 +168,17 @@ struct Graph {
     single: Vec<Vec<usize>>,
 }
 
-fn add_config(rt: &impl Runtime, graph: &mut Graph, config: Config<TreeIds>) {
-    let mut all = Vec::new(rt.alloc());
-    let mut single = Vec::new(rt.alloc());
-    if is_counted(&config) {
-        let changer = changer_at(rt, &config);
-        all = all_nexts(rt, &changer);
-        single = single_nexts(rt, &changer);
+fn nexts_of(rt: &impl Runtime, config: &Config<TreeIds>) -> (Vec<usize>, Vec<usize>) {
+    if is_counted(config) {
+        let changer = changer_at(rt, config);
+        (all_nexts(rt, &changer), single_nexts(rt, &changer))
+    } else {
+        (Vec::new(rt.alloc()), Vec::new(rt.alloc()))
     }
+}
+
+fn add_config(rt: &impl Runtime, graph: &mut Graph, config: Config<TreeIds>) {
+    let (all, single) = nexts_of(rt, &config);
     graph.configs.push(config).expect(rt, "a configuration");
     graph.all.push(all).expect(rt, "codes");
     graph.single.push(single).expect(rt, "codes");
@@ -220,13 +234,16 @@ fn is_accepted(changer: &mut Changer<TreeIds>, step: Option<&Step>) -> bool {
     }
 }
 
-fn leads(rt: &impl Runtime, now: &Config<TreeIds>, target: &Config<TreeIds>, path: &Path) -> bool {
-    let mut changer = changer_at(rt, now);
+fn leads_from(changer: &mut Changer<TreeIds>, target: &Config<TreeIds>, path: &Path) -> bool {
     let mut is_so = true;
     for index in 0..path.len() {
-        is_so &= is_accepted(&mut changer, path.step(index));
+        is_so &= is_accepted(changer, path.step(index));
     }
     is_so & changer.tracker().config().same(target)
+}
+
+fn leads(rt: &impl Runtime, now: &Config<TreeIds>, target: &Config<TreeIds>, path: &Path) -> bool {
+    leads_from(&mut changer_at(rt, now), target, path)
 }
 
 // How many steps the path by a strategy has; `NOWHERE` if it does not lead to the target.
@@ -294,7 +311,7 @@ fn paths_have_the_fewest_steps(rt: HostRuntime) {
     let graph = graph_of_all(&rt);
     for (code, now) in graph.configs.iter().enumerate() {
         if check(now).is_ok() && now.incoming.len() != 0 {
-            assert!(rt; are_pairs(&rt, &graph, code, now), "from {code}");
+            holds_at(&rt, code, are_pairs(&rt, &graph, code, now));
         }
     }
 }

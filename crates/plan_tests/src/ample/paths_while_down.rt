@@ -1,10 +1,9 @@
 //! Paths that are made while ids are down, and paths of one change each.
-ghost use Rattle.std.specs.Prelude.{◌≡◌, true};
-ghost use Rattle.conf_change.specs.Configuration.{is_valid};
-
 use crate::ample::configurations::{Sets, config_of, set_of};
-use conf_change::{Config, check};
-use conf_plan::{Path, Strategy, plan_by, print_path};
+use crate::assertions::holds_at;
+use crate::paths::{is_printed, path_between};
+use conf_change::Config;
+use conf_plan::{Path, Strategy};
 use quorum_sets::TreeIds;
 use test_support::runtime::Runtime;
 
@@ -117,34 +116,32 @@ static ROWS: [Row; 10] = [
     ),
 ];
 
-fn is_printed(rt: &impl Runtime, path: &Path, expected: &str) -> bool {
-    let mut text = Vec::new(rt.alloc());
-    print_path(&mut text, path).expect(rt, "a text");
-    text.as_slice() == expected.as_bytes()
+fn path_from(
+    rt: &impl Runtime,
+    row: &Row,
+    now: &Config<TreeIds>,
+    target: &Config<TreeIds>,
+) -> Path {
+    let down = set_of(rt, row.3);
+    path_between(rt.alloc(), row.0, now, target, &down).expect(rt, "a path")
+}
+
+fn path_of(rt: &impl Runtime, row: &Row) -> Path {
+    let now = config_of(rt, row.1, false);
+    let target = config_of(rt, row.2, false);
+    path_from(rt, row, &now, &target)
 }
 
 // Whether the path has these lines, and the path of one change each has those.
-fn has_lines(rt: &impl Runtime, row: &Row, now: &Config<TreeIds>, target: &Config<TreeIds>) -> bool
-    requires now { is_valid now.now ≡ true }
-    requires target { is_valid target.now ≡ true }
-{
-    let (strategy, _, _, down, lines, lines_of_one) = row;
-    let down = set_of(rt, *down);
-    let path = plan_by(rt.alloc(), *strategy, now, target, Some(&down));
-    let path = path.expect(rt, "a path");
-    let each = path.one_change_each(rt.alloc()).expect(rt, "a path");
-    is_printed(rt, &path, *lines) & is_printed(rt, &each, *lines_of_one)
-}
-
 fn is_path(rt: &impl Runtime, row: &Row) -> bool {
-    let now = config_of(rt, row.1, false);
-    let target = config_of(rt, row.2, false);
-    check(&now).is_ok() && check(&target).is_ok() && has_lines(rt, row, &now, &target)
+    let path = path_of(rt, row);
+    let each = path.one_change_each(rt.alloc()).expect(rt, "a path");
+    is_printed(rt.alloc(), &path, row.4) & is_printed(rt.alloc(), &each, row.5)
 }
 
 #[test]
 fn makes_paths_while_ids_are_down(rt: HostRuntime) {
     for (index, row) in ROWS.iter().enumerate() {
-        assert!(rt; is_path(&rt, row), "row {index}");
+        holds_at(&rt, index, is_path(&rt, row));
     }
 }

@@ -1,19 +1,21 @@
 //! Applying plans and paths, and their texts; where there is no path, and which members have to catch up.
-ghost use Rattle.std.specs.Prelude.{◌≡◌, true};
-ghost use Rattle.conf_change.specs.Configuration.{is_valid};
-
-use crate::ample::configurations::{Sets, config_of, set_of};
-use conf_change::{Change, Changer, Config, Kind, Refused, check};
+use crate::ample::configurations::{Sets, config_of};
+use crate::assertions::holds_at;
+use crate::plans;
+use conf_change::{Change, Changer, Config, Kind, Refused, Step, check};
 use conf_plan::{
-    NoPath, Plan, StepRefused, Strategy, apply_path, apply_plan, catching_up, plan_by, print_plan,
-    read_path, read_plan,
+    NoPath, Path, Plan, StepRefused, Strategy, apply_path, apply_plan, catching_up, plan_by,
 };
-use quorum_sets::{TreeIds, symdiff};
-use test_support::equal::has_steps;
+use quorum_sets::TreeIds;
+use test_support::equal::{has_ids, has_steps};
 use test_support::runtime::Runtime;
 
 fn plan_of(rt: &impl Runtime, text: &str) -> Plan {
-    read_plan(rt.alloc(), text.as_bytes()).expect(rt, "a plan")
+    plans::plan_of(rt.alloc(), text).expect(rt, "a plan")
+}
+
+fn path_in(rt: &impl Runtime, text: &str) -> Path {
+    plans::path_in(rt.alloc(), text).expect(rt, "a path")
 }
 
 const ONE: Sets = [&[1], &[], &[], &[]];
@@ -31,48 +33,55 @@ fn one_voter(rt: &impl Runtime) -> Changer<TreeIds> {
     changer
 }
 
-// Whether applying a text's plan to a changer at `voters=(1)` has this result, and leaves it with these voters.
-fn is_stopped(
-    rt: &impl Runtime,
-    text: &str,
-    expected: Result<(), StepRefused>,
-    voters: Sets,
-) -> bool {
+const TWO_OF_THREE: Sets = [&[2, 3], &[], &[4], &[]];
+
+type Stopped = Result<(), StepRefused>;
+
+// Texts that are applied one after another to a changer at `voters=(1)`, the step of the last one that is refused, if
+// one is, and the configuration afterwards.
+type Row = (&'static [&'static str], Option<usize>, Sets);
+
+static PLANS: [Row; 3] = [
+    (&["simple v2\nleave-joint"], Some(2), TWO),
+    (&["simple v2"], None, TWO),
+    (&["nothing to do"], None, ONE),
+];
+
+fn apply_plans(rt: &impl Runtime, changer: &mut Changer<TreeIds>, texts: &[&str]) -> Stopped {
+    let mut stopped = Ok(());
+    for text in texts {
+        stopped = apply_plan(changer, &plan_of(rt, *text));
+    }
+    stopped
+}
+
+// Whether a step was refused as in a row, and the changer has the configuration of the row.
+fn ends_as(rt: &impl Runtime, stopped: Stopped, changer: &Changer<TreeIds>, row: &Row) -> bool {
+    let expected = match row.1 {
+        Some(step) => Err(StepRefused {
+            step,
+            refused: Refused::NotJoint,
+        }),
+        None => Ok(()),
+    };
+    (stopped == expected)
+        & changer
+            .tracker()
+            .config()
+            .same(&config_of(rt, row.2, false))
+}
+
+fn are_plans_applied(rt: &impl Runtime, row: &Row) -> bool {
     let mut changer = one_voter(rt);
-    let stopped = apply_plan(&mut changer, &plan_of(rt, text));
-    let config = config_of(rt, voters, false);
-    (stopped == expected) & changer.tracker().config().same(&config)
+    let stopped = apply_plans(rt, &mut changer, row.0);
+    ends_as(rt, stopped, &changer, row)
 }
 
 #[test]
 fn stops_at_the_first_step_that_is_refused(rt: HostRuntime) {
-    let refused = Refused::NotJoint;
-    let stop = Err(StepRefused { step: 2, refused });
-    assert!(rt;
-        is_stopped(&rt, "simple v2\nleave-joint", stop, TWO)
-            & is_stopped(&rt, "simple v2", Ok(()), TWO)
-            & is_stopped(&rt, "nothing to do", Ok(()), ONE)
-    );
-}
-
-const TWO_OF_THREE: Sets = [&[2, 3], &[], &[4], &[]];
-
-// Whether applying texts of paths one after another to a changer at `voters=(1)` ends in this result, and leaves it with
-// these voters.
-fn ends_with(
-    rt: &impl Runtime,
-    texts: &[&str],
-    expected: Result<(), StepRefused>,
-    voters: Sets,
-) -> bool {
-    let mut changer = one_voter(rt);
-    let mut stopped = Ok(());
-    for text in texts {
-        let path = read_path(rt.alloc(), text.as_bytes()).expect(rt, "a path");
-        stopped = apply_path(&mut changer, &path);
+    for (index, row) in PLANS.iter().enumerate() {
+        holds_at(&rt, index, are_plans_applied(&rt, row));
     }
-    let config = config_of(rt, voters, false);
-    (stopped == expected) & changer.tracker().config().same(&config)
 }
 
 const FIRST_STEPS: &str = "simple l2\nsimple v2\n";
@@ -81,24 +90,39 @@ const OTHER_STEPS: &str = "simple l3\nsimple v3\nsimple r1\nsimple l4\n";
 
 const ALL_STEPS: &str = "simple l2\nsimple v2\nsimple l3\nsimple v3\nsimple r1\nsimple l4\n";
 
+const TOO_MANY: &str =
+    "simple l2\nsimple v2\nsimple l3\nsimple v3\nsimple r1\nsimple l4\nleave-joint\n";
+
+static PATHS: [Row; 4] = [
+    (&[ALL_STEPS], None, TWO_OF_THREE),
+    (&[FIRST_STEPS, OTHER_STEPS], None, TWO_OF_THREE),
+    (&[TOO_MANY], Some(7), TWO_OF_THREE),
+    (
+        &[ALL_STEPS, "simple\nsimple\nleave-joint"],
+        Some(3),
+        TWO_OF_THREE,
+    ),
+];
+
+fn apply_paths(rt: &impl Runtime, changer: &mut Changer<TreeIds>, texts: &[&str]) -> Stopped {
+    let mut stopped = Ok(());
+    for text in texts {
+        stopped = apply_path(changer, &path_in(rt, *text));
+    }
+    stopped
+}
+
+fn are_paths_applied(rt: &impl Runtime, row: &Row) -> bool {
+    let mut changer = one_voter(rt);
+    let stopped = apply_paths(rt, &mut changer, row.0);
+    ends_as(rt, stopped, &changer, row)
+}
+
 #[test]
 fn applies_paths_of_any_length(rt: HostRuntime) {
-    let refused = Refused::NotJoint;
-    let seventh = Err(StepRefused { step: 7, refused });
-    let third = Err(StepRefused { step: 3, refused });
-    let too_many =
-        "simple l2\nsimple v2\nsimple l3\nsimple v3\nsimple r1\nsimple l4\nleave-joint\n";
-    assert!(rt;
-        ends_with(&rt, &[ALL_STEPS], Ok(()), TWO_OF_THREE)
-            & ends_with(&rt, &[FIRST_STEPS, OTHER_STEPS], Ok(()), TWO_OF_THREE)
-            & ends_with(&rt, &[too_many], seventh, TWO_OF_THREE)
-            & ends_with(
-                &rt,
-                &[ALL_STEPS, "simple\nsimple\nleave-joint"],
-                third,
-                TWO_OF_THREE
-            )
-    );
+    for (index, row) in PATHS.iter().enumerate() {
+        holds_at(&rt, index, are_paths_applied(&rt, row));
+    }
 }
 
 // Texts, and the lines of the plans that they are parsed as.
@@ -137,21 +161,16 @@ fn equals_only_itself(rt: &impl Runtime, index: usize, plan: &Plan) -> bool {
     is_so
 }
 
-fn is_printed(rt: &impl Runtime, plan: &Plan, expected: &str) -> bool {
-    let mut text = Vec::new(rt.alloc());
-    print_plan(&mut text, plan).is_ok() & (text.as_slice() == expected.as_bytes())
-}
-
 // Whether a text's plan is printed as its lines, and equals only the plan at its own index.
 fn is_read(rt: &impl Runtime, index: usize, text: &str, expected: &str) -> bool {
     let plan = plan_of(rt, text);
-    is_printed(rt, &plan, expected) & equals_only_itself(rt, index, &plan)
+    plans::is_printed(rt.alloc(), &plan, expected) & equals_only_itself(rt, index, &plan)
 }
 
 #[test]
 fn prints_what_it_reads(rt: HostRuntime) {
     for (index, (text, expected)) in TEXTS.iter().enumerate() {
-        assert!(rt; is_read(&rt, index, *text, *expected), "row {index}");
+        holds_at(&rt, index, is_read(&rt, index, *text, *expected));
     }
 }
 
@@ -166,7 +185,9 @@ const JOINT: Sets = [&[1], &[2], &[], &[]];
 const TWO_TO_COME: Sets = [&[2, 3], &[1], &[], &[]];
 
 // A strategy that has no path from one configuration to another, and why.
-static NO_PATHS: [(Strategy, Sets, Sets, NoPath); 12] = [
+type Refusal = (Strategy, Sets, Sets, NoPath);
+
+static NO_PATHS: [Refusal; 12] = [
     (Strategy::Shortest, NO_MEMBERS, ONE, NoPath::NoVoterNow),
     (
         Strategy::Shortest,
@@ -206,47 +227,38 @@ static NO_PATHS: [(Strategy, Sets, Sets, NoPath); 12] = [
     ),
 ];
 
-// Why there is no path between two configurations.
-fn no_path(
+// Whether there is no path between two valid configurations, for this reason.
+fn has_no_path(
     rt: &impl Runtime,
     strategy: Strategy,
     now: &Config<TreeIds>,
     target: &Config<TreeIds>,
-) -> Option<NoPath>
-    requires now { is_valid now.now ≡ true }
-    requires target { is_valid target.now ≡ true }
-{
-    plan_by(rt.alloc(), strategy, now, target, None).err()
-}
-
-fn is_without_path(
-    rt: &impl Runtime,
-    strategy: Strategy,
-    now: Sets,
-    target: Sets,
     expected: NoPath,
 ) -> bool {
-    let now = config_of(rt, now, false);
-    let target = config_of(rt, target, false);
-    check(&now).is_ok()
-        && check(&target).is_ok()
-        && no_path(rt, strategy, &now, &target) == Some(expected)
+    check(now).is_ok()
+        && check(target).is_ok()
+        && plan_by(rt.alloc(), strategy, now, target, None).err() == Some(expected)
+}
+
+fn is_without_path(rt: &impl Runtime, row: &Refusal) -> bool {
+    let now = config_of(rt, row.1, false);
+    let target = config_of(rt, row.2, false);
+    has_no_path(rt, row.0, &now, &target, row.3)
 }
 
 #[test]
 fn reports_why_there_is_no_path(rt: HostRuntime) {
-    for (row, (strategy, now, target, expected)) in NO_PATHS.iter().enumerate() {
-        assert!(rt;
-            is_without_path(&rt, *strategy, *now, *target, *expected),
-            "row {row}"
-        );
+    for (index, row) in NO_PATHS.iter().enumerate() {
+        holds_at(&rt, index, is_without_path(&rt, row));
     }
 }
 
 const ONE_DEMOTED: Sets = [&[1, 2], &[], &[3], &[]];
 
 // A configuration, a step, the configuration that it gives, and the members that have to catch up then.
-static CATCHING_UP: [(Sets, &str, Sets, &[u64]); 4] = [
+type CatchingUp = (Sets, &'static str, Sets, &'static [u64]);
+
+static CATCHING_UP: [CatchingUp; 4] = [
     (
         FIVE,
         "enter-joint autoleave=false r1 r2 v6 v7",
@@ -268,21 +280,39 @@ static CATCHING_UP: [(Sets, &str, Sets, &[u64]); 4] = [
     ),
 ];
 
-fn catch_up(rt: &impl Runtime, before: Sets, text: &str, after: Sets, expected: &[u64]) -> bool {
-    let before: Config<TreeIds> = config_of(rt, before, false);
-    let after = config_of(rt, after, false);
-    let plan = plan_of(rt, text);
-    let step = plan.step(0).expect(rt, "a step");
-    let ids = catching_up(rt.alloc(), &before, step, &after).expect(rt, "a set");
-    symdiff(&ids, &set_of(rt, expected)) == 0
+fn catch_up(
+    rt: &impl Runtime,
+    before: &Config<TreeIds>,
+    step: &Step,
+    after: &Config<TreeIds>,
+    expected: &[u64],
+) -> bool {
+    let ids = catching_up(rt.alloc(), before, step, after).expect(rt, "a set");
+    has_ids(&ids, expected)
+}
+
+fn catch_up_after(
+    rt: &impl Runtime,
+    before: &Config<TreeIds>,
+    plan: &Plan,
+    row: &CatchingUp,
+) -> bool {
+    let after = config_of(rt, row.2, false);
+    match plan.step(0) {
+        Some(step) => catch_up(rt, before, step, &after, row.3),
+        None => false,
+    }
+}
+
+fn are_catching_up(rt: &impl Runtime, row: &CatchingUp) -> bool {
+    let before = config_of(rt, row.0, false);
+    let plan = plan_of(rt, row.1);
+    catch_up_after(rt, &before, &plan, row)
 }
 
 #[test]
 fn members_without_progress_catch_up(rt: HostRuntime) {
-    for (row, (before, text, after, expected)) in CATCHING_UP.iter().enumerate() {
-        assert!(rt;
-            catch_up(&rt, *before, *text, *after, *expected),
-            "row {row}"
-        );
+    for (index, row) in CATCHING_UP.iter().enumerate() {
+        holds_at(&rt, index, are_catching_up(&rt, row));
     }
 }

@@ -1,9 +1,11 @@
 //! The stages of a path.
 use crate::ample::configurations::{Sets, config_of, set_of};
-use conf_change::{Changer, Config, conf_state};
-use conf_plan::{Strategy, plan_by};
+use crate::assertions::{holds, holds_at};
+use crate::paths::shortest_path;
+use conf_change::Config;
 use plan_output::{Stage, stages};
-use quorum_sets::{InlineIds, symdiff};
+use quorum_sets::InlineIds;
+use test_support::equal::has_ids;
 use test_support::runtime::Runtime;
 
 // The configuration of a stage, who has to catch up, how many ids may be down, how many until then, and how many besides
@@ -29,36 +31,41 @@ static ROWS: [Row; 3] = [
     (TARGET, &[], Some(1), Some(1), Some(0)),
 ];
 
-fn is_stage(rt: &impl Runtime, stage: &Stage, row: &Row) -> bool {
-    let (sets, catching_up, may_be_down, while_catching_up, besides) = row;
-    stage.config().same(&config_of(rt, *sets, false))
-        & (symdiff(stage.catching_up(), &set_of(rt, *catching_up)) == 0)
-        & (stage.may_be_down() == *may_be_down)
-        & (stage.while_catching_up() == *while_catching_up)
-        & (stage.may_be_down_besides(&set_of(rt, &[3])) == Ok(*besides))
+fn has_config(rt: &impl Runtime, stage: &Stage, sets: Sets) -> bool {
+    stage.config().same(&config_of(rt, sets, false))
 }
 
-fn changer_at(rt: &impl Runtime, sets: Sets) -> Changer<InlineIds> {
-    let config: Config<InlineIds> = config_of(rt, sets, false);
-    let state = conf_state(rt.alloc(), &config).expect(rt, "a ConfState");
-    Changer::restore(rt.alloc(), &state, 0).expect(rt, "a changer")
+fn may_be_down_besides_3(rt: &impl Runtime, stage: &Stage) -> Option<usize> {
+    let three = set_of(rt, &[3]);
+    stage.may_be_down_besides(&three).expect(rt, "a number")
+}
+
+fn is_stage(rt: &impl Runtime, stage: &Stage, row: &Row) -> bool {
+    let (sets, catching_up, may_be_down, while_catching_up, besides) = row;
+    has_config(rt, stage, *sets)
+        & has_ids(stage.catching_up(), *catching_up)
+        & (stage.may_be_down() == *may_be_down)
+        & (stage.while_catching_up() == *while_catching_up)
+        & (may_be_down_besides_3(rt, stage) == *besides)
+}
+
+// The stages of the shortest path.
+fn stages_between(
+    rt: &impl Runtime,
+    now: &Config<InlineIds>,
+    target: &Config<InlineIds>,
+) -> Vec<Stage> {
+    let path = shortest_path(rt.alloc(), now, target).expect(rt, "a path");
+    stages(rt.alloc(), now, &path).expect(rt, "the stages")
 }
 
 #[test]
 fn has_the_stages_of_a_path(rt: HostRuntime) {
-    let (current, target) = (changer_at(&rt, NOW), changer_at(&rt, TARGET));
-    let now = current.tracker().config();
-    let path = plan_by(
-        rt.alloc(),
-        Strategy::Shortest,
-        now,
-        target.tracker().config(),
-        None,
-    );
-    let path = path.expect(&rt, "a path");
-    let stages = stages(rt.alloc(), now, &path).expect(&rt, "the stages");
-    assert!(rt; stages.len() == ROWS.len());
+    let now = config_of(&rt, NOW, false);
+    let target = config_of(&rt, TARGET, false);
+    let stages = stages_between(&rt, &now, &target);
+    holds(&rt, stages.len() == ROWS.len());
     for (index, (stage, row)) in stages.iter().zip(&ROWS).enumerate() {
-        assert!(rt; is_stage(&rt, stage, row), "stage {index}");
+        holds_at(&rt, index, is_stage(&rt, stage, row));
     }
 }

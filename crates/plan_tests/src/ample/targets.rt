@@ -1,11 +1,11 @@
 //! What is printed of a text that is not a target of (1 2 3).
-ghost use Rattle.std.specs.Prelude.{◌≡◌, true, IfSome};
-ghost use Rattle.conf_change.specs.Configuration.{is_valid};
-
+use crate::assertions::{holds, holds_at};
+use crate::paths::{THREE, config_at};
 use conf_change::Config;
-use plan_input::{IdHint, read_current, read_target};
+use plan_input::{IdHint, TextFault, read_target};
 use quorum_sets::InlineIds;
 use std::alloc::Global;
+use std::fmt::Display;
 use test_support::runtime::Runtime;
 
 const CHANGES: &str =
@@ -127,45 +127,49 @@ static MESSAGES: [(&str, &str, &str, &str); 24] = [
     ),
 ];
 
-fn three(alloc: Global) -> Option<Config<InlineIds>>
-    ensures { IfSome result (λ c. is_valid c ≡ true) }
-{
-    Some(read_current(alloc, b"voters=(1 2 3)").ok()?.config)
+// Whether a text is refused as a target of (1 2 3), with this message.
+fn is_refused(rt: &impl Runtime, text: &str, message: &str) -> bool {
+    match target_of_three(rt.alloc(), text) {
+        Err(fault) => is_shown(rt, &fault, message),
+        Ok(_) => false,
+    }
 }
 
-// What is printed of the text as a target.
-fn is_refused(rt: &impl Runtime, text: &str, message: &str) -> bool {
-    let Some(now) = three(rt.alloc()) else {
-        return false;
+fn target_of_three(alloc: Global, text: &str) -> Result<Config<InlineIds>, TextFault> {
+    let now = config_at(alloc, THREE);
+    read_target(alloc, &now, text.as_bytes())
+}
+
+// Whether this is what is printed of a value.
+fn is_shown<T: Display>(rt: &impl Runtime, value: &T, message: &str) -> bool {
+    let shown = format!(in rt.alloc(); "{value}").expect(rt, "a message");
+    shown.as_str() == message
+}
+
+// The message of a row.
+fn message_of(rt: &impl Runtime, first: &str, second: &str, id: &str) -> String {
+    let hint = if id.is_empty() {
+        ""
+    } else {
+        "; ids are decimal: printf '%u\\n' 0x"
     };
-    match read_target(rt.alloc(), &now, text.as_bytes()) {
-        Ok(_) => false,
-        Err(fault) => {
-            format!(in rt.alloc(); "{fault}")
-                .expect(rt, "a message")
-                .as_str()
-                == message
-        }
-    }
+    format!(in rt.alloc(); "{first}{second}{hint}{id}").expect(rt, "a message")
 }
 
 #[test]
 fn prints_why_a_text_is_not_a_target(rt: HostRuntime) {
     for (text, first, second, id) in &MESSAGES {
-        let hint = if id.is_empty() {
-            ""
-        } else {
-            "; ids are decimal: printf '%u\\n' 0x"
-        };
-        let message = format!(in rt.alloc(); "{first}{second}{hint}{id}").expect(&rt, "a message");
-        assert!(rt; is_refused(&rt, *text, message.as_str()), "{}", *text);
+        let message = message_of(&rt, *first, *second, *id);
+        holds_at(&rt, *text, is_refused(&rt, *text, message.as_str()));
     }
 }
 
 #[test]
 fn hints_at_decimal_ids(rt: HostRuntime) {
     let hint = IdHint::new(b"1,8e9e05c52164694d");
-    let shown = format!(in rt.alloc(); "{hint}").expect(&rt, "a hint");
-    assert!(rt; shown.as_str() == "; ids are decimal: printf '%u\\n' 0x8e9e05c52164694d");
-    assert!(rt; IdHint::new(b"1,2") == IdHint::NONE);
+    let shown = "; ids are decimal: printf '%u\\n' 0x8e9e05c52164694d";
+    holds(
+        &rt,
+        is_shown(&rt, &hint, shown) & (IdHint::new(b"1,2") == IdHint::NONE),
+    );
 }
