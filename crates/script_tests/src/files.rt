@@ -167,7 +167,7 @@ fn makes_items(rt: HostRuntime) {
 // Whether a directive with a blank line before its separator is read, and written in both forms.
 fn is_read_and_written(alloc: Global) -> Result<bool, FileFault> {
     let mut reader = Reader::new(alloc)?;
-    match reader.next(&mut FromRead::new(b"vote\n\n----\n"))? {
+    match reader.next(&mut FromRead::new(b"vote\n\n----\n".as_slice()))? {
         Some(item) => Ok(
             is_written(item, false, b"vote\n\n----\na\n")
                 & is_written(item, true, b"vote\n\n----\n----\na\n\n----\n----\n"),
