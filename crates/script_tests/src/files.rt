@@ -95,6 +95,10 @@ const INPUT: &[u8] = b"a\r\n\nbb\nc";
 
 static LINES: [&[u8]; 4] = [b"a", b"", b"bb", b"c"];
 
+fn is_line(line: &Line, text: &[u8]) -> bool {
+    line.as_slice() == text
+}
+
 // Whether a reader gives these lines until memory runs out, and whether memory lasts.
 fn gives_lines(lines: &mut Lines) -> (bool, bool) {
     let mut source = FromRead::new(INPUT);
@@ -102,7 +106,7 @@ fn gives_lines(lines: &mut Lines) -> (bool, bool) {
     let mut has_memory = true;
     for text in &LINES {
         match lines.next(&mut source) {
-            Ok(Some(line)) => is_so &= has_memory & (line.as_slice() == *text),
+            Ok(Some(line)) => is_so &= has_memory & is_line(line, *text),
             Err(FileFault::NoMemory) => has_memory = false,
             _ => is_so = false,
         }
