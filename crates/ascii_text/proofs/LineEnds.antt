@@ -1,5 +1,5 @@
 -- Text without a byte at its end.
-use Rattle.std.proofs.Common.{◌≡◌, ℕ, true, cond, ◌&&◌, ◌⊎◌, inl, inr, List, [], ◌∷◌, ◌++◌, refl, ◌∙◌, ap, eqb-true, arith}
+use Rattle.std.proofs.Common.{◌≡◌, ℕ, true, cond, ◌&&◌, ◌⊎◌, inl, inr, List, [], ◌∷◌, ◌++◌, refl, ap, eqb-true, arith}
 use Rattle.std.specs.Prelude.{◌==◌}
 use Rattle.std.proofs.lemmas.Bool.Decides.{nat_tests}
 use Rattle.ascii_text.specs.WhiteSpace.{is_space, is_blank, without_trailing_space}
@@ -38,6 +38,4 @@ is_blank-without_last c (x ∷ y ∷ ys) h = ap (λ b. is_space x && b) (is_blan
 pub without_trailing_space-without_last : (c : ℕ) (xs : List ℕ) → is_space c ≡ true → without_trailing_space (without_last c xs) ≡ without_trailing_space xs
 without_trailing_space-without_last c [] h = refl
 without_trailing_space-without_last c (x ∷ []) h = grind (arith, h, eqb-true x c)
-without_trailing_space-without_last c (x ∷ y ∷ ys) h =
-    ap (λ b. cond (is_space x && b) [] (x ∷ without_trailing_space (without_last c (y ∷ ys)))) (is_blank-without_last c (y ∷ ys) h)
-    ∙ ap (λ t. cond (is_blank (x ∷ y ∷ ys)) [] (x ∷ t)) (without_trailing_space-without_last c (y ∷ ys) h)
+without_trailing_space-without_last c (x ∷ y ∷ ys) h = grind (arith, cond, is_blank-without_last, without_trailing_space-without_last c (y ∷ ys) h)

@@ -1,5 +1,5 @@
 -- The function that reads a number, against the relation.
-use Rattle.std.proofs.Common.{◌≡◌, ℕ, ◌+◌, ◌*◌, ◌<◌, ◌≤◌, ◌^◌, ◌-◌, true, false, ltb, leb, List, length, take, get_or, Some, None, refl, sym, ap, subst, ◌∙◌, arith, ◌&&◌}
+use Rattle.std.proofs.Common.{◌≡◌, ℕ, ◌+◌, ◌*◌, ◌<◌, ◌≤◌, ◌^◌, ◌-◌, true, false, ltb, leb, List, length, take, get_or, Some, None, sym, ap, subst, ◌∙◌, arith}
 use Rattle.std.specs.Char.{is_ascii_digit}
 use Rattle.std.specs.Int.{IsInRange}
 use Rattle.std.specs.Str.{all_ascii_digits}
@@ -10,41 +10,23 @@ use Rattle.std.proofs.lemmas.Option.{cond_some}
 use Rattle.std.proofs.lemmas.Str.Parse.{IsNumeralModel, numerals_by_value, tells_all_ascii_digits, digits_value-take-le, digit_at}
 use Rattle.std.proofs.lemmas.Int.Digits.{digits_value_more, digits_more}
 use Rattle.std.proofs.lemmas.Str.{digit_value_digit}
-use Rattle.ascii_text.specs.Tokens.{has_bytes}
 use Rattle.ascii_text.specs.Number.{ParsesToNumber, number_in}
 
 model : IsNumeralModel (λ ds. all_ascii_digits ds ≡ true) (digits_value 10)
 model = numerals_by_value _ tells_all_ascii_digits
 
 pub number_in-ok : (digits : List ℕ) (number : ℕ) → ParsesToNumber digits number → number_in digits ≡ Some number
-number_in-ok digits number h =
-    rw (lt-ltb 0 (length digits) h.numeral.0, model.from digits h.numeral.1, h.value, lt-ltb number (2 ^ 64) h.in_range) refl
+number_in-ok digits number h = grind (arith, lt-ltb, length, model)
 
 pub ParsesToNumber-from_some : (digits : List ℕ) (number : ℕ) → number_in digits ≡ Some number → ParsesToNumber digits number
-ParsesToNumber-from_some digits number e =
-    let value = digits_value 10 digits in
-    let found = cond_some (has_bytes digits && all_ascii_digits digits && ltb value (2 ^ 64)) value number e in
-    let tests = and_parts (has_bytes digits && all_ascii_digits digits) (ltb value (2 ^ 64)) found.0 in
-    let shape = and_parts (has_bytes digits) (all_ascii_digits digits) tests.0 in
-    record {
-      numeral = (ltb-true 0 (length digits) shape.0, model.to digits shape.1);
-      value = found.1;
-      in_range = let below = ltb-true value (2 ^ 64) tests.1 in omega (arith, found.1);
-    }
+ParsesToNumber-from_some digits number e = grind (arith, cond_some, ltb, and_parts, ltb-true, length, model)
 
 pub number_in-none : (digits : List ℕ) → ((number : ℕ) → ¬ (ParsesToNumber digits number)) → number_in digits ≡ None
-number_in-none digits none =
-    elim (number_in digits) as (λ o. number_in digits ≡ o → o ≡ None) [
-      | None ↦ λ _. refl
-      | Some number ↦ λ e. absurd (none number (ParsesToNumber-from_some digits number e))
-    ] refl
+number_in-none digits none = grind (arith, ParsesToNumber-from_some)
 
 -- a byte that is no digit
 pub number_in-none_at : (digits : List ℕ) (i : ℕ) → i < length digits → is_ascii_digit (get_or digits i 0) ≡ false → number_in digits ≡ None
-number_in-none_at digits i within other = number_in-none digits (λ number h.
-    let digit = digit_at digits i h.numeral.1 within in
-    let byte = get_or digits i 0 in
-    true≢false (sym (and_from (leb 48 byte) (leb byte 57) (le-leb 48 byte digit.0) (le-leb byte 57 digit.1)) ∙ other))
+number_in-none_at digits i within other = grind (arith, number_in-none, digit_at, get_or, true≢false, and_from, leb, le-leb)
 
 -- ---- digits that are read one after another
 -- the first i bytes are digits whose value is n

@@ -17,9 +17,7 @@ onto_first-append b (p ∷ ps) qs h = refl
 
 split-at_space : (prefix : List ℕ) (b : ℕ) (back : List ℕ) → is_space b ≡ true → slice_split is_space (prefix ++ b ∷ back) ≡ slice_split is_space prefix ++ slice_split is_space back
 split-at_space [] b back h = ap (λ c. cond c ([] ∷ slice_split is_space back) (onto_first b (slice_split is_space back))) h
-split-at_space (x ∷ prefix) b back h =
-    let onto = onto_first-append x (slice_split is_space prefix) (slice_split is_space back) (omega (arith, length-slice_split is_space prefix)) in
-    grind (arith, split-at_space prefix b back h, onto)
+split-at_space (x ∷ prefix) b back h = grind (arith, onto_first-append, length-slice_split, split-at_space prefix b back h)
 
 pub tokens_in-at_space : (prefix : List ℕ) (b : ℕ) (back : List ℕ) → is_space b ≡ true → tokens_in (prefix ++ b ∷ back) ≡ tokens_in prefix ++ tokens_in back
 tokens_in-at_space prefix b back h = ap (filter has_bytes) (split-at_space prefix b back h) ∙ filter-append has_bytes (slice_split is_space prefix) (slice_split is_space back)
@@ -30,9 +28,7 @@ tokens_in-blank (b ∷ bs) h = let both = and_parts (is_space b) (is_blank bs) h
 
 tokens_in-before_blank : (prefix back : List ℕ) → is_blank back ≡ true → tokens_in (prefix ++ back) ≡ tokens_in prefix
 tokens_in-before_blank prefix [] h = ap tokens_in (append-nil prefix)
-tokens_in-before_blank prefix (b ∷ back) h =
-    let both = and_parts (is_space b) (is_blank back) h in
-    tokens_in-at_space prefix b back both.0 ∙ ap (λ ws. tokens_in prefix ++ ws) (tokens_in-blank back both.1) ∙ append-nil (tokens_in prefix)
+tokens_in-before_blank prefix (b ∷ back) h = grind (arith, and_parts, tokens_in-at_space, tokens_in-blank, append-nil)
 
 -- so white space at the end changes no tokens
 pub tokens_in-ends : (bytes : List ℕ) → tokens_in bytes ≡ tokens_in (without_trailing_space bytes)
@@ -41,10 +37,7 @@ tokens_in-ends bytes = let t = ends-tail bytes in ap tokens_in t.whole ∙ token
 -- white space before the first token
 tokens_in-without_leading_space : (text : List ℕ) → tokens_in (without_leading_space text) ≡ tokens_in text
 tokens_in-without_leading_space [] = refl
-tokens_in-without_leading_space (b ∷ bs) = elim (cases_Bool (is_space b)) [
-  | inl e ↦ ap (λ c. tokens_in (cond c (without_leading_space bs) (b ∷ bs))) e ∙ tokens_in-without_leading_space bs ∙ sym (tokens_in-at_space [] b bs e)
-  | inr e ↦ ap (λ c. tokens_in (cond c (without_leading_space bs) (b ∷ bs))) e
-]
+tokens_in-without_leading_space (b ∷ bs) = grind (arith, cases_Bool, cond, tokens_in-at_space, tokens_in-without_leading_space bs)
 
 filter-cons_yes : (full_line : List ℕ) (full_lines : List (List ℕ)) → 0 < length full_line → filter has_bytes (full_line ∷ full_lines) ≡ full_line ∷ filter has_bytes full_lines
 filter-cons_yes full_line full_lines some = rw (lt-ltb 0 (length full_line) some) refl
@@ -91,10 +84,4 @@ leads-first_token text token others e =
     ]
 
 pub leads-no_token : (text : List ℕ) → tokens_in text ≡ [] → without_leading_space text ≡ []
-leads-no_token text e =
-    let beginning = without_leading_space text in
-    let n = position_or_len is_space beginning in
-    elim (cases_lt 0 n) [
-      | inl some ↦ let f = sym e ∙ tokens_in-at_prefix text (take n beginning) (drop n beginning) n refl refl refl some in absurd cc
-      | inr none ↦ empty_from_no_token text (omega arith)
-    ]
+leads-no_token text e = grind (arith, cases_lt, tokens_in-at_prefix, take, drop, empty_from_no_token)

@@ -18,14 +18,11 @@ ends-blank (b ∷ bs) h = ap (λ c. cond c [] (b ∷ without_trailing_space bs))
 
 pub ends-before_blank : (prefix back : List ℕ) → is_blank back ≡ true → without_trailing_space (prefix ++ back) ≡ without_trailing_space prefix
 ends-before_blank [] back h = ends-blank back h
-ends-before_blank (b ∷ prefix) back h =
-    ap (λ c. cond (is_space b && c) [] (b ∷ without_trailing_space (prefix ++ back))) (blank-after prefix back h)
-    ∙ ap (λ t. cond (is_blank (b ∷ prefix)) [] (b ∷ t)) (ends-before_blank prefix back h)
+ends-before_blank (b ∷ prefix) back h = grind (arith, cond, blank-after, ends-before_blank prefix back h)
 
 pub ends-before_other : (prefix back : List ℕ) → is_blank back ≡ false → without_trailing_space (prefix ++ back) ≡ prefix ++ without_trailing_space back
 ends-before_other [] back h = refl
-ends-before_other (b ∷ prefix) back h =
-    ap (λ c. cond c [] (b ∷ without_trailing_space (prefix ++ back))) (other-after (b ∷ prefix) back h) ∙ ap (λ t. b ∷ t) (ends-before_other prefix back h)
+ends-before_other (b ∷ prefix) back h = grind (arith, cond, other-after, ends-before_other prefix back h)
 
 -- bytes that end in white space, and bytes that end in another byte
 pub without_trailing_space-space : (x : ℕ) (prefix bytes : List ℕ) → bytes ≡ prefix ++ x ∷ [] → is_space x ≡ true →
@@ -34,8 +31,7 @@ without_trailing_space-space x prefix bytes e h = sym (ap without_trailing_space
 
 pub without_trailing_space-other : (x : ℕ) (prefix bytes : List ℕ) → bytes ≡ prefix ++ x ∷ [] → is_space x ≡ false →
     bytes ≡ without_trailing_space bytes
-without_trailing_space-other x prefix bytes e h =
-    e ∙ sym (ap without_trailing_space e ∙ ends-before_other prefix (x ∷ []) (ap (λ c. c && true) h) ∙ ap (λ c. prefix ++ cond (c && true) [] (x ∷ [])) h)
+without_trailing_space-other x prefix bytes e h = grind (arith, ends-before_other, true, cond)
 
 -- what is trimmed is blank where the bytes are
 pub is_blank-without_trailing_space : (bytes : List ℕ) → is_blank (without_trailing_space bytes) ≡ is_blank bytes

@@ -2,7 +2,6 @@
 use Rattle.std.specs.Prelude.{ℕ, Bool, not, List, [], ◌++◌, map, codes, decimal, if◌then◌else◌}
 use Rattle.std.specs.List.{join_with_byte}
 pub use Rattle.ascii_text.specs.Append.{Extends}
-use Rattle.ascii_text.specs.Append.{gap}
 use Rattle.quorum_sets.specs.Ids.{Ids, ascending, is_empty}
 use Rattle.conf_change.specs.Configuration.{Configuration, is_joint}
 use Rattle.conf_change.specs.ChangeList.{BadToken, unknown_token, unknown_input, bad_number}
@@ -17,10 +16,6 @@ text_if there text = if there then text else []
 -- numbers, separated by one space
 abbrev pub spaced_numbers : List ℕ → List ℕ
 spaced_numbers numbers = join_with_byte 32 (map decimal numbers)
-
--- the number at a position of a list, after a space unless it is the first
-abbrev pub spaced_number : ℕ → ℕ → List ℕ
-spaced_number position number = gap position ++ decimal number
 
 -- a set, as (1 2 3)
 abbrev pub set_text : Ids → List ℕ

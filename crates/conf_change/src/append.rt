@@ -1,8 +1,8 @@
 //! Appending optional parts and lists of numbers to a text.
-ghost use Rattle.std.specs.Prelude.{◌≡◌, ◌++◌, OnOk};
-ghost use Rattle.ascii_text.specs.Append.{Extends};
+ghost use Rattle.std.specs.Prelude.{◌≡◌, ◌++◌, decimal, OnOk};
+ghost use Rattle.ascii_text.specs.Append.{Extends, gap};
 ghost use Rattle.conf_change.specs.ConfStateLine.{ParsesToNumbers};
-ghost use Rattle.conf_change.specs.Text.{text_if, spaced_number, spaced_numbers};
+ghost use Rattle.conf_change.specs.Text.{text_if, spaced_numbers};
 
 use ascii_text::NoMemory;
 use ascii_text::append::{append, append_gap, append_number};
@@ -21,7 +21,7 @@ pub(crate) fn append_number_at(
     position: usize,
     number: u64,
 ) -> Result<(), NoMemory>
-    ensures ok { OnOk result (text.new.items ≡ text.old.items ++ spaced_number position number) }
+    ensures ok { OnOk result (text.new.items ≡ text.old.items ++ (gap position ++ decimal number)) }
     ensures extends { Extends text.old.items text.new.items }
 {
     append_gap(text, position)?;

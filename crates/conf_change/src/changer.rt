@@ -17,7 +17,6 @@ ghost use Rattle.conf_change.specs.Acknowledgement.{acknowledged, ack_answer, ch
 ghost use Rattle.conf_change.specs.declared.floor.Floor.TheVariants.{One};
 ghost use Rattle.conf_change.specs.declared.progress.Progress.{Progress};
 ghost use Rattle.conf_change.specs.declared.step.Step.TheVariants.{Simple, EnterJoint, LeaveJoint};
-ghost use Rattle.conf_change.specs.Progress.{fresh_next_of};
 ghost use Rattle.conf_change.specs.Transition.{step_of, step_for};
 ghost use Rattle.conf_change.specs.Changer.{IsSound, GivesNext, Makes, left_in, new_changer, changer_of, with_last_index};
 
@@ -107,13 +106,6 @@ impl<S: MemberSet> Changer<S> {
         self.tracker.floor()
     }
 
-    // The next index of a member that joins now.
-    fn fresh_next(&self) -> u64
-        ensures { result ≡ fresh_next_of self.now }
-    {
-        self.floor().fresh_next(self.last_index)
-    }
-
     /// Sets the last index of the log, for example after entries are appended. Members that join later begin there; the
     /// progress of the others does not change.
     pub fn set_last_index(&mut self, last_index: u64)
@@ -168,7 +160,7 @@ impl<S: MemberSet> Changer<S> {
             (self.new ≡ new_changer before.now.tracker.floor before.now.last_index) }
         ensures sound { IsSound self.new.tracker }
     {
-        let next_index = before.fresh_next();
+        let next_index = before.tracker.floor().fresh_next(before.last_index);
         match self
             .tracker
             .become_next(&before.tracker, kind, changes, next_index)

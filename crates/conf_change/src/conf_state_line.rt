@@ -9,7 +9,7 @@ ghost use Rattle.std.specs.Prelude.{◌≡◌, ◌<◌, ◌++◌, Some, None, Er
 ghost use Rattle.ascii_text.specs.Append.{Extends};
 ghost use Rattle.conf_change.specs.Text.{spaced_numbers};
 ghost use Rattle.conf_change.specs.ConfStateLine as line;
-ghost use Rattle.conf_change.specs.ConfStateLine.{ParsesToNumbers, DenotesConfState, conf_state_text, conf_state_in, numbers_in, field_in, line_in, auto_leave_in};
+ghost use Rattle.conf_change.specs.ConfStateLine.{ParsesToNumbers, DenotesConfState, conf_state_text, conf_state_in, numbers_in, field_in, auto_leave_in};
 
 use crate::append::append_numbers;
 use crate::saved_configuration::{ConfState, ConfStateFault};
@@ -89,14 +89,7 @@ pub fn read_conf_state(alloc: Global, text: &[u8]) -> Result<ConfState, ConfStat
     ensures value { IfOk result (λ state. conf_state_in text.now ≡ Some state) }
     ensures fault { result ≡ Err ConfStateFault.BadConfState → conf_state_in text.now ≡ None }
 {
-    read_line(alloc, trimmed(text))
-}
-
-fn read_line(alloc: Global, text: &[u8]) -> Result<ConfState, ConfStateFault>
-    ensures ok { IfOk result (λ state. line_in text.now ≡ Some state) }
-    ensures bad { result ≡ Err ConfStateFault.BadConfState → line_in text.now ≡ None }
-{
-    let (voters, text) = read_field(alloc, b"Voters:[", text)?;
+    let (voters, text) = read_field(alloc, b"Voters:[", trimmed(text))?;
     let (voters_outgoing, text) = read_field(alloc, b"] VotersOutgoing:[", text)?;
     let (learners, text) = read_field(alloc, b"] Learners:[", text)?;
     let (learners_next, text) = read_field(alloc, b"] LearnersNext:[", text)?;

@@ -165,19 +165,12 @@ impl<S: MemberSet> Config<S> {
         ensures same { result ≡ is_same self.now other.now }
         ensures equal { (result ≡ true) ↔ (self.now ≡ other.now) }
     {
-        has_same_parts(self, other)
+        has_same_ids(&self.incoming, &other.incoming)
+            && has_same_ids(&self.outgoing, &other.outgoing)
+            && has_same_ids(&self.learners, &other.learners)
+            && has_same_ids(&self.learners_next, &other.learners_next)
+            && self.auto_leave == other.auto_leave
     }
-}
-
-// Whether the four sets and the flag agree.
-fn has_same_parts<S: MemberSet>(a: &Config<S>, b: &Config<S>) -> bool
-    ensures { result ≡ is_same a.now b.now }
-{
-    has_same_ids(&a.incoming, &b.incoming)
-        && has_same_ids(&a.outgoing, &b.outgoing)
-        && has_same_ids(&a.learners, &b.learners)
-        && has_same_ids(&a.learners_next, &b.learners_next)
-        && a.auto_leave == b.auto_leave
 }
 
 /// Whether two sets have the same ids.

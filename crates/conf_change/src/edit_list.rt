@@ -1,8 +1,8 @@
 //! What a list of changes makes of each id that it names. Of several changes of one id the last effective one decides
 //! its roles, and a removal anywhere among them ends its progress, unless it is an outgoing voter. `v4 r4 l4` is one
 //! edit: 4 becomes a learner, with fresh progress.
-ghost use Rattle.std.specs.Prelude.{◌≡◌, ◌==◌, ◌&&◌, not, Bool, [], map, Some, None, OnOk};
-ghost use Rattle.quorum_sets.specs.AscendingLists.{IsAscending, IsAtPosition};
+ghost use Rattle.std.specs.Prelude.{◌≡◌, ◌==◌, ◌&&◌, not, [], map, Some, None, OnOk};
+ghost use Rattle.quorum_sets.specs.AscendingLists.{IsAscending};
 ghost use Rattle.conf_change.specs.Change.{is_update};
 ghost use Rattle.conf_change.specs.Edits.{Adds, AreEdits, has_role, member_after, with_change};
 
@@ -166,22 +166,14 @@ fn add(edits: &mut Edits, change: Change, outgoing: bool) -> Result<(), NoMemory
     ensures added { OnOk result (Adds change outgoing edits.old.items edits.new.items) }
 {
     match position_of(edits.as_slice(), change.id) {
-        Ok(position) => amend(edits.as_mut_slice(), position, change),
+        Ok(position) => {
+            let known = edits.as_slice()[position].1;
+            edits.as_mut_slice()[position] = (change.id, known.and(change.kind));
+        }
         Err(position) => {
             let edit = Edit::new(change.kind, outgoing);
             edits.insert(position, (change.id, edit))?;
         }
     }
     Ok(())
-}
-
-// Adds an effective change to the edit of its id, which is at this position.
-fn amend(edits: &mut [(u64, Edit)], position: usize, change: Change)
-    requires ascends { IsAscending (map (λ e. e.0) edits.old) }
-    requires at_position { IsAtPosition (map (λ e. e.0) edits.old) change.id position }
-    ensures keys { map (λ e. e.0) edits.new ≡ map (λ e. e.0) edits.old }
-    ensures added { (outgoing : Bool) → Adds change outgoing edits.old edits.new }
-{
-    let known = edits[position].1;
-    edits[position] = (change.id, known.and(change.kind));
 }

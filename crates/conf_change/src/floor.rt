@@ -1,7 +1,7 @@
 //! The floor: the smallest initial next index. The leader sends a new member the log from the last index on, or from
 //! the floor if the log is shorter.
 ghost use Rattle.std.specs.Prelude.{◌≡◌};
-ghost use Rattle.conf_change.specs.Floor.{number_of, fresh_next};
+ghost use Rattle.conf_change.specs.Floor.{fresh_next};
 
 /// The smallest initial next index: that of a new member while the log is empty (own). etcd 3.4 has no floor: its
 /// initial next index is the last index, as with `Zero`.
@@ -18,16 +18,9 @@ impl Floor {
     pub(crate) fn fresh_next(self, last_index: u64) -> u64
         ensures { result ≡ fresh_next self last_index }
     {
-        last_index.max(self.number())
-    }
-
-    // The floor as a number.
-    fn number(self) -> u64
-        ensures { result ≡ number_of self }
-    {
         match self {
-            Floor::Zero => 0,
-            Floor::One => 1,
+            Floor::Zero => last_index,
+            Floor::One => last_index.max(1),
         }
     }
 }

@@ -9,7 +9,7 @@
 ghost use Rattle.std.specs.Prelude.{◌≡◌, Some, None, Err, flat_map, option_map, IfOk};
 ghost use Rattle.ascii_text.specs.Tokens.{tokens_in};
 ghost use Rattle.conf_change.specs.PrintedConfig as printed;
-ghost use Rattle.conf_change.specs.PrintedConfig.{after_token, after_name, auto_leave_at_end, config_in, config_in_tokens, is_mark, part_in, set_in, spaced_mark};
+ghost use Rattle.conf_change.specs.PrintedConfig.{after_token, after_name, auto_leave_at_end, config_in, config_in_tokens, part_in, set_in, spaced_mark};
 
 use crate::saved_configuration::{ConfState, ConfStateFault};
 use ascii_text::number::read_number;
@@ -35,20 +35,13 @@ fn with_spaced_marks(alloc: Global, text: &[u8]) -> Result<Vec<u8>, AllocError>
 {
     let mut spaced = Vec::with_capacity(alloc, text.len().min(256))?;
     for byte in text {
-        if is_mark(*byte) {
+        if matches!(byte, b'(' | b')' | b'=') {
             spaced.extend_from_slice(&[b' ', *byte, b' '])?;
         } else {
             spaced.push(*byte)?;
         }
     }
     Ok(spaced)
-}
-
-// Whether a byte is a token by itself.
-fn is_mark(byte: u8) -> bool
-    ensures { result ≡ is_mark byte }
-{
-    matches!(byte, b'(' | b')' | b'=')
 }
 
 // Reads the tokens of a printed configuration.

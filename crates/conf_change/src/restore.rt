@@ -95,7 +95,7 @@ impl<S: MemberSet> Changer<S> {
             (λ fault. fault ≡ RestoreFault.NotAConfiguration → restored state.now ≡ None) }
     {
         let config = described(alloc, state)?;
-        if !is_restorable(&config) {
+        if check(&config).is_err() || !has_voter_or_is_empty(&config) {
             return Err(RestoreFault::NotAConfiguration);
         }
         let progress = fresh_progress(alloc, &config, floor.fresh_next(last_index))?;
@@ -170,13 +170,6 @@ fn fill<S: MemberSet>(alloc: Global, set: &mut S, list: &[u64]) -> Result<(), Re
     } else {
         Err(RestoreFault::NotAConfiguration)
     }
-}
-
-// Whether the configuration is valid, and has an incoming voter or is empty.
-fn is_restorable<S: MemberSet>(config: &Config<S>) -> bool
-    ensures { result ≡ is_restorable config.now }
-{
-    check(config).is_ok() && has_voter_or_is_empty(config)
 }
 
 /// Whether the configuration has an incoming voter or is empty. Steps from the empty one never lead to a configuration

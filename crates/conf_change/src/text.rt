@@ -150,14 +150,7 @@ fn append_both(text: &mut Vec<u8>, message: &[u8], token: &[u8]) -> Result<(), N
     ensures err { OnErr result (text.new.items ≡ text.old.items) }
 {
     let len = text.len();
-    let appended = append_parts(text, message, token);
-    undo_if_failed(text, len, appended)
-}
-
-fn append_parts(text: &mut Vec<u8>, message: &[u8], token: &[u8]) -> Result<(), NoMemory>
-    ensures ok { OnOk result (text.new.items ≡ text.old.items ++ (message.now ++ token.now)) }
-    ensures extends { Extends text.old.items text.new.items }
-{
     append(text, message)?;
-    append(text, token)
+    let appended = append(text, token);
+    undo_if_failed(text, len, appended)
 }

@@ -5,14 +5,12 @@
 //!              (1 2)                1: match=5 next=6   2: match=4 next=6
 //! --r1 v1 l3-> (1 2) learners=(3)   1: match=0 next=9   2: match=4 next=6   3: match=0 next=9 learner
 //! ```
-ghost use Rattle.std.specs.Prelude.{◌≡◌, ◌≢◌, true, ◌++◌, map, length, slice_get, IfOk, IfErr, OnOk, Err, Some, is_some};
+ghost use Rattle.std.specs.Prelude.{◌≡◌, ◌≢◌, true, map, length, slice_get, IfOk, IfErr, OnOk, Err, is_some};
 ghost use Rattle.std.specs.FinMap as finite;
-ghost use Rattle.quorum_sets.specs.Ids.{has};
 ghost use Rattle.quorum_sets.specs.AscendingLists.{IsAscending};
-ghost use Rattle.conf_change.specs.Configuration.{is_member};
 ghost use Rattle.conf_change.specs.Outcome.{outcome};
 ghost use Rattle.conf_change.specs.Edits.{HasEditedEntries};
-ghost use Rattle.conf_change.specs.TrackerEdits.{KeepsMembers, Moves, entries_of, progress_kept};
+ghost use Rattle.conf_change.specs.TrackerEdits.{KeepsMembers, Moves};
 ghost use Rattle.conf_change.specs.Transition.{step_of};
 ghost use Rattle.conf_change.specs.Changer.{IsSound, empty_tracker, tracker_of};
 ghost use Rattle.conf_change.specs.Acknowledgement.{with_progress};
@@ -233,36 +231,11 @@ fn keep_members<S: MemberSet>(
 {
     members.clear();
     members.reserve(others.len())?;
-    for member in others {
-        let entry = kept(config, member.0, member.1);
-        if push_entry(members, member.0, entry).is_err() {
-            members.clear();
-            return Err(NoMemory);
+    for (id, old) in others {
+        if config.is_member(*id) {
+            let learner = config.learners.contains(*id);
+            members.push_reserved((*id, Progress { learner, ..*old }));
         }
-    }
-    Ok(())
-}
-
-// The progress that an id keeps: a member keeps all, and is marked as a learner or not; any other id keeps none.
-fn kept<S: MemberSet>(config: &Config<S>, id: u64, progress: Progress) -> Option<Progress>
-    ensures { result
-        ≡ progress_kept (is_member config.now id) (has config.now.learners id) (Some progress) }
-{
-    if !config.is_member(id) {
-        return None;
-    }
-    Some(Progress {
-        learner: config.learners.contains(id),
-        ..progress
-    })
-}
-
-// Appends an id with its progress, if it has any.
-fn push_entry(members: &mut Members, id: u64, entry: Option<Progress>) -> Result<(), NoMemory>
-    ensures { OnOk result (members.new.items ≡ members.old.items ++ entries_of id entry) }
-{
-    if let Some(progress) = entry {
-        members.push((id, progress))?;
     }
     Ok(())
 }

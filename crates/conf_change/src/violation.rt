@@ -2,8 +2,8 @@
 //! user who wrote it by hand is shown the id to look at.
 //!
 //! What names no source here is own.
-ghost use Rattle.std.specs.Prelude.{◌≡◌, ◌↔◌, Some, None, Err, true, not, IsOk};
-ghost use Rattle.conf_change.specs.Configuration.{first_broken, is_valid, keeps};
+ghost use Rattle.std.specs.Prelude.{◌≡◌, ◌↔◌, Some, None, Err, true, IsOk};
+ghost use Rattle.conf_change.specs.Configuration.{first_broken, is_valid};
 ghost use Rattle.conf_change.specs.Violation.{violation_of};
 ghost use Rattle.conf_change.specs.declared.config.Invariant.{Invariant};
 
@@ -48,7 +48,7 @@ pub fn first_violation<S: MemberSet>(config: &Config<S>) -> Option<Violation>
         learners_next: next,
         auto_leave,
     } = config;
-    if holds_zero(config) {
+    if incoming.contains(0) || outgoing.contains(0) || learners.contains(0) || next.contains(0) {
         return Some(Violation::ZeroId);
     }
     if let Some(id) = find_id(next, |id| !outgoing.contains(id)) {
@@ -84,14 +84,4 @@ pub fn check<S: MemberSet>(config: &Config<S>) -> Result<(), Invariant>
         Some(Violation::LearnerAndVoter(_)) => Err(Invariant::LearnerAndVoter),
         Some(Violation::NotJointButAutoLeave) => Err(Invariant::NotJointButAutoLeave),
     }
-}
-
-// Whether one of the four sets has the id 0.
-fn holds_zero<S: MemberSet>(config: &Config<S>) -> bool
-    ensures { result ≡ not (keeps config.now Invariant.ZeroId) }
-{
-    config.incoming.contains(0)
-        || config.outgoing.contains(0)
-        || config.learners.contains(0)
-        || config.learners_next.contains(0)
 }

@@ -1,5 +1,5 @@
 -- What each answer says, by its row.
-use Rattle.std.proofs.Common.{◌≡◌, ◌≢◌, ℕ, true, false, not, ◌&&◌, ◌||◌, List, ◌∷◌, sym, ap, subst, ◌∙◌, arith, inl, inr}
+use Rattle.std.proofs.Common.{◌≡◌, ◌≢◌, ℕ, true, false, not, ◌&&◌, List, ◌∷◌, sym, ap, subst, ◌∙◌, arith, inl, inr}
 use Rattle.std.specs.Prelude.{Some, None, nat_eq, unwrap_or, if◌then◌else◌}
 use Rattle.std.proofs.lemmas.Bool.{and_from, and_left, and_parts, and_right, both_ways, cases_Bool, cond-false, cond-true, eqb-false, eqb-true, not-true, or_left, or_right}
 use Rattle.quorum_sets.specs.Ids.{Ids, has, is_empty, no_ids}
@@ -12,13 +12,13 @@ use Rattle.conf_driver.specs.IdSets.{◌∪◌, ◌∩◌, ◌∖◌, just, leas
 use Rattle.conf_driver.specs.Nearer.{leadership_moves, needed}
 use Rattle.conf_driver.specs.Next.{answer_in}
 use Rattle.conf_driver.specs.Rows as row
-use Rattle.conf_driver.specs.Rows.{done_or_wait, if_any, needed_at_target, transfer_to_one, wait_for}
-use Rattle.conf_driver.specs.Situation.{Situation, has_step, is_less, tolerance}
+use Rattle.conf_driver.specs.Rows.{done_or_wait, needed_at_target, transfer_to_one, wait_for}
+use Rattle.conf_driver.specs.Situation.{Situation}
 use Rattle.conf_driver.specs.View.{voter_ids}
 use Rattle.conf_driver.specs.declared.action.Action.{Action}
 use Rattle.conf_driver.specs.declared.action.Action.TheVariants.{Start, Stop, Transfer, Propose, Wait, Stuck, Done}
 use Rattle.conf_driver.specs.declared.action.WaitReason.{WaitReason}
-use Rattle.conf_driver.specs.declared.action.WaitReason.TheVariants.{NoLeader, Pending, Heard, Unheard, Behind, Leaving}
+use Rattle.conf_driver.specs.declared.action.WaitReason.TheVariants.{Unheard, Behind, Leaving}
 use Rattle.conf_driver.proofs.Answered.{Says}
 use Rattle.conf_driver.proofs.Counted.{IsCounted, quorum-of_more}
 use Rattle.conf_driver.proofs.Counting.{quorum-has_voter}
@@ -125,27 +125,20 @@ needed_by_leadership s =
     else s.voters_after ∪ (if is_quorum (voters_of s.before) s.up then no_ids else s.voters))
 
 needed-free : (s : Situation) → IsFree s → needed s ≡ needed_by_leadership s
-needed-free s free =
-    cond-false (not (has s.voters s.lead)) s.before.incoming (if s.is_pending then no_ids else needed_by_leadership s) (ap not free.votes)
-    ∙ cond-false s.is_pending no_ids (needed_by_leadership s) free.not_pending
+needed-free s free = grind (arith, cond-false, not, free)
 
 moves-not : (s : Situation) → row.successor_lags s ≡ None → leadership_moves s ≡ false
-moves-not s passed = elim (cases_Bool (has s.voters_after s.lead)) [
-  | inl leads ↦ and_left (not (has s.voters_after s.lead)) _ (ap not leads)
-  | inr leads_not ↦ and_right (not (has s.voters_after s.lead)) _ (ap not (successor-passed s passed leads_not))
-]
+moves-not s passed = grind (arith, cases_Bool, and_left, not, and_right, successor-passed)
 
 needed-successors : (s : Situation) → IsFree s → leadership_moves s ≡ true → needed s ≡ (s.voters ∩ s.voters_after)
 needed-successors s free moves = needed-free s free ∙ cond-true (leadership_moves s) (s.voters ∩ s.voters_after) _ moves
 
 needed-at_end : (s : Situation) → IsFree s → row.successor_lags s ≡ None → not s.has_step ≡ true → needed s ≡ needed_at_target s
-needed-at_end s free passed none =
-    needed-free s free ∙ cond-false (leadership_moves s) (s.voters ∩ s.voters_after) _ (moves-not s passed) ∙ cond-true (not s.has_step) (needed_at_target s) _ none
+needed-at_end s free passed none = grind (arith, needed-free, free, cond-false, moves-not, cond-true, not)
 
 needed-on_the_way : (s : Situation) → IsFree s → row.successor_lags s ≡ None → row.at_target s ≡ None
     → needed s ≡ (s.voters_after ∪ (if is_quorum (voters_of s.before) s.up then no_ids else s.voters))
-needed-on_the_way s free passed on_the_way =
-    needed-free s free ∙ cond-false (leadership_moves s) (s.voters ∩ s.voters_after) _ (moves-not s passed) ∙ cond-false (not s.has_step) (needed_at_target s) _ (ap not (has_step-passed s on_the_way))
+needed-on_the_way s free passed on_the_way = grind (arith, needed-free, free, cond-false, moves-not, not, has_step-passed)
 
 -- ---- waits for members
 -- ids for which a wait may be: some, which are needed, not down and not up
@@ -171,25 +164,10 @@ says-behind s steps set ids why leader awaited is =
 
 says-unheard : (s : Situation) (steps : List Step) (set ids : Ids) (why : WaitReason) → s.lead ≢ 0 → is_empty (set ∖ s.heard) ≡ false → IsWithin set (needed s) → ((q : ℕ) → has set q ≡ true → has s.down q ≡ false)
     → Wait Unheard (set ∖ s.heard) ≡ Wait why ids → Says s steps (Wait why ids)
-says-unheard s steps set ids why leader some within not_down is =
-    let same = same_wait Unheard why (set ∖ s.heard) ids is in
-    let said : Says s steps (Wait Unheard ids) = (
-      leader,
-      record {
-        some = ap is_empty (sym same.1) ∙ some;
-        within = λ q named.
-            let parts = in-without set s.heard q (ap (λ t. has t q) same.1 ∙ named) in
-            has-without-is (needed s ∖ s.down) s.heard q (has-without-is (needed s) s.down q (within q parts.0) (not_down q parts.0)) parts.1;
-      },
-    ) in
-    subst (λ w. Says s steps (Wait w ids)) same.0 said
+says-unheard s steps set ids why leader some within not_down is = grind (arith, same_wait, Says, some, in-without, has-without-is, not_down)
 
 says-wait_for : (s : Situation) (steps : List Step) (set ids : Ids) (why : WaitReason) → s.lead ≢ 0 → AreAwaited s set → wait_for s set ≡ Wait why ids → Says s steps (Wait why ids)
-says-wait_for s steps set ids why leader awaited is = elim (cases_Bool (is_empty (set ∖ s.heard))) [
-  | inl all ↦ says-behind s steps set ids why leader awaited (sym (cond-true (is_empty (set ∖ s.heard)) (Wait Behind set) (Wait Unheard (set ∖ s.heard)) all) ∙ is)
-  | inr silent ↦
-      says-unheard s steps set ids why leader silent awaited.needed_all awaited.not_down (sym (cond-false (is_empty (set ∖ s.heard)) (Wait Behind set) (Wait Unheard (set ∖ s.heard)) silent) ∙ is)
-]
+says-wait_for s steps set ids why leader awaited is = grind (arith, cases_Bool, says-behind, cond-true, says-unheard, cond-false)
 
 -- what is left of a set of needed ids without those that are down and up
 awaited-rest : (s : Situation) (set : Ids) → IsWithin set (needed s) → is_empty (set ∖ s.down ∖ s.up) ≡ false → AreAwaited s (set ∖ s.down ∖ s.up)
@@ -228,14 +206,7 @@ free : (s : Situation) → row.nonvoter_leads s ≡ None → row.is_pending s �
 free s nonvoter pending = record { votes = nonvoter-passed s nonvoter; not_pending = pending-passed s pending }
 
 says-successor : (s : Situation) (steps : List Step) (ids : Ids) (why : WaitReason) → s.lead ≢ 0 → IsFree s → row.leader_leaves s ≡ None → row.successor_lags s ≡ Some (Wait why ids) → Says s steps (Wait why ids)
-says-successor s steps ids why leader is_free stays is =
-    let could = s.voters ∩ s.voters_after in
-    let given = some-unless (has s.voters_after s.lead) (if_any (could ∖ s.down) (wait_for s)) (Wait why ids) is in
-    let waits = if_any-some (could ∖ s.down) (wait_for s) (Wait why ids) given.1 in
-    let moves : leadership_moves s ≡ true = and_from (not (has s.voters_after s.lead)) _ (ap not given.0) (ap not waits.0) in
-    let needed_all : IsWithin could (needed s) = λ q here. ap (λ t. has t q) (needed-successors s is_free moves) ∙ here in
-    let none_up = none-to_lead s (could ∩ s.up) (none-unless (has s.voters_after s.lead) (transfer_to_one s (could ∩ s.up)) stays given.0) in
-    says-wait_for s steps (could ∖ s.down) ids why leader (awaited-none_up s could needed_all none_up waits.0) waits.1
+says-successor s steps ids why leader is_free stays is = grind (arith, some-unless, if_any-some, true, and_from, not, IsWithin, needed-successors, none-to_lead, none-unless, says-wait_for, awaited-none_up)
 
 says-target : (s : Situation) (steps : List Step) (ids : Ids) (why : WaitReason) → s.lead ≢ 0 → IsFree s → row.successor_lags s ≡ None → row.at_target s ≡ Some (Wait why ids) → Says s steps (Wait why ids)
 says-target s steps ids why leader is_free successor is =
@@ -247,15 +218,10 @@ says-target s steps ids why leader is_free successor is =
 
 -- the voters after the step are needed
 after-needed : (s : Situation) → IsFree s → row.successor_lags s ≡ None → row.at_target s ≡ None → IsWithin s.voters_after (needed s)
-after-needed s is_free successor on_the_way q here =
-    ap (λ t. has t q) (needed-on_the_way s is_free successor on_the_way) ∙ has-union s.voters_after (if is_quorum (voters_of s.before) s.up then no_ids else s.voters) q ∙ or_left _ _ here
+after-needed s is_free successor on_the_way q here = grind (arith, needed-on_the_way, has-union, or_left)
 
 says-new_voter : (s : Situation) (steps : List Step) (ids : Ids) (why : WaitReason) → s.lead ≢ 0 → IsWithin s.voters_after (needed s) → row.new_voter_lags s ≡ Some (Wait why ids) → Says s steps (Wait why ids)
-says-new_voter s steps ids why leader needed_all is =
-    let known = s.voters_after ∩ s.members in
-    let given = if_any-some (known ∖ s.voters ∖ s.down ∖ s.up) (wait_for s) (Wait why ids) is in
-    says-wait_for s steps (known ∖ s.voters ∖ s.down ∖ s.up) ids why leader
-    (awaited-rest s (known ∖ s.voters) (λ q here. needed_all q (in-common s.voters_after s.members q (in-without known s.voters q here).0).0) given.0) given.1
+says-new_voter s steps ids why leader needed_all is = grind (arith, if_any-some, says-wait_for, awaited-rest, needed_all, in-common, in-without)
 
 says-lagging : (s : Situation) (steps : List Step) (ids : Ids) (why : WaitReason) → s.lead ≢ 0 → IsWithin s.voters_after (needed s) → row.voter_is_behind s ≡ Some (Wait why ids) → Says s steps (Wait why ids)
 says-lagging s steps ids why leader needed_all is =
@@ -281,34 +247,17 @@ says-quorum s steps ids why counted sets leader is_free counts successor on_the_
     says-wait_for s steps (s.voters ∖ s.down ∖ s.up) ids why leader (awaited-rest s s.voters needed_all some) given.1
 
 says-silent : (s : Situation) (steps : List Step) (ids : Ids) (why : WaitReason) → s.lead ≢ 0 → IsWithin s.voters_after (needed s) → row.voter_is_silent s ≡ Some (Wait why ids) → Says s steps (Wait why ids)
-says-silent s steps ids why leader needed_all is =
-    let counted = s.voters_after ∖ s.down in
-    let of_row = some-if (is_joint s.after || is_less (tolerance s.after s.up) (tolerance s.before s.up)) (if_any (counted ∖ s.heard) (Wait Unheard)) (Wait why ids) is in
-    let given = if_any-some (counted ∖ s.heard) (Wait Unheard) (Wait why ids) of_row.1 in
-    says-unheard s steps counted ids why leader given.0 (λ q here. needed_all q (in-without s.voters_after s.down q here).0) (λ q here. (in-without s.voters_after s.down q here).1) given.1
+says-silent s steps ids why leader needed_all is = grind (arith, some-if, if_any-some, says-unheard, needed_all, in-without)
 
 -- the rows whose reason is their own
 says-heard : (s : Situation) (steps : List Step) (ids : Ids) (why : WaitReason) → row.down_is_heard s ≡ Some (Wait why ids) → Says s steps (Wait why ids)
-says-heard s steps ids why is =
-    let set = s.down ∩ (s.heard ∩ s.members ∪ just s.lead) in
-    let given = if_any-some set (Wait Heard) (Wait why ids) is in
-    let same = same_wait Heard why set ids given.1 in
-    let said : Says s steps (Wait Heard ids) = λ q named. (in-common s.down (s.heard ∩ s.members ∪ just s.lead) q (ap (λ t. has t q) same.1 ∙ named)).0 in
-    subst (λ w. Says s steps (Wait w ids)) same.0 said
+says-heard s steps ids why is = grind (arith, if_any-some, same_wait, Says, in-common)
 
 says-no_leader : (s : Situation) (steps : List Step) (ids : Ids) (why : WaitReason) → row.no_leader s ≡ Some (Wait why ids) → Says s steps (Wait why ids)
-says-no_leader s steps ids why is =
-    let given = when-some (nat_eq s.lead 0) (Wait NoLeader (or_else (s.voters ∖ s.down ∖ s.heard) (s.voters ∖ s.down))) (Wait why ids) is in
-    let same = same_wait NoLeader why _ ids given.1 in
-    let said : Says s steps (Wait NoLeader ids) = eqb-true s.lead 0 given.0 in
-    subst (λ w. Says s steps (Wait w ids)) same.0 said
+says-no_leader s steps ids why is = grind (arith, when-some, same_wait, Says, eqb-true)
 
 says-pending : (s : Situation) (steps : List Step) (ids : Ids) (why : WaitReason) → s.lead ≢ 0 → row.is_pending s ≡ Some (Wait why ids) → Says s steps (Wait why ids)
-says-pending s steps ids why leader is =
-    let given = when-some s.is_pending (Wait Pending (or_else s.lack_pending (just s.lead))) (Wait why ids) is in
-    let same = same_wait Pending why _ ids given.1 in
-    let said : Says s steps (Wait Pending ids) = (leader, given.0) in
-    subst (λ w. Says s steps (Wait w ids)) same.0 said
+says-pending s steps ids why leader is = grind (arith, when-some, same_wait, Says)
 
 -- raft leaves the configuration by the first step
 abbrev pub LeavesFirst : Situation → List Step → Type 0

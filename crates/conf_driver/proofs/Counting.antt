@@ -1,8 +1,8 @@
 -- How many may fail, by who is up and by who is down.
-use Rattle.std.proofs.Common.{◌≡◌, ℕ, ◌*◌, ◌≤◌, Bool, true, false, ◌||◌, refl, sym, ◌∙◌, arith, is_some, inl, inr}
+use Rattle.std.proofs.Common.{◌≡◌, ℕ, Bool, true, false, ◌||◌, refl, sym, ◌∙◌, arith, is_some, inl, inr}
 use Rattle.std.specs.Prelude.{Option, Some, None}
 use Rattle.std.proofs.lemmas.Bool.{and_parts, both_ways, cases_Bool, le-ltb, not-true}
-use Rattle.quorum_sets.specs.Ids.{Ids, ascending, count_of, has, is_empty, majority_passes, size}
+use Rattle.quorum_sets.specs.Ids.{Ids, has, is_empty, majority_passes}
 use Rattle.quorum_sets.specs.Tolerance.{IsMostDown, Tolerates, commits_without, may_be_down}
 use Rattle.quorum_sets.specs.Voters.{Voters, is_quorum}
 use Rattle.quorum_sets.proofs.Offered.{count_by-none, has-ascending, has-union, is_quorum-without}
@@ -52,10 +52,7 @@ no_less : (first second : Option ℕ) (voters other_voters : Voters) (a b : Ids)
 no_less None None voters other_voters a b k is is_other less tolerates = absurd (is_other.none (λ down few. tolerates down (omega arith)))
 no_less None (Some n) voters other_voters a b k is is_other less tolerates = absurd (cc)
 no_less (Some m) None voters other_voters a b k is is_other less tolerates = absurd (is_other.none (λ down few. tolerates down (omega arith)))
-no_less (Some m) (Some n) voters other_voters a b k is is_other less tolerates =
-    let most = is_other.greatest k tolerates in
-    let enough : k ≤ m = grind (arith, most, less) in
-    λ down few. is.tolerated down (omega arith)
+no_less (Some m) (Some n) voters other_voters a b k is is_other less tolerates = grind arith
 
 pub Tolerates-no_less : Fits → (before after : Configuration) (up : Ids) (k : ℕ) → is_less (tolerance after up) (tolerance before up) ≡ false
     → Tolerates (voters_of before) (voter_ids before ∖ up) k → Tolerates (voters_of after) (voter_ids after ∖ up) k
@@ -93,9 +90,7 @@ Tolerates-after_step fits fewer now after target down heard up up_not_down caugh
 
 -- ---- a quorum has an incoming voter
 no_majority : (test : ℕ → Bool) (ids : Ids) → ((x : ℕ) → has ids x ≡ true → test x ≡ false) → majority_passes test ids ≡ false
-no_majority test ids none =
-    let count : count_of test ids ≡ 0 = count_by-none test (ascending ids) (λ x here. none x (has-ascending ids x ∙ here)) in
-    le-ltb (size ids) (2 * count_of test ids) (omega (arith, count))
+no_majority test ids none = grind (arith, count_by-none, has-ascending, le-ltb)
 
 pub quorum-has_voter : (c : Configuration) (ids : Ids) → is_quorum (voters_of c) ids ≡ true → ((x : ℕ) → has c.incoming x ≡ true → has ids x ≡ false) → ⊥
 quorum-has_voter c ids quorum none = both_ways _ (no_majority (has ids) c.incoming none) (and_parts _ _ quorum).0

@@ -44,14 +44,7 @@ fewer-once_stopped running members stopped x named here =
 -- ---- members
 -- the ids of fewer, of which more have come, that have not come, nor are down
 pub rest-within : (ids fewer down come more : Ids) → IsWithin fewer ids → ((q : ℕ) → has ids q ≡ true → has come q ≡ true → has more q ≡ true) → IsWithin (fewer ∖ down ∖ more) (ids ∖ down ∖ come)
-rest-within ids fewer down come more within stays q given =
-    let of_more = in-without (fewer ∖ down) more q given in
-    let of_down = in-without fewer down q of_more.0 in
-    let here = within q of_down.0 in
-    has-without-is (ids ∖ down) come q (has-without-is ids down q here of_down.1) (elim (cases_Bool (has come q)) [
-      | inl came ↦ absurd (both_ways _ of_more.1 (stays q here came))
-      | inr not_come ↦ not_come
-    ])
+rest-within ids fewer down come more within stays q given = grind (arith, in-without, has-without-is, cases_Bool, both_ways)
 
 pub rest-size : (ids fewer down come more : Ids) → IsWithin fewer ids → ((q : ℕ) → has ids q ≡ true → has come q ≡ true → has more q ≡ true) → size (fewer ∖ down ∖ more) ≤ size (ids ∖ down ∖ come)
 rest-size ids fewer down come more within stays = size-within _ _ (rest-within ids fewer down come more within stays)
@@ -59,8 +52,7 @@ rest-size ids fewer down come more within stays = size-within _ _ (rest-within i
 -- one of them has come
 pub rest-less : (ids fewer down come more : Ids) (x : ℕ) → IsWithin fewer ids → ((q : ℕ) → has ids q ≡ true → has come q ≡ true → has more q ≡ true)
     → has (ids ∖ down ∖ come) x ≡ true → has more x ≡ true → size (fewer ∖ down ∖ more) < size (ids ∖ down ∖ come)
-rest-less ids fewer down come more x within stays lacked came =
-    size-less _ _ x (rest-within ids fewer down come more within stays) lacked (grind (arith, came, has-without (fewer ∖ down) more x))
+rest-less ids fewer down come more x within stays lacked came = grind (arith, size-less, rest-within, has-without)
 
 -- they are no more than the ids of a set that has them
 pub rest-few : (ids down come all : Ids) → IsWithin ids all → size (ids ∖ down ∖ come) ≤ size all

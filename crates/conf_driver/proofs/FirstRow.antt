@@ -1,10 +1,10 @@
 -- Which row answers.
-use Rattle.std.proofs.Common.{◌≡◌, ℕ, Bool, true, false, ◌||◌, List, [], ◌∷◌, map, refl, sym, ap, ◌∙◌, arith}
+use Rattle.std.proofs.Common.{◌≡◌, ℕ, Bool, true, false, ◌||◌, List, [], ◌∷◌, map, refl, ap, arith}
 use Rattle.std.specs.Prelude.{Option, Some, None, IfSome, nat_eq, option_map, unwrap_or, if◌then◌else◌}
-use Rattle.quorum_sets.specs.Ids.{Ids, has, is_empty}
+use Rattle.quorum_sets.specs.Ids.{Ids, is_empty}
 use Rattle.conf_change.specs.Configuration.{member_ids}
 use Rattle.conf_change.specs.declared.step.Step.{Step}
-use Rattle.conf_driver.specs.IdSets.{◌∪◌, ◌∩◌, ◌∖◌, least_of, or_second}
+use Rattle.conf_driver.specs.IdSets.{◌∪◌, ◌∩◌, ◌∖◌}
 use Rattle.conf_driver.specs.Next.{answer_in, propose_first}
 use Rattle.conf_driver.specs.Rows as row
 use Rattle.conf_driver.specs.Rows.{done_or_wait, first_of, if_any, wait_for}
@@ -73,9 +73,7 @@ kind-no_leader : (s : Situation) → AnswersBy (nat_eq 4) (row.no_leader s)
 kind-no_leader s = grind (arith, kind-wait_for s, kind-done_or_wait s, by-transfer)
 
 kind-nonvoter_leads : (s : Situation) → AnswersBy (λ k. nat_eq 2 k || nat_eq 4 k) (row.nonvoter_leads s)
-kind-nonvoter_leads s =
-    by-if (λ k. nat_eq 2 k || nat_eq 4 k) (has s.voters s.lead) None _ tt
-    (by-transfer_or_wait (or_second (least_of (s.before.incoming ∩ s.up ∩ s.target.incoming)) (least_of (s.before.incoming ∩ s.up))) (wait_for s (s.before.incoming ∖ s.down)) (kind-wait_for s (s.before.incoming ∖ s.down)))
+kind-nonvoter_leads s = grind (arith, by-if, by-transfer_or_wait, kind-wait_for)
 
 kind-leader_is_dropped : (s : Situation) → AnswersBy (nat_eq 2) (row.leader_is_dropped s)
 kind-leader_is_dropped s = grind (arith, kind-wait_for s, kind-done_or_wait s, by-transfer)
@@ -143,9 +141,7 @@ case-here false here later is given = absurd (cc)
 by_cases : (Goal : Type 0) (a : Action) (table : List Row) (last : Action) → HaveKinds table → Cases Goal a table last → unwrap_or (first_of (map (λ r. r.0) table)) last ≡ a → Goal
 by_cases Goal a [] last kinds cases is = cases is
 by_cases Goal a ((None, may) ∷ more) last kinds cases is = by_cases Goal a more last kinds.1 (case-later (may (kind a)) _ _ cases refl) is
-by_cases Goal a ((Some b, may) ∷ more) last kinds cases is =
-    let same : b ≡ a = is in
-    case-here (may (kind a)) _ _ (sym (ap (λ x. may (kind x)) same) ∙ kinds.0) cases (ap Some same)
+by_cases Goal a ((Some b, may) ∷ more) last kinds cases is = grind (arith, case-here)
 
 pub by_rows : (Goal : Type 0) (s : Situation) (steps : List Step) (a : Action) → Cases Goal a (rows s) (propose_first steps) → answer_in s steps ≡ a → Goal
 by_rows Goal s steps a cases is = by_cases Goal a (rows s) (propose_first steps) (rows-have_kinds s) cases is

@@ -30,9 +30,7 @@ after_first-is now after steps rest step is gives = ap (after_first now) is ∙ 
 -- what is so of each step of a run is so of the first
 pub first-holds : (Holds : Configuration → Step → Configuration → Type 0) (now target after : Configuration) (steps rest : List Step) (step : Step) → steps ≡ step ∷ rest → Gives now step after
     → IsRunWith Holds now steps target → Holds now step after
-first-holds Holds now target after steps rest step is gives run =
-    let here = subst (λ taken. IsRunWith Holds now taken target) is run in
-    subst (λ c. Holds now step c) (one_outcome now here.0 after step here.1.0 gives) here.1.1
+first-holds Holds now target after steps rest step is gives run = grind (arith, one_outcome)
 
 -- ---- what is promised by each strategy that `next` takes
 pub voters-learn_first : (strategy : Strategy) (down : Ids) (now target : Configuration) (path : List Step) → strategy ≢ Shortest → KeepsPromises strategy down now path target → VotersLearnFirst now path target
@@ -60,13 +58,7 @@ outgoing-voted before after id (inr (inr leaves)) here = absurd (both_ways _ (ap
 -- each voter after a step that makes voters of learners was a member before it
 pub voters-were_members : (before after : Configuration) (step : Step) (id : ℕ) → Gives before step after → MakesVotersOfReady before step after
     → (has after.incoming id || has after.outgoing id) ≡ true → is_member before id ≡ true
-voters-were_members before after step id gives ready votes = elim (cases_Bool (has before.incoming id || has before.outgoing id)) [
-  | inl voted ↦ grind (arith, voted)
-  | inr new ↦ elim (or_cases (has after.incoming id) (has after.outgoing id) votes) [
-    | inl incoming ↦ let learner = (ready id incoming new).learner in grind (arith, learner)
-    | inr outgoing ↦ let voted = outgoing-voted before after id (outcome-are_neighbours before after step gives) outgoing in grind (arith, voted)
-  ]
-]
+voters-were_members before after step id gives ready votes = grind (arith, cases_Bool, or_cases, outgoing-voted, outcome-are_neighbours)
 
 -- ---- a path that does not stall
 or_right_false : (a b : Bool) → (a || b) ≡ false → b ≡ false

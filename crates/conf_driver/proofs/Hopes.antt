@@ -1,6 +1,6 @@
 -- What stays so while answers are carried out: the voters that are not down are a quorum, and no member of the target
 -- was stopped for good.
-use Rattle.std.proofs.Common.{◌≡◌, ℕ, true, false, sym, ap, ◌∙◌, arith, inl, inr}
+use Rattle.std.proofs.Common.{◌≡◌, ℕ, true, false, ap, ◌∙◌, arith, inl, inr}
 use Rattle.std.proofs.lemmas.Bool.{both_ways, cases_Bool}
 use Rattle.quorum_sets.specs.Ids.{Ids, has}
 use Rattle.quorum_sets.specs.Tolerance.{commits_without}
@@ -9,10 +9,8 @@ use Rattle.conf_change.specs.Configuration.{Configuration, is_member, member_ids
 use Rattle.conf_change.specs.declared.step.Step.{Step}
 use Rattle.conf_change.specs.declared.step.Step.TheVariants.{LeaveJoint}
 use Rattle.conf_change.proofs.Offered.{has-all_members}
-use Rattle.conf_plan.specs.PathBy.{path_by}
 use Rattle.conf_plan.specs.declared.strategy.Strategy.{Strategy}
 use Rattle.conf_driver.specs.CarriedOut.{CarriedOut, IsReached, IsSamePlace, IsTaken}
-use Rattle.conf_driver.specs.IdSets.{◌∖◌}
 use Rattle.conf_driver.specs.Hopeful.{IsHopeful}
 use Rattle.conf_driver.specs.Moment.{IsMoment, Moment}
 use Rattle.conf_driver.specs.Next.{situation}
@@ -105,13 +103,5 @@ hopeful-next kept strategy target down now next Done moment hopeful carried says
 pub stuck-not : AreKept → (strategy : Strategy) (target : Configuration) (down : Ids) (now : Moment) (why : StuckReason) (ids : Ids) → IsMoment strategy target now → IsHopeful target down now
     → IsStuckBy (situation strategy target down now.view) why ids → ⊥
 stuck-not kept strategy target down now why ids moment hopeful (ByQuorum is lost named) = both_ways _ lost (is_quorum-not_down now.view.conf_state down ∙ hopeful.quorum)
-stuck-not kept strategy target down now why ids moment hopeful (ByStall is quorum stalls) =
-    let can = moment.can in
-    let c = now.view.conf_state in
-    both_ways _ (stalls_not-at_its_ends kept.counted strategy down c target (path_by strategy down c target) can.not_shortest (kept.promises strategy down c target can.valid_now can.valid_target can.path) hopeful.quorum hopeful.quorum_there) stalls
-stuck-not kept strategy target down now why ids moment hopeful (ByReuse is some named) =
-    let s = situation strategy target down now.view in
-    let one = id-of_some ids some in
-    let parts = in-common (member_ids target ∖ s.voters) now.view.retired one.0 (ap (λ t. has t one.0) named ∙ one.1) in
-    let member = in-without (member_ids target) s.voters one.0 parts.0 in
-    both_ways _ (hopeful.not_retired one.0 (sym (has-all_members target one.0) ∙ member.0)) parts.1
+stuck-not kept strategy target down now why ids moment hopeful (ByStall is quorum stalls) = grind (arith, both_ways, stalls_not-at_its_ends)
+stuck-not kept strategy target down now why ids moment hopeful (ByReuse is some named) = grind (arith, id-of_some, in-common, in-without, both_ways, has-all_members)

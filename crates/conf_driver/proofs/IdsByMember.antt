@@ -1,5 +1,5 @@
 -- The sets of the table by their members.
-use Rattle.std.proofs.Common.{◌≡◌, ℕ, true, false, not, ◌&&◌, [], ◌∷◌, sym, ap, ◌∙◌, arith, inl, inr}
+use Rattle.std.proofs.Common.{◌≡◌, ℕ, true, false, not, ◌&&◌, [], ◌∷◌, sym, ap, ◌∙◌, arith}
 use Rattle.std.proofs.lemmas.Bool.{and_parts, cases_Bool, not-true, or_left, or_right}
 use Rattle.quorum_sets.specs.Ids.{Ids, ascending, has, is_empty, no_ids}
 use Rattle.quorum_sets.proofs.Offered.{has-ascending, has-ids_of, has-ids_where, has-no_ids, has-same_ids, has-union}
@@ -41,16 +41,10 @@ pub is_empty-from_none : (ids : Ids) → ((q : ℕ) → has ids q ≡ false) →
 is_empty-from_none ids none_left = ap is_empty (has-same_ids ids no_ids (λ q. none_left q ∙ sym (has-no_ids q))) ∙ is_empty-no_ids
 
 pub without-is_empty : (a b : Ids) → ((q : ℕ) → has a q ≡ true → has b q ≡ true) → is_empty (a ∖ b) ≡ true
-without-is_empty a b within = is_empty-from_none (a ∖ b) (λ q. elim (cases_Bool (has a q)) [
-  | inl here ↦ grind (arith, within q here, has-without a b q)
-  | inr other ↦ grind (arith, other, has-without a b q)
-])
+without-is_empty a b within = grind (arith, is_empty-from_none, cases_Bool, has-without)
 
 pub common-is_empty : (a b : Ids) → ((q : ℕ) → has a q ≡ true → has b q ≡ false) → is_empty (a ∩ b) ≡ true
-common-is_empty a b apart = is_empty-from_none (a ∩ b) (λ q. elim (cases_Bool (has a q)) [
-  | inl here ↦ grind (arith, apart q here, has-common a b q)
-  | inr other ↦ grind (arith, other, has-common a b q)
-])
+common-is_empty a b apart = grind (arith, is_empty-from_none, cases_Bool, has-common)
 
 -- ---- unions, and the set of one id
 pub union-left : (a b : Ids) (q : ℕ) → has a q ≡ true → has (a ∪ b) q ≡ true

@@ -1,5 +1,5 @@
 -- How far leadership is off.
-use Rattle.std.proofs.Common.{◌≡◌, ◌≢◌, ℕ, ◌≤◌, ◌<◌, Bool, true, false, not, ◌&&◌, refl, ap, arith}
+use Rattle.std.proofs.Common.{◌≡◌, ◌≢◌, ℕ, ◌≤◌, ◌<◌, Bool, true, false, not, ◌&&◌, ap, arith}
 use Rattle.std.specs.Prelude.{nat_eq, if◌then◌else◌}
 use Rattle.std.proofs.lemmas.Bool.{and_right, ne_eqb}
 use Rattle.quorum_sets.specs.Ids.{has}
@@ -21,9 +21,7 @@ off-at_most_three false outgoing on = omega arith
 
 -- a leader is nearer than none
 pub off-of_a_leader : (s : Situation) → s.lead ≢ 0 → leader_off s ≤ 3
-off-of_a_leader s some =
-    let few = off-at_most_three (has s.voters s.lead) (s.is_pending && is_joint s.before && not (has s.before.incoming s.lead)) (has (if s.is_pending then voter_ids s.target else s.voters_after) s.lead) in
-    rw (ne_eqb s.lead 0 some) few
+off-of_a_leader s some = grind (arith, off-at_most_three, not, ne_eqb)
 
 pub off-of_none : (s : Situation) → s.lead ≡ 0 → leader_off s ≡ 4
 off-of_none s none = ap (λ l. off_by (nat_eq l 0) (has s.voters l) (s.is_pending && is_joint s.before && not (has s.before.incoming l)) (has (if s.is_pending then voter_ids s.target else s.voters_after) l)) none
@@ -62,22 +60,12 @@ leads_on s id = has (if s.is_pending then voter_ids s.target else s.voters_after
 
 -- from one that does not vote to one that does
 pub less-from_nonvoter : (s : Situation) (id : ℕ) → has s.voters s.lead ≡ false → id ≢ 0 → has s.voters id ≡ true → leader_off (record s { lead = id }) < leader_off s
-less-from_nonvoter s id votes_not some votes =
-    let before : 3 ≤ leader_off s = rw votes_not (off-no_voter (nat_eq s.lead 0) (is_outgoing s s.lead) (leads_on s s.lead)) in
-    let later : leader_off (record s { lead = id }) ≤ 2 = rw (ne_eqb id 0 some) (rw votes (off-voter (is_outgoing s id) (leads_on s id))) in
-    omega (arith, before, later)
+less-from_nonvoter s id votes_not some votes = grind (arith, off-no_voter, ne_eqb, off-voter)
 
 -- to an incoming voter, from one that is none in a joint configuration of which a change is pending
 pub less-from_outgoing : (s : Situation) (id : ℕ) → is_outgoing s s.lead ≡ true → id ≢ 0 → has s.voters id ≡ true → has s.before.incoming id ≡ true → leader_off (record s { lead = id }) < leader_off s
-less-from_outgoing s id outgoing some votes incoming =
-    let before : 2 ≤ leader_off s = rw outgoing (off-outgoing (nat_eq s.lead 0) (has s.voters s.lead) (leads_on s s.lead)) in
-    let here : is_outgoing s id ≡ false = and_right (s.is_pending && is_joint s.before) _ (ap not incoming) in
-    let later : leader_off (record s { lead = id }) ≤ 1 = rw (ne_eqb id 0 some) (rw votes (rw here (off-incoming (leads_on s id)))) in
-    omega (arith, before, later)
+less-from_outgoing s id outgoing some votes incoming = grind (arith, off-outgoing, false, and_right, not, ne_eqb, off-incoming)
 
 -- from one that does not lead on to one that does
 pub less-from_dropped : (s : Situation) (id : ℕ) → leads_on s s.lead ≡ false → id ≢ 0 → has s.voters id ≡ true → is_outgoing s id ≡ false → leads_on s id ≡ true → leader_off (record s { lead = id }) < leader_off s
-less-from_dropped s id dropped some votes here on =
-    let before : 1 ≤ leader_off s = rw dropped (off-dropped (nat_eq s.lead 0) (has s.voters s.lead) (is_outgoing s s.lead)) in
-    let later : leader_off (record s { lead = id }) ≡ 0 = rw (ne_eqb id 0 some) (rw votes (rw here (rw on refl))) in
-    omega (arith, before, later)
+less-from_dropped s id dropped some votes here on = grind (arith, off-dropped, ne_eqb)

@@ -10,8 +10,7 @@ use Rattle.conf_driver.proofs.IdsByMember.{common-is_empty, has-common-is, has-j
 
 -- a voter is not 0, which means that there is no leader
 pub voter-not_zero : (c : Configuration) (id : ℕ) → ValidByMember c → has (voter_ids c) id ≡ true → id ≢ 0
-voter-not_zero c id members votes none =
-    both_ways _ (grind (arith, members.zero_incoming, members.zero_outgoing, has-union c.incoming c.outgoing 0)) (ap (has (voter_ids c)) (sym none) ∙ votes)
+voter-not_zero c id members votes none = grind (arith, both_ways, has-union)
 
 -- ---- who is down, and is a member that is heard from or leads
 pub none-heard : (heard members down : Ids) (lead : ℕ) → ((q : ℕ) → has down q ≡ true → has members q ≡ true → has heard q ≡ false) → has down lead ≡ false

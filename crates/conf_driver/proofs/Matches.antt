@@ -1,5 +1,5 @@
 -- The matches of ids in a list of members.
-use Rattle.std.proofs.Common.{◌≡◌, ℕ, ◌+◌, ◌-◌, ◌<◌, ◌≤◌, cond, List, ◌∷◌, drop, map, set, replicate, length, get_or, sym, ap, ◌∙◌, ◌==◌, arith}
+use Rattle.std.proofs.Common.{◌≡◌, ℕ, ◌-◌, ◌<◌, ◌≤◌, cond, List, ◌∷◌, drop, map, set, replicate, length, get_or, sym, ap, ◌∙◌, ◌==◌, arith}
 use Rattle.std.specs.Prelude.{find, option_map, unwrap_or}
 use Rattle.std.proofs.lemmas.Bool.Decides.{nat_tests}
 use Rattle.std.proofs.lemmas.List.{drop_all, drop_more, ext_get_or, get_or-map, get_or-set_other, length-map, length-set}
@@ -39,18 +39,13 @@ matches-absent member members ids k absent = ext_get_or 0 _ _ (length-map ids _ 
 
 -- the member before a part of the members
 drop_one_less : (members : List MemberView) (i : ℕ) (member : MemberView) → 0 < i → i ≤ length members → member ≡ get_or members (i - 1) member → drop (i - 1) members ≡ member ∷ drop i members
-drop_one_less members i member some within here =
-    let same : i - 1 + 1 ≡ i = omega (arith, some) in
-    drop_more members (i - 1) member (omega (arith, some, within)) ∙ ap (λ j. get_or members (i - 1) member ∷ drop j members) same ∙ ap (λ m. m ∷ drop i members) (sym here)
+drop_one_less members i member some within here = grind (arith, drop_more, get_or, drop)
 
 -- the matches once this member is read too, by what the search for its id says
 pub matches-one_more : (members : List MemberView) (ids matches : List ℕ) (i k : ℕ) (member : MemberView) → 0 < i → i ≤ length members → member ≡ get_or members (i - 1) member
     → matches ≡ map (match_in (drop i members)) ids → IsAscending ids → IsAtPosition ids member.id k
     → set matches k member.matched ≡ map (match_in (drop (i - 1) members)) ids
-matches-one_more members ids matches i k member some within here so_far ascends at =
-    ap (λ xs. set xs k member.matched) so_far
-    ∙ matches-there member (drop i members) ids k ascends at
-    ∙ ap (λ (ms : List MemberView). map (match_in ms) ids) (sym (drop_one_less members i member some within here))
+matches-one_more members ids matches i k member some within here so_far ascends at = grind (arith, set, matches-there, drop, map, drop_one_less)
 
 pub matches-one_other : (members : List MemberView) (ids matches : List ℕ) (i k : ℕ) (member : MemberView) → 0 < i → i ≤ length members → member ≡ get_or members (i - 1) member
     → matches ≡ map (match_in (drop i members)) ids → IsInsertionPoint ids member.id k

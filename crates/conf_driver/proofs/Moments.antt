@@ -1,11 +1,11 @@
 -- What holds at the moment after an answer, and how its parts of the number that is left compare with those before.
-use Rattle.std.proofs.Common.{◌≡◌, ◌≢◌, ℕ, ◌*◌, ◌≤◌, ◌<◌, true, not, List, ◌∷◌, length, refl, sym, ap, subst, ◌∙◌, arith, inl, inr}
+use Rattle.std.proofs.Common.{◌≡◌, ◌≢◌, ℕ, ◌*◌, ◌≤◌, ◌<◌, true, not, List, ◌∷◌, length, refl, sym, ap, subst, ◌∙◌, arith}
 use Rattle.std.specs.Prelude.{◌↔◌, nat_eq, if◌then◌else◌}
 use Rattle.std.proofs.lemmas.Bool.{cases_eq, ne_eqb, or_cases}
-use Rattle.quorum_sets.specs.Ids.{Ids, has, size}
+use Rattle.quorum_sets.specs.Ids.{Ids, size}
 use Rattle.quorum_sets.specs.Tolerance.{commits_without}
 use Rattle.quorum_sets.proofs.Offered.{has-union}
-use Rattle.conf_change.specs.Configuration.{Configuration, is_member, member_ids, voters_of}
+use Rattle.conf_change.specs.Configuration.{Configuration, member_ids, voters_of}
 use Rattle.conf_change.specs.declared.step.Step.{Step}
 use Rattle.conf_change.proofs.Offered.{has-all_members}
 use Rattle.conf_plan.specs.OnTheWay.{HasMembersOf, IsAsTolerant}
@@ -69,13 +69,7 @@ IsNearer-from_first kept strategy target down view after step rest can first giv
 -- ---- the next moment is one
 can-at : (strategy : Strategy) (target : Configuration) (view other : ViewState) (c : Configuration) → CanAnswer strategy target view → IsValidWithVoter c → has_path strategy c target ≡ true
     → other.conf_state ≡ c → CanAnswer strategy target other
-can-at strategy target view other c can valid path is = record {
-  not_shortest = can.not_shortest;
-  valid_now = subst IsValidWithVoter (sym is) valid;
-  valid_target = can.valid_target;
-  stays = can.stays;
-  path = ap (λ d. has_path strategy d target) is ∙ path;
-}
+can-at strategy target view other c can valid path is = grind (arith, valid, path)
 
 pub moment-same : (strategy : Strategy) (target : Configuration) (now next : Moment) → IsMoment strategy target now → IsSamePlace now next → IsMoment strategy target next
 moment-same strategy target now next moment same = record {
@@ -87,21 +81,11 @@ moment-same strategy target now next moment same = record {
 
 pub moment-reached : (strategy : Strategy) (target c : Configuration) (now next : Moment) → IsMoment strategy target now → IsValidWithVoter c → has_path strategy c target ≡ true → IsReached c next
     → IsMoment strategy target next
-moment-reached strategy target c now next moment valid path reached = record {
-  can = can-at strategy target now.view next.view c moment.can valid path reached.conf_state;
-  valid = subst IsValidWithVoter (sym reached.becomes) valid;
-  path = ap (λ d. has_path strategy d target) reached.becomes ∙ path;
-  not_pending = λ none. reached.becomes ∙ sym reached.conf_state;
-}
+moment-reached strategy target c now next moment valid path reached = grind (arith, can-at, valid, path)
 
 pub moment-under_way : (strategy : Strategy) (target c : Configuration) (now next : Moment) → IsMoment strategy target now → IsValidWithVoter c → has_path strategy c target ≡ true → IsUnderWay c now next
     → IsMoment strategy target next
-moment-under_way strategy target c now next moment valid path under_way = record {
-  can = can-at strategy target now.view next.view now.view.conf_state moment.can moment.can.valid_now moment.can.path under_way.conf_state;
-  valid = subst IsValidWithVoter (sym under_way.becomes) valid;
-  path = ap (λ d. has_path strategy d target) under_way.becomes ∙ path;
-  not_pending = λ none. absurd (under_way.pending none);
-}
+moment-under_way strategy target c now next moment valid path under_way = grind (arith, can-at, valid, path)
 
 -- ---- members
 pub now-within_all : (target : Configuration) (now : Moment) → IsWithin (member_ids now.view.conf_state) (all_members target now)
@@ -115,33 +99,20 @@ target-within_all target now = union-right (member_ids now.view.conf_state ∪ m
 
 -- the members of a configuration with those of the ends
 pub ends-within_all : (target c : Configuration) (now : Moment) → HasMembersOf now.view.conf_state target c → IsWithin (member_ids c) (all_members target now)
-ends-within_all target c now members q here = elim (or_cases (is_member now.view.conf_state q) (is_member target q) (members q (sym (has-all_members c q) ∙ here))) [
-  | inl before ↦ now-within_all target now q (has-all_members now.view.conf_state q ∙ before)
-  | inr there ↦ target-within_all target now q (has-all_members target q ∙ there)
-]
+ends-within_all target c now members q here = grind (arith, or_cases, members, has-all_members, now-within_all, target-within_all)
 
 all-fewer : (target : Configuration) (now next : Moment) → IsWithin (member_ids next.view.conf_state) (all_members target now) → IsWithin (member_ids next.becomes) (all_members target now)
     → size (all_members target next) ≤ size (all_members target now)
-all-fewer target now next first second = size-within (all_members target next) (all_members target now) (λ q here.
-    elim (or_cases (has (member_ids next.view.conf_state ∪ member_ids next.becomes) q) (has (member_ids target) q) (sym (has-union (member_ids next.view.conf_state ∪ member_ids next.becomes) (member_ids target) q) ∙ here)) [
-      | inl either ↦ elim (or_cases (has (member_ids next.view.conf_state) q) (has (member_ids next.becomes) q) (sym (has-union (member_ids next.view.conf_state) (member_ids next.becomes) q) ∙ either)) [
-        | inl in_first ↦ first q in_first
-        | inr in_second ↦ second q in_second
-      ]
-      | inr there ↦ target-within_all target now q there
-    ])
+all-fewer target now next first second = grind (arith, size-within, or_cases, has-union, target-within_all)
 
 pub all-same : (target : Configuration) (now next : Moment) → IsSamePlace now next → size (all_members target next) ≤ size (all_members target now)
-all-same target now next same =
-    all-fewer target now next (subst (λ c. IsWithin (member_ids c) (all_members target now)) (sym same.conf_state) (now-within_all target now)) (subst (λ c. IsWithin (member_ids c) (all_members target now)) (sym same.becomes) (then-within_all target now))
+all-same target now next same = grind (arith, all-fewer, IsWithin, now-within_all, then-within_all)
 
 pub all-reached : (target c : Configuration) (now next : Moment) → IsWithin (member_ids c) (all_members target now) → IsReached c next → size (all_members target next) ≤ size (all_members target now)
-all-reached target c now next within reached =
-    all-fewer target now next (subst (λ d. IsWithin (member_ids d) (all_members target now)) (sym reached.conf_state) within) (subst (λ d. IsWithin (member_ids d) (all_members target now)) (sym reached.becomes) within)
+all-reached target c now next within reached = grind (arith, all-fewer, IsWithin)
 
 pub all-under_way : (target c : Configuration) (now next : Moment) → IsWithin (member_ids c) (all_members target now) → IsUnderWay c now next → size (all_members target next) ≤ size (all_members target now)
-all-under_way target c now next within under_way =
-    all-fewer target now next (subst (λ d. IsWithin (member_ids d) (all_members target now)) (sym under_way.conf_state) (now-within_all target now)) (subst (λ d. IsWithin (member_ids d) (all_members target now)) (sym under_way.becomes) within)
+all-under_way target c now next within under_way = grind (arith, all-fewer, IsWithin, now-within_all)
 
 -- ---- who is needed is a member
 pub IsOfMembers-from_view : AreKept → (strategy : Strategy) (target : Configuration) (down : Ids) (view : ViewState) → CanAnswer strategy target view → IsOfMembers (situation strategy target down view)
@@ -163,10 +134,7 @@ lack-bound kept strategy target down now can =
 
 -- ---- whether a change is pending
 pub pending-same : (m n : ℕ) → ((m ≡ 0) ↔ (n ≡ 0)) → not (nat_eq m 0) ≡ not (nat_eq n 0)
-pending-same m n alike = elim (cases_eq n 0) [
-  | inl none ↦ ap (λ k. not (nat_eq k 0)) (alike.1 none ∙ sym none)
-  | inr some ↦ ap not (ne_eqb m 0 (λ none. some (alike.0 none)) ∙ sym (ne_eqb n 0 some))
-]
+pending-same m n alike = grind (arith, cases_eq, not, ne_eqb)
 
 -- one while a change is pending, or none
 abbrev pub changes_pending : ViewState → ℕ
@@ -179,10 +147,7 @@ pub changes-one : (view : ViewState) → view.pending_conf_index ≢ 0 → chang
 changes-one view some = ap (λ b. if not b then 1 else 0) (ne_eqb view.pending_conf_index 0 some)
 
 pub changes-few : (view : ViewState) → changes_pending view ≤ 1
-changes-few view = elim (cases_eq view.pending_conf_index 0) [
-  | inl none ↦ omega (arith, changes-none view none)
-  | inr some ↦ omega (arith, changes-one view some)
-]
+changes-few view = grind (arith, cases_eq, changes-none, changes-one)
 
 -- ---- the parts of the number in the same place
 pub steps-same : (strategy : Strategy) (target : Configuration) (down : Ids) (now next : Moment) → next.becomes ≡ now.becomes → steps_left strategy target down next ≡ steps_left strategy target down now

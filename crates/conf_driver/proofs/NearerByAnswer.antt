@@ -1,6 +1,5 @@
 -- Each answer that is carried out makes the number smaller that is left.
-use Rattle.std.proofs.Common.{◌≡◌, ◌≢◌, ℕ, ◌+◌, ◌*◌, ◌≤◌, ◌<◌, length, sym, ap, subst, ◌∙◌, arith, inl, inr}
-use Rattle.std.specs.Prelude.{if◌then◌else◌}
+use Rattle.std.proofs.Common.{◌≡◌, ◌≢◌, ℕ, ◌+◌, ◌*◌, ◌≤◌, ◌<◌, length, sym, ap, ◌∙◌, arith, inl, inr}
 use Rattle.quorum_sets.specs.Ids.{Ids, size}
 use Rattle.conf_change.specs.Configuration.{Configuration, member_ids}
 use Rattle.conf_change.specs.declared.step.Step.{Step}
@@ -41,10 +40,7 @@ pub moment-by_answer : AreKept → (strategy : Strategy) (target : Configuration
     → Says (situation strategy target down now.view) (steps_to strategy target down now.view.conf_state) answer → IsMoment strategy target next
 moment-by_answer kept strategy target down now next (Start ids) moment carried says = moment-same strategy target now next moment carried.leads.0
 moment-by_answer kept strategy target down now next (Stop ids) moment carried says = moment-same strategy target now next moment carried.leads.0
-moment-by_answer kept strategy target down now next (Transfer id) moment carried says = elim carried.leads.1 [
-  | inl same ↦ moment-same strategy target now next moment same
-  | inr reached ↦ moment-reached strategy target now.becomes now next moment moment.valid moment.path reached.1
-]
+moment-by_answer kept strategy target down now next (Transfer id) moment carried says = grind (arith, moment-same, moment-reached)
 moment-by_answer kept strategy target down now next (Propose step) moment carried says = moment-taken kept strategy target down now next step moment says.1 carried.leads
 moment-by_answer kept strategy target down now next (Wait NoLeader ids) moment carried says = moment-same strategy target now next moment carried.leads
 moment-by_answer kept strategy target down now next (Wait Pending ids) moment carried says = moment-reached strategy target now.becomes now next moment moment.valid moment.path carried.leads
@@ -76,8 +72,7 @@ servers-same target now next same = ap (λ r. size (r ∖ member_ids target) + s
 
 leader-stays : (strategy : Strategy) (target : Configuration) (down : Ids) (now next : Moment) → IsSamePlace now next → next.view.lead ≡ now.view.lead
     → leader_off (situation strategy target down next.view) ≡ leader_off (situation strategy target down now.view)
-leader-stays strategy target down now next same lead =
-    leader-same strategy target down now next same ∙ ap (λ l. leader_off (record (situation strategy target down now.view) { lead = l })) lead
+leader-stays strategy target down now next same lead = grind (arith, leader-same)
 
 -- ---- less work is left
 by_work : AreKept → (strategy : Strategy) (target : Configuration) (down : Ids) (now next : Moment) → IsMoment strategy target next → size (all_members target next) ≤ size (all_members target now)
@@ -89,20 +84,12 @@ by_work kept strategy target down now next moment few less =
 -- servers are started or stopped
 by_servers : AreKept → (strategy : Strategy) (target : Configuration) (down : Ids) (now next : Moment) → IsMoment strategy target next → IsSamePlace now next → next.view.lead ≡ now.view.lead
     → servers_off target next.view < servers_off target now.view → left strategy target down next < left strategy target down now
-by_servers kept strategy target down now next moment same lead fewer =
-    by_work kept strategy target down now next moment (all-same target now next same)
-    (fall-servers (servers_off target now.view) (steps_left strategy target down now) (changes_pending now.view) (leader_off (situation strategy target down now.view))
-    (servers_off target next.view) (steps_left strategy target down next) (changes_pending next.view) (leader_off (situation strategy target down next.view))
-    fewer (steps-same strategy target down now next same.becomes) (changes-same now next same) (leader-stays strategy target down now next same lead))
+by_servers kept strategy target down now next moment same lead fewer = grind (arith, by_work, all-same, fall-servers, changes_pending, steps-same, changes-same, leader-stays)
 
 -- leadership has moved, or there is a leader
 by_leader : AreKept → (strategy : Strategy) (target : Configuration) (down : Ids) (now next : Moment) → IsMoment strategy target next → IsSamePlace now next → next.view.running ≡ now.view.running
     → leader_off (situation strategy target down next.view) < leader_off (situation strategy target down now.view) → left strategy target down next < left strategy target down now
-by_leader kept strategy target down now next moment same running less =
-    by_work kept strategy target down now next moment (all-same target now next same)
-    (fall-leader (servers_off target now.view) (steps_left strategy target down now) (changes_pending now.view) (leader_off (situation strategy target down now.view))
-    (servers_off target next.view) (steps_left strategy target down next) (changes_pending next.view) (leader_off (situation strategy target down next.view))
-    (servers-same target now next running) (steps-same strategy target down now next same.becomes) (changes-same now next same) less)
+by_leader kept strategy target down now next moment same running less = grind (arith, by_work, all-same, fall-leader, changes_pending, servers-same, steps-same, changes-same)
 
 -- the change that was pending has led to its configuration
 by_change : AreKept → (strategy : Strategy) (target : Configuration) (down : Ids) (now next : Moment) → IsMoment strategy target next → IsReached now.becomes next → next.view.running ≡ now.view.running → next.view.lead ≢ 0
@@ -142,13 +129,7 @@ by_step kept strategy target down now next step moment moment_next first taken r
 by_lack : (strategy : Strategy) (target : Configuration) (down : Ids) (now next : Moment) → IsSamePlace now next → next.view.lead ≡ now.view.lead → next.view.running ≡ now.view.running
     → lack (record (situation strategy target down now.view) { up = up_and_caught_up down next.view; heard = heard_from next.view }) < lack (situation strategy target down now.view)
     → left strategy target down next < left strategy target down now
-by_lack strategy target down now next same lead running less =
-    falls-second (size (all_members target now)) (size (all_members target next)) (work_left strategy target down now) (work_left strategy target down next) (lack (situation strategy target down now.view)) (lack (situation strategy target down next.view))
-    (all-same target now next same)
-    (stay-all (servers_off target now.view) (steps_left strategy target down now) (changes_pending now.view) (leader_off (situation strategy target down now.view))
-    (servers_off target next.view) (steps_left strategy target down next) (changes_pending next.view) (leader_off (situation strategy target down next.view))
-    (servers-same target now next running) (steps-same strategy target down now next same.becomes) (changes-same now next same) (leader-stays strategy target down now next same lead))
-    (subst (λ n. n < lack (situation strategy target down now.view)) (sym (lack-same strategy target down now next same lead running)) less)
+by_lack strategy target down now next same lead running less = grind (arith, falls-second, all-same, stay-all, changes_pending, servers-same, steps-same, changes-same, leader-stays, lack-same)
 
 grown-by_arrival : AreKept → (strategy : Strategy) (target : Configuration) (down ids arrived : Ids) (now next : Moment) → HasArrived down ids arrived now next
     → HasGrown (situation strategy target down now.view) (up_and_caught_up down next.view) (heard_from next.view)
@@ -161,30 +142,15 @@ grown-by_arrival kept strategy target down ids arrived now next come = record {
 -- ---- each answer
 pub nearer-by_answer : AreKept → (strategy : Strategy) (target : Configuration) (down : Ids) (now next : Moment) (answer : Action) → IsMoment strategy target now → IsMoment strategy target next → CarriedOut down now answer next
     → Says (situation strategy target down now.view) (steps_to strategy target down now.view.conf_state) answer → left strategy target down next < left strategy target down now
-nearer-by_answer kept strategy target down now next (Start ids) moment moment_next carried says =
-    let one = id-of_some ids says.1.some in
-    let less = fewer-once_started now.view.running (member_ids target) ids one.0 says.1.within one.1 in
-    by_servers kept strategy target down now next moment_next carried.leads.0 carried.leads.1
-    (subst (λ r. size (r ∖ member_ids target) + size (member_ids target ∖ r) < servers_off target now.view) (sym carried.running) less)
-nearer-by_answer kept strategy target down now next (Stop ids) moment moment_next carried says =
-    let one = id-of_some ids says.1.some in
-    let less = fewer-once_stopped now.view.running (member_ids target) ids one.0 says.1.within one.1 in
-    by_servers kept strategy target down now next moment_next carried.leads.0 carried.leads.1
-    (subst (λ r. size (r ∖ member_ids target) + size (member_ids target ∖ r) < servers_off target now.view) (sym carried.running) less)
-nearer-by_answer kept strategy target down now next (Transfer id) moment moment_next carried says = elim carried.leads.1 [
-  | inl same ↦
-      let s = situation strategy target down now.view in
-      let to = leader-same strategy target down now next same ∙ ap (λ l. leader_off (record s { lead = l })) carried.leads.0 in
-      by_leader kept strategy target down now next moment_next same carried.running (subst (λ n. n < leader_off s) (sym to) says.nearer)
-  | inr reached ↦ by_change kept strategy target down now next moment_next reached.1 carried.running carried.leader (changes-one now.view reached.0)
-]
+nearer-by_answer kept strategy target down now next (Start ids) moment moment_next carried says = grind (arith, id-of_some, fewer-once_started, by_servers)
+nearer-by_answer kept strategy target down now next (Stop ids) moment moment_next carried says = grind (arith, id-of_some, fewer-once_stopped, by_servers)
+nearer-by_answer kept strategy target down now next (Transfer id) moment moment_next carried says = grind (arith, leader-same, by_leader, by_change, changes-one)
 nearer-by_answer kept strategy target down now next (Propose step) moment moment_next carried says = by_step kept strategy target down now next step moment moment_next says.1 carried.leads carried.running carried.leader
 nearer-by_answer kept strategy target down now next (Wait NoLeader ids) moment moment_next carried says =
     let before = off-of_none (situation strategy target down now.view) says in
     let later = off-of_a_leader (situation strategy target down next.view) carried.leader in
     by_leader kept strategy target down now next moment_next carried.leads carried.running (omega (arith, before, later))
-nearer-by_answer kept strategy target down now next (Wait Pending ids) moment moment_next carried says =
-    by_change kept strategy target down now next moment_next carried.leads carried.running carried.leader (ap (λ b. if b then 1 else 0) says.1)
+nearer-by_answer kept strategy target down now next (Wait Pending ids) moment moment_next carried says = grind (arith, by_change)
 nearer-by_answer kept strategy target down now next (Wait Heard ids) moment moment_next carried says = absurd carried.leads
 nearer-by_answer kept strategy target down now next (Wait Unheard ids) moment moment_next carried says =
     let s = situation strategy target down now.view in

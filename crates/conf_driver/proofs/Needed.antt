@@ -1,5 +1,5 @@
 -- The members for whom a wait may be: which of them are members, and that they get no more while more have caught up.
-use Rattle.std.proofs.Common.{◌≡◌, ℕ, ◌*◌, ◌≤◌, ◌<◌, Bool, true, false, not, ◌||◌, List, [], ◌∷◌, refl, sym, ap, ◌∙◌, arith, inl, inr}
+use Rattle.std.proofs.Common.{◌≡◌, ℕ, ◌*◌, ◌≤◌, ◌<◌, Bool, true, false, not, ◌||◌, List, [], ◌∷◌, refl, sym, ap, ◌∙◌, arith}
 use Rattle.std.specs.Prelude.{if◌then◌else◌}
 use Rattle.std.proofs.lemmas.Bool.{both_ways, or_cases, or_left, or_right}
 use Rattle.quorum_sets.specs.Ids.{Ids, has, is_empty, no_ids, size}
@@ -35,16 +35,10 @@ within-none : (a : Ids) → IsWithin no_ids a
 within-none a q here = absurd (both_ways _ (has-no_ids q) here)
 
 pub within-union : (a b c : Ids) → IsWithin a c → IsWithin b c → IsWithin (a ∪ b) c
-within-union a b c first second q here = elim (or_cases (has a q) (has b q) (sym (has-union a b q) ∙ here)) [
-  | inl in_first ↦ first q in_first
-  | inr in_second ↦ second q in_second
-]
+within-union a b c first second q here = grind (arith, or_cases, has-union)
 
 within-grown : (a b c : Ids) → IsWithin b c → IsWithin (a ∪ b) (a ∪ c)
-within-grown a b c more q here = elim (or_cases (has a q) (has b q) (sym (has-union a b q) ∙ here)) [
-  | inl in_first ↦ has-union a c q ∙ or_left _ _ in_first
-  | inr in_second ↦ has-union a c q ∙ or_right _ _ (more q in_second)
-]
+within-grown a b c more q here = grind (arith, or_cases, has-union, or_left, or_right)
 
 -- a set that is left out under a test, and also under one that holds where it does
 within-unless : (test other : Bool) (a : Ids) → (test ≡ true → other ≡ true) → IsWithin (if other then no_ids else a) (if test then no_ids else a)
@@ -66,10 +60,7 @@ learners-are_members c q here = has-all_members c q ∙ or_right (has c.incoming
 -- the voters after the first step are members before it
 pub voters_after-are_members : (now target : Configuration) (steps : List Step) → VotersLearnFirst now steps target → IsWithin (voter_ids (after_first now steps)) (member_ids now)
 voters_after-are_members now target [] learn q here = voters-are_members now q here
-voters_after-are_members now target (step ∷ steps) learn q here =
-    let after = learn.0 in
-    let same = after_first-is now after (step ∷ steps) steps step refl learn.1.0 in
-    has-all_members now q ∙ voters-were_members now after step q learn.1.0 learn.1.1 (sym (has-union after.incoming after.outgoing q) ∙ ap (λ c. has (voter_ids c) q) (sym same) ∙ here)
+voters_after-are_members now target (step ∷ steps) learn q here = grind (arith, after_first-is, has-all_members, voters-were_members, has-union)
 
 -- how the sets of a situation hang together
 pub record IsOfMembers (s : Situation) : Type 0 where

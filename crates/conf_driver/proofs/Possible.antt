@@ -1,6 +1,6 @@
 -- Each answer can be carried out, but those that lead to nothing.
-use Rattle.std.proofs.Common.{◌≡◌, ◌≢◌, ℕ, true, false, not, ◌&&◌, ◌||◌, ◌==◌, ◌∷◌, refl, sym, ap, subst, ◌∙◌, arith, eq-eqb, inl, inr}
-use Rattle.std.specs.Prelude.{Some, find, flat_map, nat_le, option_map, unwrap_or}
+use Rattle.std.proofs.Common.{◌≡◌, ◌≢◌, ℕ, true, false, not, ◌&&◌, ◌||◌, ◌==◌, ◌∷◌, refl, sym, ap, subst, ◌∙◌, arith, eq-eqb, inl}
+use Rattle.std.specs.Prelude.{flat_map, nat_le}
 use Rattle.std.proofs.lemmas.Bool.{and_from, and_parts, cases_Bool, cond-false, cond-true, le-leb, or_left, or_right}
 use Rattle.quorum_sets.specs.Ids.{Ids, has}
 use Rattle.quorum_sets.proofs.Offered.{has-ids_of}
@@ -40,19 +40,14 @@ heard-with_comer : (view : ViewState) (id q : ℕ) → has (heard_from (with_com
 heard-with_comer view id q = has-ids_of (id ∷ flat_map heard view.progress) q ∙ ap (λ b. q == id || b) (sym (has-ids_of (flat_map heard view.progress) q))
 
 match-of_comer : (view : ViewState) (id q : ℕ) → (id == q) ≡ true → match_of (with_comer view id) q ≡ caught_up_index view
-match-of_comer view id q same =
-    ap (λ found. unwrap_or (option_map (λ (m : MemberView). m.matched) found) 0) (cond-true (id == q) (Some (comer view id)) (find (λ (m : MemberView). m.id == q) view.progress) same)
+match-of_comer view id q same = grind (arith, cond-true)
 
 match-of_other : (view : ViewState) (id q : ℕ) → (id == q) ≡ false → match_of (with_comer view id) q ≡ match_of view q
-match-of_other view id q other =
-    ap (λ found. unwrap_or (option_map (λ (m : MemberView). m.matched) found) 0) (cond-false (id == q) (Some (comer view id)) (find (λ (m : MemberView). m.id == q) view.progress) other)
+match-of_other view id q other = grind (arith, cond-false)
 
 -- who had caught up still has
 reaches : (view : ViewState) (id q : ℕ) → nat_le (caught_up_index view) (match_of view q) ≡ true → nat_le (caught_up_index view) (match_of (with_comer view id) q) ≡ true
-reaches view id q had = elim (cases_Bool (id == q)) [
-  | inl same ↦ ap (nat_le (caught_up_index view)) (match-of_comer view id q same) ∙ le-leb (caught_up_index view) (caught_up_index view) (omega arith)
-  | inr other ↦ ap (nat_le (caught_up_index view)) (match-of_other view id q other) ∙ had
-]
+reaches view id q had = grind (arith, cases_Bool, match-of_comer, le-leb, match-of_other)
 
 up-with_comer : (down : Ids) (view : ViewState) (id q : ℕ) → has (up_and_caught_up down view) q ≡ true → has (up_and_caught_up down (with_comer view id)) q ≡ true
 up-with_comer down view id q is_up =

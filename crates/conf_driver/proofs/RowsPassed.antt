@@ -1,4 +1,5 @@
 -- What it means that a row of the table does not answer.
+use Rattle.std.proofs.Common.{arith}
 use Rattle.std.proofs.Common.{◌≡◌, true, false, not, ◌&&◌, ◌||◌}
 use Rattle.std.specs.Prelude.{None}
 use Rattle.std.proofs.lemmas.Bool.{not-false}
@@ -11,7 +12,7 @@ use Rattle.conf_driver.specs.Rows.{if_any, may_stop, wait_for}
 use Rattle.conf_driver.specs.Situation.{Situation, is_less, tolerance}
 use Rattle.conf_driver.specs.declared.action.Action.TheVariants.{Start, Stop, Stuck, Wait}
 use Rattle.conf_driver.specs.declared.action.StuckReason.TheVariants.{Reused}
-use Rattle.conf_driver.specs.declared.action.WaitReason.TheVariants.{Behind, Heard, Unheard}
+use Rattle.conf_driver.specs.declared.action.WaitReason.TheVariants.{Behind, Heard}
 use Rattle.conf_driver.proofs.RowAnswers.{holds-from_none, if_any-none, none-if, none-unless, when-none}
 
 pub quorum-passed : (s : Situation) → row.quorum_lost s ≡ None → is_quorum (voters_of s.before) (s.voters ∖ s.down) ≡ true
@@ -42,9 +43,7 @@ pub leaving-passed : (s : Situation) → row.is_leaving s ≡ None → (s.has_st
 leaving-passed s is = when-none (s.has_step && s.before.auto_leave) _ is
 
 pub successor-passed : (s : Situation) → row.successor_lags s ≡ None → has s.voters_after s.lead ≡ false → is_empty (s.voters ∩ s.voters_after ∖ s.down) ≡ true
-successor-passed s is leads_not =
-    let could = s.voters ∩ s.voters_after ∖ s.down in
-    if_any-none could (wait_for s) (none-unless (has s.voters_after s.lead) (if_any could (wait_for s)) is leads_not)
+successor-passed s is leads_not = grind (arith, if_any-none, none-unless)
 
 pub new_voters-passed : (s : Situation) → row.new_voter_lags s ≡ None → is_empty (s.voters_after ∩ s.members ∖ s.voters ∖ s.down ∖ s.up) ≡ true
 new_voters-passed s is = if_any-none _ (wait_for s) is
@@ -57,9 +56,7 @@ quorum_up-passed s is = not-false _ (when-none (not (is_quorum (voters_of s.befo
 
 pub silent-passed : (s : Situation) → row.voter_is_silent s ≡ None → (is_joint s.after || is_less (tolerance s.after s.up) (tolerance s.before s.up)) ≡ true
     → is_empty (s.voters_after ∖ s.down ∖ s.heard) ≡ true
-silent-passed s is worse =
-    let silent = s.voters_after ∖ s.down ∖ s.heard in
-    if_any-none silent (Wait Unheard) (none-if (is_joint s.after || is_less (tolerance s.after s.up) (tolerance s.before s.up)) (if_any silent (Wait Unheard)) is worse)
+silent-passed s is worse = grind (arith, if_any-none, none-if)
 
 pub has_step-passed : (s : Situation) → row.at_target s ≡ None → s.has_step ≡ true
 has_step-passed s is = not-false _ (when-none (not s.has_step) _ is)

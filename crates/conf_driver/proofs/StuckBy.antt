@@ -7,7 +7,6 @@ use Rattle.conf_change.specs.Configuration.{member_ids, voters_of}
 use Rattle.conf_change.specs.declared.step.Step.{Step}
 use Rattle.conf_driver.specs.IdSets.{◌∪◌, ◌∩◌, ◌∖◌}
 use Rattle.conf_driver.specs.Next.{answer_in, propose_first}
-use Rattle.conf_driver.specs.Rows as row
 use Rattle.conf_driver.specs.View.{voter_ids}
 use Rattle.conf_driver.specs.declared.action.Action.TheVariants.{Stuck}
 use Rattle.conf_driver.specs.declared.action.StuckReason.{StuckReason}

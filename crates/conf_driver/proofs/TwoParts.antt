@@ -15,6 +15,4 @@ falls-first m n a b x y few small less =
 
 -- the second part is smaller, and the first no greater
 pub falls-second : (m n a b x y : ℕ) → n ≤ m → b ≤ a → y < x → (2 * n + 1) * b + y < (2 * m + 1) * a + x
-falls-second m n a b x y few no_more less =
-    let product = mul-le (2 * n + 1) b (2 * m + 1) a (omega (arith, few)) no_more in
-    omega (arith, product, less)
+falls-second m n a b x y few no_more less = grind (arith, mul-le)

@@ -1,17 +1,17 @@
 -- Which row waits, and whom it names.
-use Rattle.std.proofs.Common.{◌≡◌, ℕ, Bool, true, false, not, ◌||◌, List, [], ◌∷◌, refl, sym, ap, ◌∙◌, arith, inl, inr, ◌⊎◌}
+use Rattle.std.proofs.Common.{◌≡◌, ℕ, Bool, true, false, not, List, [], ◌∷◌, refl, sym, ap, ◌∙◌, arith, inl, inr, ◌⊎◌}
 use Rattle.std.specs.Prelude.{Option, Some, None, length, nat_eq, slice_get, option_map, unwrap_or, if◌then◌else◌}
 use Rattle.std.proofs.lemmas.Bool.{both_ways, cases_Bool, cond-false, cond-true, not-true, or_left}
 use Rattle.quorum_sets.specs.Ids.{Ids, ascending, has, is_empty}
 use Rattle.quorum_sets.specs.Voters.{is_quorum}
 use Rattle.quorum_sets.proofs.Offered.{has-union}
-use Rattle.conf_change.specs.Configuration.{is_joint, voters_of}
+use Rattle.conf_change.specs.Configuration.{voters_of}
 use Rattle.conf_change.specs.declared.step.Step.{Step}
 use Rattle.conf_driver.specs.IdSets.{◌∪◌, ◌∩◌, ◌∖◌, least_of, or_else, or_second}
 use Rattle.conf_driver.specs.Next.{answer_in, propose_first}
 use Rattle.conf_driver.specs.Rows as row
 use Rattle.conf_driver.specs.Rows.{done_or_wait, if_any, needed_at_target, transfer_to_one, wait_for}
-use Rattle.conf_driver.specs.Situation.{Situation, is_less, tolerance}
+use Rattle.conf_driver.specs.Situation.{Situation}
 use Rattle.conf_driver.specs.declared.action.Action.{Action}
 use Rattle.conf_driver.specs.declared.action.Action.TheVariants.{Done, Transfer, Wait}
 use Rattle.conf_driver.specs.declared.action.WaitReason.{WaitReason}
@@ -100,16 +100,10 @@ same_wait a b x y is = (cc, cc)
 
 -- ---- the first set, or the second
 pub in-or_else : (a b : Ids) (id : ℕ) → has (or_else a b) id ≡ true → (has a id ≡ true) ⊎ (has b id ≡ true)
-in-or_else a b id here = elim (cases_Bool (is_empty a)) [
-  | inl none ↦ inr (ap (λ s. has s id) (sym (cond-true (is_empty a) b a none)) ∙ here)
-  | inr some ↦ inl (ap (λ s. has s id) (sym (cond-false (is_empty a) b a some)) ∙ here)
-]
+in-or_else a b id here = grind (arith, cases_Bool, cond-true, cond-false)
 
 pub or_else-some : (a b : Ids) → is_empty b ≡ false → is_empty (or_else a b) ≡ false
-or_else-some a b some_second = elim (cases_Bool (is_empty a)) [
-  | inl none ↦ ap is_empty (cond-true (is_empty a) b a none) ∙ some_second
-  | inr some ↦ ap is_empty (cond-false (is_empty a) b a some) ∙ some
-]
+or_else-some a b some_second = grind (arith, cases_Bool, cond-true, cond-false)
 
 -- ---- no leadership is moved, so none of the ids could lead
 empty-list : (xs : List ℕ) → slice_get xs 0 ≡ None → nat_eq (length xs) 0 ≡ true
@@ -172,11 +166,7 @@ unheard s set ids why is some not_down member =
     }
 
 names-wait_for : (s : Situation) (set ids : Ids) (why : WaitReason) → wait_for s set ≡ Wait why ids → is_empty set ≡ false → ((id : ℕ) → has set id ≡ true → IsLagging s id) → NamesLagging s why ids
-names-wait_for s set ids why is some lagging = elim (cases_Bool (is_empty (set ∖ s.heard))) [
-  | inl all ↦ inl (behind s set ids why (sym (cond-true (is_empty (set ∖ s.heard)) (Wait Behind set) (Wait Unheard (set ∖ s.heard)) all) ∙ is) some (λ id here. in-second set s.heard id all here) lagging)
-  | inr silent ↦ inr (unheard s set ids why (sym (cond-false (is_empty (set ∖ s.heard)) (Wait Behind set) (Wait Unheard (set ∖ s.heard)) silent) ∙ is) silent
-      (λ id here. (lagging id here).not_down) (λ id here. inl (lagging id here).member))
-]
+names-wait_for s set ids why is some lagging = grind (arith, cases_Bool, behind, cond-true, some, in-second, lagging, unheard, cond-false)
 
 -- ---- the rows on the step
 -- how the sets of a situation hang together
@@ -224,10 +214,7 @@ names-nonvoter s why ids sets counts is =
     })
 
 in-needed : (s : Situation) (id : ℕ) → IsOfOneView s → has (needed_at_target s) id ≡ true → has s.members id ≡ true
-in-needed s id sets here = elim (cases_Bool (is_empty (s.running ∖ s.members))) [
-  | inl none ↦ sets.needed id (ap (λ t. has t id) (sym (cond-true (is_empty (s.running ∖ s.members)) (s.before.incoming ∪ s.before.learners) s.members none)) ∙ here)
-  | inr some ↦ ap (λ t. has t id) (sym (cond-false (is_empty (s.running ∖ s.members)) (s.before.incoming ∪ s.before.learners) s.members some)) ∙ here
-]
+in-needed s id sets here = grind (arith, cases_Bool, cond-true, cond-false)
 
 pub done_or_wait-waits : (s : Situation) (set ids : Ids) (why : WaitReason) → done_or_wait s set ≡ Wait why ids → (is_empty set ≡ false) × (wait_for s set ≡ Wait why ids)
 done_or_wait-waits s set ids why is = by_test (is_empty set) is
@@ -243,43 +230,16 @@ lags-from_rest s set id within here =
     record { not_down = of_down.1; not_up = of_up.1; member = within id of_down.0 }
 
 pub names-target : (s : Situation) (why : WaitReason) (ids : Ids) → IsOfOneView s → row.at_target s ≡ Some (Wait why ids) → NamesLagging s why ids
-names-target s why ids sets is =
-    let set = needed_at_target s ∖ s.down ∖ s.up in
-    let row = when-some (not s.has_step) (done_or_wait s set) (Wait why ids) is in
-    let waits = done_or_wait-waits s set ids why row.1 in
-    names-wait_for s set ids why waits.1 waits.0 (λ id here. lags-from_rest s (needed_at_target s) id (λ q. in-needed s q sets) here)
+names-target s why ids sets is = grind (arith, when-some, not, done_or_wait-waits, names-wait_for, lags-from_rest, in-needed)
 
 pub names-new_voter : (s : Situation) (why : WaitReason) (ids : Ids) → row.new_voter_lags s ≡ Some (Wait why ids) → NamesLagging s why ids
-names-new_voter s why ids is =
-    let known = s.voters_after ∩ s.members in
-    let set = known ∖ s.voters ∖ s.down ∖ s.up in
-    let row = if_any-some set (wait_for s) (Wait why ids) is in
-    names-wait_for s set ids why row.1 row.0
-    (λ id here. lags-from_rest s (known ∖ s.voters) id (λ q in_it. (in-common s.voters_after s.members q (in-without known s.voters q in_it).0).1) here)
+names-new_voter s why ids is = grind (arith, if_any-some, names-wait_for, lags-from_rest, in-common, in-without)
 
 pub names-behind : (s : Situation) (why : WaitReason) (ids : Ids) → row.voter_is_behind s ≡ Some (Wait why ids) → NamesLagging s why ids
-names-behind s why ids is =
-    let known = s.voters_after ∩ s.members in
-    let set = known ∩ s.heard ∖ s.down ∖ s.up in
-    let row = if_any-some set (Wait Behind) (Wait why ids) is in
-    inl (behind s set ids why row.1 row.0
-    (λ id here. (in-common known s.heard id (in-without (known ∩ s.heard) s.down id (in-without (known ∩ s.heard ∖ s.down) s.up id here).0).0).1)
-    (λ id here. lags-from_rest s (known ∩ s.heard) id (λ q in_it. (in-common s.voters_after s.members q (in-common known s.heard q in_it).0).1) here))
+names-behind s why ids is = grind (arith, if_any-some, behind, in-common, in-without, lags-from_rest)
 
 pub names-quorum : (s : Situation) (why : WaitReason) (ids : Ids) → IsOfOneView s → row.quorum_lost s ≡ None → row.no_quorum_is_up s ≡ Some (Wait why ids) → NamesLagging s why ids
-names-quorum s why ids sets counts is =
-    let set = s.voters ∖ s.down ∖ s.up in
-    let row = when-some (not (is_quorum (voters_of s.before) s.up)) (wait_for s set) (Wait why ids) is in
-    let some : is_empty set ≡ false = elim (cases_Bool (is_empty set)) [
-      | inl none ↦ absurd (both_ways _ (not-true _ row.0) (sets.grows none (quorum-passed s counts)))
-      | inr some ↦ some
-    ] in
-    names-wait_for s set ids why row.1 some (λ id here. lags-from_rest s s.voters id sets.voters here)
+names-quorum s why ids sets counts is = grind (arith, when-some, not, false, cases_Bool, both_ways, not-true, quorum-passed, names-wait_for, lags-from_rest)
 
 pub names-silent : (s : Situation) (why : WaitReason) (ids : Ids) → row.at_target s ≡ None → row.voter_is_silent s ≡ Some (Wait why ids) → NamesLagging s why ids
-names-silent s why ids on_the_way is =
-    let counted = s.voters_after ∖ s.down in
-    let given = some-if (is_joint s.after || is_less (tolerance s.after s.up) (tolerance s.before s.up)) (if_any (counted ∖ s.heard) (Wait Unheard)) (Wait why ids) is in
-    let row = if_any-some (counted ∖ s.heard) (Wait Unheard) (Wait why ids) given.1 in
-    inr (unheard s counted ids why row.1 row.0 (λ id here. (in-without s.voters_after s.down id here).1)
-    (λ id here. inr (has_step-passed s on_the_way, (in-without s.voters_after s.down id here).0)))
+names-silent s why ids on_the_way is = grind (arith, some-if, if_any-some, unheard, in-without, has_step-passed)

@@ -85,10 +85,7 @@ no_item (x ∷ xs) none = absurd (cc)
 pub arrived : AreMadeAnew → (strategy : Strategy) (target : Configuration) (down : Ids) (now after : Configuration) (steps : List Step) → IsValidWithVoter now → IsValidWithVoter target
     → has_path strategy now target ≡ true → IsWay strategy target down now steps after → IsRun after (steps_to strategy target down after) target
     → length steps ≡ length (steps_to strategy target down now) → after ≡ target
-arrived anew strategy target down now after steps valid valid_target path way leads whole =
-    let few = at_most anew strategy target down now after steps valid valid_target path way in
-    let none : steps_to strategy target down after ≡ [] = no_item (steps_to strategy target down after) (omega (arith, few, whole)) in
-    subst (λ taken. IsRun after taken target) none leads
+arrived anew strategy target down now after steps valid valid_target path way leads whole = grind (arith, at_most, valid, no_item)
 
 -- ---- what is valid, and has a path
 pub along-can : AreMadeAnew → (strategy : Strategy) (target : Configuration) (down : Ids) (now after : Configuration) (steps : List Step) → IsValidWithVoter now → IsValidWithVoter target

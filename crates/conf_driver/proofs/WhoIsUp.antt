@@ -4,9 +4,8 @@ use Rattle.std.specs.Prelude.{nat_le}
 use Rattle.std.proofs.lemmas.Bool.{and_from, both_ways, cases_Bool, leb-true, leb-false}
 use Rattle.quorum_sets.specs.Ids.{Ids, ascending, has, is_empty}
 use Rattle.quorum_sets.proofs.Offered.{has-ascending, has-ids_where}
-use Rattle.conf_change.specs.Configuration.{is_member, member_ids}
+use Rattle.conf_change.specs.Configuration.{is_member}
 use Rattle.conf_change.proofs.Offered.{has-all_members, has-none_in_empty}
-use Rattle.conf_driver.specs.IdSets.{◌∩◌, ◌∖◌}
 use Rattle.conf_driver.specs.View.{ViewState, caught_up_index, having, heard_from, lacking, match_of, up_and_caught_up}
 use Rattle.conf_driver.proofs.IdsByMember.{has-common, has-without, in-without}
 
@@ -23,10 +22,7 @@ having-all view index ids id none here =
 -- an id that is up: a member that is heard from, is not down, and has what is committed
 pub has-up : (down : Ids) (view : ViewState) (id : ℕ)
     → has (up_and_caught_up down view) id ≡ (nat_le (caught_up_index view) (match_of view id) && (is_member view.conf_state id && has (heard_from view) id && not (has down id)))
-has-up down view id =
-    let members = member_ids view.conf_state in
-    has-having view (caught_up_index view) (members ∩ heard_from view ∖ down) id
-    ∙ ap (λ b. nat_le (caught_up_index view) (match_of view id) && b) (has-without (members ∩ heard_from view) down id ∙ ap (λ b. b && not (has down id)) (has-common members (heard_from view) id ∙ ap (λ b. b && has (heard_from view) id) (has-all_members view.conf_state id)))
+has-up down view id = grind (arith, has-having, has-without, not, has-common, has-all_members)
 
 pub up-not_down : (down : Ids) (view : ViewState) (id : ℕ) → has (up_and_caught_up down view) id ≡ true → has down id ≡ false
 up-not_down down view id up = grind (arith, up, has-up down view id)

@@ -1,8 +1,7 @@
 //! What to do next on the way to a target.
 ghost use Rattle.std.specs.Prelude.{◌≡◌, ◌≢◌, ◌↔◌, true, false, Err, IfOk};
 ghost use Rattle.conf_change.specs.Configuration.{has_voter, is_valid};
-ghost use Rattle.conf_plan.specs.PathBy.{has_path, path_by};
-ghost use Rattle.plan_output.specs.Stages as stage_spec;
+ghost use Rattle.conf_plan.specs.PathBy.{has_path};
 ghost use Rattle.conf_driver.specs.Next as spec;
 ghost use Rattle.conf_driver.specs.Next.{IsWellPosed, next_of};
 ghost use Rattle.conf_driver.specs.Situation.{values_of};

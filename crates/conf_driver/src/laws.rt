@@ -1,5 +1,5 @@
 //! Laws of what [`next`](crate::next) answers, whatever it knows. Each is the contract of a function that does nothing.
-ghost use Rattle.std.specs.Prelude.{◌≡◌, ◌≢◌, ◌+◌, ◌<◌, ◌≤◌, ◌↔◌, ◌⊎◌, ◌||◌, ℕ, true, false, List, length};
+ghost use Rattle.std.specs.Prelude.{◌≡◌, ◌≢◌, ◌+◌, ◌<◌, ◌≤◌, ◌↔◌, ◌⊎◌, ℕ, true, false, List, length};
 ghost use Rattle.quorum_sets.specs.Ids.{Ids, has, is_empty};
 ghost use Rattle.conf_change.specs.Configuration.{Configuration, is_member};
 ghost use Rattle.conf_change.specs.declared.step.Step.{Step};

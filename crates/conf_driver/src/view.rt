@@ -1,7 +1,7 @@
 //! What is known of a cluster, as etcd's raft names it. A leader fills it from raft's `Status`, a tool from what the
 //! members report.
-ghost use Rattle.std.specs.Prelude.{◌≡◌, ◌++◌, map, IfOk, OnOk};
-ghost use Rattle.quorum_sets.specs.Ids.{ascending, has};
+ghost use Rattle.std.specs.Prelude.{◌≡◌, map, IfOk};
+ghost use Rattle.quorum_sets.specs.Ids.{ascending};
 ghost use Rattle.conf_driver.specs.View as spec;
 
 use crate::sets::{common, without};
@@ -73,31 +73,21 @@ pub(crate) fn heard_from(alloc: Global, view: &View) -> Result<InlineIds, NoMemo
 {
     let mut ids = IdList::new(alloc);
     for member in view.progress.as_slice() {
-        add_if_heard(&mut ids, *member)?;
+        if member.recent_active {
+            ids.push(member.id)?;
+        }
     }
     InlineIds::of_list(alloc, ids.as_slice())
-}
-
-// Appends the id of a member, if it is heard from.
-fn add_if_heard(ids: &mut IdList, member: MemberView) -> Result<(), NoMemory>
-    ensures { OnOk result (ids.new.items ≡ ids.old.items ++ spec.heard member) }
-{
-    if member.recent_active {
-        ids.push(member.id)?;
-    }
-    Ok(())
 }
 
 // The last index at which an id is known to have the leader's log, if something is known of it.
 fn known_match(view: &View, id: u64) -> Option<u64>
     ensures { result ≡ spec.known_match view.now id }
 {
-    for member in view.progress.as_slice() {
-        if member.id == id {
-            return Some(member.matched);
-        }
-    }
-    None
+    view.progress
+        .iter()
+        .find(|member| member.id == id)
+        .map(|member| member.matched)
 }
 
 // The last index at which each id of a set is known to have the leader's log, 0 if nothing is known of it.
@@ -137,19 +127,13 @@ pub(crate) fn lacking(view: &View, index: u64, ids: &InlineIds) -> Result<Inline
     without(ids, &having(view, index, ids)?)
 }
 
-// Whether the id votes.
-#[tactic(auto, using(crate::proofs::VoterIds::union_steps))]
-fn is_voter(config: &Config<InlineIds>, id: u64) -> bool
-    ensures { result ≡ has (spec.voter_ids config.now) id }
-{
-    config.incoming.contains(id) || config.outgoing.contains(id)
-}
-
 // Who has this index knows the configuration, as far as this leader can make it known.
+#[tactic(auto, using(crate::proofs::VoterIds::union_steps))]
 fn known_index(view: &View) -> u64
     ensures { result ≡ spec.known_index view.now }
 {
-    if is_voter(&view.conf_state, view.lead) {
+    let now = &view.conf_state;
+    if now.incoming.contains(view.lead) || now.outgoing.contains(view.lead) {
         view.conf_index
     } else {
         view.conf_index.saturating_sub(1)

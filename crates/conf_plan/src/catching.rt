@@ -1,9 +1,8 @@
 //! The members that have to catch up. A new voter with an empty log cannot acknowledge new entries until it has the old
 //! ones, so until then it is as if it were down (Ongaro's dissertation, section 4.2.1).
-ghost use Rattle.std.specs.Prelude.{◌≡◌, ℕ, not, ◌&&◌, ◌||◌, IfOk, OnOk};
+ghost use Rattle.std.specs.Prelude.{◌≡◌, ℕ, ◌||◌, IfOk, OnOk};
 ghost use Rattle.quorum_sets.specs.Ids.{has};
-ghost use Rattle.conf_change.specs.Change.{is_removal, removes};
-ghost use Rattle.conf_change.specs.Configuration.{is_member};
+ghost use Rattle.conf_change.specs.Change.{removes};
 ghost use Rattle.conf_change.specs.Step.{changes_of};
 ghost use Rattle.conf_change.specs.Transition.{step_of};
 ghost use Rattle.conf_change.specs.declared.step.Step.{Step};
@@ -59,7 +58,9 @@ fn catching_up_after<S: MemberSet>(
     let members = after.members()?;
     let mut removed = S::empty(alloc);
     add_removed(&mut removed, changes)?;
-    filtered(alloc, &members, |id| has_lost(before, after, &removed, id))
+    filtered(alloc, &members, |id| {
+        !before.is_member(id) || (removed.contains(id) && !after.outgoing.contains(id))
+    })
 }
 
 // Adds the ids that the changes remove.
@@ -68,28 +69,9 @@ fn add_removed<S: MemberSet>(removed: &mut S, changes: &[Change]) -> Result<(), 
         → has (S.ids removed.new) id ≡ (has (S.ids removed.old) id || removes changes.now id)) }
 {
     for change in changes {
-        if is_removal(change.kind) {
+        if matches!(change.kind, Kind::Remove) {
             removed.insert(change.id)?;
         }
     }
     Ok(())
-}
-
-// Whether a change of this kind removes its id.
-fn is_removal(kind: Kind) -> bool
-    ensures { result ≡ is_removal kind }
-{
-    match kind {
-        Kind::Voter | Kind::Learner | Kind::Update => false,
-        Kind::Remove => true,
-    }
-}
-
-// Whether a member after a step that removes these ids has lost its progress: it was not a member before, or it was
-// removed and added again and is not an outgoing voter.
-fn has_lost<S: MemberSet>(before: &Config<S>, after: &Config<S>, removed: &S, id: u64) -> bool
-    ensures { result ≡ (not (is_member before.now id)
-        || (has (S.ids removed.now) id && not (has after.now.outgoing id))) }
-{
-    !before.is_member(id) || (removed.contains(id) && !after.outgoing.contains(id))
 }

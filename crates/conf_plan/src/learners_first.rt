@@ -8,7 +8,7 @@
 //! (3 4 5)&&(1 2 3)            --leave-joint-->
 //! (3 4 5)
 //! ```
-ghost use Rattle.std.specs.Prelude.{◌≡◌, ◌&&◌, IfOk, OnOk};
+ghost use Rattle.std.specs.Prelude.{◌≡◌, IfOk, OnOk};
 ghost use Rattle.conf_plan.specs.LearnersFirst as first;
 ghost use Rattle.conf_plan.specs.LearnersFirst.{learners_first_from_single};
 ghost use Rattle.conf_plan.specs.Run.{IsValidWithVoter};

@@ -47,7 +47,8 @@ pub(crate) fn moves_to<S: MemberSet>(
     Ok(changes)
 }
 
-// The ids of four sets in ascending order, each once. One list of all of them is sorted once.
+// The ids of four sets in ascending order, each once. One list of all of them is sorted once; the stable sort merges the sets,
+// which are sorted already.
 fn ids_of_all<S: MemberSet>(alloc: Global, a: &S, b: &S, c: &S, d: &S) -> Result<IdList, NoMemory>
     ensures { IfOk result (λ ids. ids.items ≡ ascending
         (union (union (S.ids a.now) (S.ids b.now)) (union (S.ids c.now) (S.ids d.now)))) }
@@ -57,7 +58,7 @@ fn ids_of_all<S: MemberSet>(alloc: Global, a: &S, b: &S, c: &S, d: &S) -> Result
     add_ids(&mut ids, b)?;
     add_ids(&mut ids, c)?;
     add_ids(&mut ids, d)?;
-    ids.as_mut_slice().sort_unstable();
+    ids.as_mut_slice().sort(alloc)?;
     ids.dedup();
     Ok(ids)
 }

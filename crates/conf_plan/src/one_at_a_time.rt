@@ -22,11 +22,9 @@
 //! simple v9                           9 joins, which is a learner already
 //! simple l4, simple v4                4 joins
 //! ```
-ghost use Rattle.std.specs.Prelude.{◌≡◌, ℕ, Bool, not, [], ◌++◌, ◌&&◌, flat_map, IfOk, OnOk, if◌then◌else◌};
+ghost use Rattle.std.specs.Prelude.{◌≡◌, ℕ, Bool, not, [], ◌++◌, flat_map, IfOk, OnOk, if◌then◌else◌};
 ghost use Rattle.std.specs.List.{cons_option};
 ghost use Rattle.quorum_sets.specs.Ids.{has};
-ghost use Rattle.quorum_sets.specs.Tolerance.{commits_without};
-ghost use Rattle.conf_change.specs.Configuration.{voters_of};
 ghost use Rattle.conf_plan.specs.OneAtATime.{steps_of, joining, retiring, in_turn, order, one_at_a_time_from_single};
 ghost use Rattle.conf_plan.specs.AddedSteps.{IsAdded};
 
@@ -51,27 +49,16 @@ pub(crate) fn add_one_at_a_time<S: MemberSet>(
     ensures { OnOk result (IsAdded steps.old.items
         (one_at_a_time_from_single (S.ids down.now) start.now target.now) steps.new.items) }
 {
-    if both_commit(alloc, start, target, down) {
-        add_in_order(alloc, steps, start, target, down)
-    } else {
-        let none = S::empty(alloc);
-        add_in_order(alloc, steps, start, target, &none)
-    }
-}
-
-// Whether a configuration that is not joint and the target both commit while these ids are down.
-fn both_commit<S: MemberSet>(
-    alloc: Global,
-    start: &NotJoint<S>,
-    target: &Config<S>,
-    down: &S,
-) -> bool
-    ensures { result ≡ (commits_without (voters_of start.now) (S.ids down.now)
-        && commits_without (voters_of target.now) (S.ids down.now)) }
-{
     let none = S::empty(alloc);
-    commits_without((start.incoming, &none), down)
-        && commits_without((&target.incoming, &target.outgoing), down)
+    let both_commit = commits_without((start.incoming, &none), down)
+        && commits_without((&target.incoming, &target.outgoing), down);
+    add_in_order(
+        alloc,
+        steps,
+        start,
+        target,
+        if both_commit { down } else { &none },
+    )
 }
 
 // Appends the steps of each id in the order for these ids that are down.

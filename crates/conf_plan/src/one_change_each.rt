@@ -1,8 +1,6 @@
 //! Simple steps of one change each.
-ghost use Rattle.std.specs.Prelude.{[], ◌∷◌, map, OnOk};
+ghost use Rattle.std.specs.Prelude.{[], ◌∷◌, OnOk};
 ghost use Rattle.std.specs.List.{All};
-ghost use Rattle.conf_change.specs.declared.change.Change.{Change};
-ghost use Rattle.conf_change.specs.declared.step.Step.TheVariants.{Simple};
 ghost use Rattle.conf_plan.specs.OneAtATime.{one_change};
 ghost use Rattle.conf_plan.specs.OneChangeEach.{each_change, one_change_each};
 ghost use Rattle.conf_plan.specs.PlanSteps.{HasU64Ids};
@@ -33,7 +31,12 @@ fn add_each_change(alloc: Global, steps: &mut Vec<Step>, step: &Step) -> Result<
     ensures { OnOk result (IsAdded steps.old.items (each_change step.now) steps.new.items) }
 {
     match step {
-        Step::Simple(changes) => add_changes(alloc, steps, changes.as_slice()),
+        Step::Simple(changes) => {
+            for change in changes.as_slice() {
+                add_change(alloc, steps, change.kind, change.id)?;
+            }
+            Ok(())
+        }
         Step::EnterJoint(auto_leave, changes) => {
             let changes = changes.try_clone()?;
             steps.push(Step::EnterJoint(*auto_leave, changes))?;
@@ -44,17 +47,6 @@ fn add_each_change(alloc: Global, steps: &mut Vec<Step>, step: &Step) -> Result<
             Ok(())
         }
     }
-}
-
-// Appends a simple step for each change.
-fn add_changes(alloc: Global, steps: &mut Vec<Step>, changes: &[Change]) -> Result<(), NoMemory>
-    ensures { OnOk result (IsAdded steps.old.items
-        (map (λ (change : Change). Simple (change ∷ [])) changes.now) steps.new.items) }
-{
-    for change in changes {
-        add_change(alloc, steps, change.kind, change.id)?;
-    }
-    Ok(())
 }
 
 // Appends a simple step of one change.

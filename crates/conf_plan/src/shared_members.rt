@@ -8,7 +8,6 @@
 //! ```
 ghost use Rattle.std.specs.Prelude.{◌≡◌, IfOk};
 ghost use Rattle.conf_plan.specs.Planned as planned;
-ghost use Rattle.conf_plan.specs.Planned.{is_shared};
 
 use crate::filtered::filtered;
 use crate::not_joint::NotJoint;
@@ -25,12 +24,8 @@ pub(crate) fn shared_members<S: MemberSet>(
     ensures { IfOk result (λ shared. S.ids shared ≡ planned.shared_members start.now target.now) }
 {
     let members = union(start.incoming, start.learners)?;
-    filtered(alloc, &members, |id| is_shared(target, id))
-}
-
-// Whether the id is a member of the target, but not an outgoing voter of it.
-fn is_shared<S: MemberSet>(target: &Config<S>, id: u64) -> bool
-    ensures { result ≡ is_shared target.now id }
-{
-    (target.incoming.contains(id) || target.learners.contains(id)) && !target.outgoing.contains(id)
+    filtered(alloc, &members, |id| {
+        (target.incoming.contains(id) || target.learners.contains(id))
+            && !target.outgoing.contains(id)
+    })
 }

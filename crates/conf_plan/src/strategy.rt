@@ -1,6 +1,6 @@
 //! The strategies by which a path is chosen: for few steps, or so that new voters can catch up before they vote.
 ghost use Rattle.std.specs.Prelude.{◌≡◌, ◌↔◌, true, false, Err, IfOk, option_copied, option_map};
-ghost use Rattle.conf_change.specs.Configuration.{Configuration, is_same, is_valid, has_voter};
+ghost use Rattle.conf_change.specs.Configuration.{is_same, is_valid, has_voter};
 ghost use Rattle.conf_plan.specs.PathBy.{has_path, ids_down, path_by, KeepsPromises};
 ghost use Rattle.conf_plan.specs.Run.{IsValidWithVoter};
 
@@ -84,23 +84,12 @@ pub fn plan_by<S: MemberSet>(
     if now.same(target) {
         return Ok(Path::of_steps(Vec::new(alloc)));
     }
-    if !leads_to(strategy, target) {
+    if matches!(strategy, Strategy::OneAtATime) && target.is_joint() {
         return Err(NoPath::JointTarget);
     }
     match down {
         Some(down) => Ok(path_to(alloc, strategy, now, target, down)?),
         None => Ok(path_to(alloc, strategy, now, target, &S::empty(alloc))?),
-    }
-}
-
-// Whether the strategy has a path to the target from another configuration, if both have voters.
-fn leads_to<S: MemberSet>(strategy: Strategy, target: &Config<S>) -> bool
-    ensures { (now : Configuration) → is_same now target.now ≡ false
-        → result ≡ has_path strategy now target.now }
-{
-    match strategy {
-        Strategy::Shortest | Strategy::LearnersFirst => true,
-        Strategy::OneAtATime => !target.is_joint(),
     }
 }
 

@@ -8,13 +8,12 @@
 //! ```
 //!
 //! What names no source here is own.
-ghost use Rattle.std.specs.Prelude.{◌≡◌, ◌⊎◌, ◌<◌, ◌++◌, None, Ok, Err, length, map, flat_map, IfOk, IsErr, IsSome, OnOk, OnErr};
+ghost use Rattle.std.specs.Prelude.{◌≡◌, ◌⊎◌, ◌++◌, Ok, Err, map, flat_map, IfOk, OnOk, OnErr};
 ghost use Rattle.std.specs.List.{join_with_byte};
 ghost use Rattle.ascii_text.specs.Lines.{full_lines};
 ghost use Rattle.ascii_text.specs.Tokens.{tokens_in};
-ghost use Rattle.conf_change.specs.ChangeList.{bad_token, letter_of};
+ghost use Rattle.conf_change.specs.ChangeList.{letter_of};
 ghost use Rattle.conf_change.specs.Text.{Extends};
-ghost use Rattle.conf_change.specs.declared.step.Step.{Step};
 ghost use Rattle.conf_plan.specs.PlanText.{ParsesToPath, ParsesToPlan, command_tokens, change_text, spaced_change, line_and_newline, plan_text};
 ghost use Rattle.conf_plan.specs.PlanCode as code;
 ghost use Rattle.conf_plan.specs.PlanCode.{path_in, plan_in, step_in, enter_in, list_in};
@@ -98,17 +97,8 @@ fn append_plan(text: &mut Vec<u8>, steps: &[Step]) -> Result<(), NoMemory>
 {
     if steps.is_empty() {
         text.extend_from_slice(b"nothing to do\n")?;
-        Ok(())
-    } else {
-        append_lines(text, steps)
+        return Ok(());
     }
-}
-
-fn append_lines(text: &mut Vec<u8>, steps: &[Step]) -> Result<(), NoMemory>
-    ensures ok { OnOk result
-        (text.new.items ≡ text.old.items ++ flat_map line_and_newline steps.now) }
-    ensures extends { Extends text.old.items text.new.items }
-{
     for step in steps {
         append_line(text, step)?;
     }
@@ -146,7 +136,8 @@ fn append_changes(text: &mut Vec<u8>, changes: &[Change]) -> Result<(), NoMemory
     ensures extends { Extends text.old.items text.new.items }
 {
     for change in changes {
-        append_change(text, *change)?;
+        text.push(b' ')?;
+        append_token(text, *change)?;
     }
     Ok(())
 }
@@ -162,14 +153,6 @@ pub fn changes_text(alloc: Global, changes: &[Change]) -> Result<Vec<u8>, NoMemo
     append_token(&mut text, *first)?;
     append_changes(&mut text, rest)?;
     Ok(text)
-}
-
-fn append_change(text: &mut Vec<u8>, change: Change) -> Result<(), NoMemory>
-    ensures ok { OnOk result (text.new.items ≡ text.old.items ++ spaced_change change) }
-    ensures extends { Extends text.old.items text.new.items }
-{
-    text.push(b' ')?;
-    append_token(text, change)
 }
 
 // Appends a change: its letter and its id, as in `v4`.
@@ -224,13 +207,6 @@ fn at_most_four(read: Result<Path, PlanTextFault>) -> Result<Plan, PlanTextFault
 /// line is not a step, and the empty text is one blank line. The law
 /// [`one_path_per_text`](crate::laws::one_path_per_text) says which path a text denotes.
 pub fn read_path(alloc: Global, text: &[u8]) -> Result<Path, PlanTextFault>
-    ensures { (result ≡ path_in text.now) ⊎ (result ≡ Err PlanTextFault.NoMemory) }
-{
-    read_lines(alloc, text)
-}
-
-// Reads one step per line, up to the last line or the first error.
-fn read_lines(alloc: Global, text: &[u8]) -> Result<Path, PlanTextFault>
     ensures { (result ≡ path_in text.now) ⊎ (result ≡ Err PlanTextFault.NoMemory) }
 {
     if text.is_empty() {
@@ -329,17 +305,7 @@ fn read_list(alloc: Global, text: &[u8]) -> Result<Option<Changes>, NoMemory>
 {
     match read_changes(alloc, text) {
         Ok(list) => Ok(Some(Changes::from(list))),
-        Err(fault) => no_list(fault),
-    }
-}
-
-// No list, since a token is not parsed as a change, unless memory ran out.
-fn no_list(fault: TokenFault<'_>) -> Result<Option<Changes>, NoMemory>
-    ensures bad { IsSome (bad_token fault.entry) → result ≡ Ok None }
-    ensures memory { bad_token fault.entry ≡ None → IsErr result }
-{
-    match fault {
-        TokenFault::NoMemory => Err(NoMemory),
-        _ => Ok(None),
+        Err(TokenFault::NoMemory) => Err(NoMemory),
+        Err(_) => Ok(None),
     }
 }

@@ -45,8 +45,7 @@ abbrev row_of : List ℕ → Acks → ℕ → List ℕ
 row_of ids acks id = row_line (length ids) id (finite.get acks id) (bar_width ids acks id)
 
 row-whole : (n id : ℕ) (acked : Option ℕ) (width : ℕ) → row_text n id acked width ≡ line (row_line n id acked width)
-row-whole n id acked width =
-    sym (append_assoc (bar_text n acked width ++ codes " " ++ in_five_columns (unwrap_or acked 0) ++ codes "    (id=" ++ decimal id) (codes ")") newline)
+row-whole n id acked width = grind (arith, append_assoc)
 
 rows-whole : (ids : List ℕ) (acks : Acks) (some : List ℕ) → flat_map (chart_row ids acks) some ≡ flat_map (λ id. line (row_of ids acks id)) some
 rows-whole ids acks [] = refl

@@ -1,13 +1,13 @@
 -- What the lines of an input denote when white space at their ends is let go: its tokens, and its text without white space
 -- at both ends where one line at most is not blank.
-use Rattle.std.proofs.Common.{◌≡◌, ℕ, Bool, true, false, cond, ◌&&◌, List, [], ◌∷◌, ◌++◌, map, refl, sym, ap, ◌∙◌, subst, rules}
+use Rattle.std.proofs.Common.{◌≡◌, ℕ, Bool, true, false, cond, List, [], ◌∷◌, ◌++◌, map, refl, sym, ap, ◌∙◌, subst, rules, arith}
 use Rattle.std.specs.Prelude.{◌==◌, flat_map, if◌then◌else◌}
 use Rattle.std.specs.List.{list_all}
 use Rattle.std.proofs.Math.Bool.{and-true, and-false}
 use Rattle.std.proofs.lemmas.List.{append_assoc, append-nil}
 use Rattle.std.proofs.lemmas.List.Folds.{list_all-append}
 use Rattle.ascii_text.specs.Lines.{newline, full_lines, before_first_line, lines_of}
-use Rattle.ascii_text.specs.WhiteSpace.{is_space, is_blank, without_leading_space, without_trailing_space, trimmed}
+use Rattle.ascii_text.specs.WhiteSpace.{is_blank, without_leading_space, without_trailing_space, trimmed}
 use Rattle.ascii_text.proofs.Offered.{blank-after, ends-before_blank, ends-before_other, is_blank-without_trailing_space, leads-blank, leads-after_blank, leads-after_other, leads-ends, tokens_in-at_space, tokens_in-ends}
 use Rattle.ascii_text.specs.Tokens.{tokens_in}
 use Rattle.dd_file.proofs.Offered.{lines-ends}
@@ -34,17 +34,12 @@ full_lines-cut (b ∷ text) = cut-byte (b == 10) b text (full_lines text) refl (
 tokens_in-cut : (text : List ℕ) (ps : List (List ℕ)) → IsCut text ps → tokens_in text ≡ flat_map tokens_in (map without_trailing_space ps)
 tokens_in-cut text ps NoLine = refl
 tokens_in-cut text ps (LastLine line) = tokens_in-ends line ∙ sym (append-nil (tokens_in (without_trailing_space line)))
-tokens_in-cut text ps (Line line rest more is) =
-    ap tokens_in (append_assoc line newline rest) ∙ tokens_in-at_space line 10 rest refl
-    ∙ ap (λ ws. ws ++ tokens_in rest) (tokens_in-ends line ∙ ap tokens_in (sym (ends-before_blank line newline refl)))
-    ∙ ap (λ ws. tokens_in (without_trailing_space (line ++ newline)) ++ ws) (tokens_in-cut rest more is)
+tokens_in-cut text ps (Line line rest more is) = grind (arith, append_assoc, tokens_in-at_space, tokens_in-ends, ends-before_blank, tokens_in-cut rest more is)
 
 blank-cut : (text : List ℕ) (ps : List (List ℕ)) → IsCut text ps → is_blank text ≡ list_all is_blank (map without_trailing_space ps)
 blank-cut text ps NoLine = refl
 blank-cut text ps (LastLine line) = sym (and-true (is_blank (without_trailing_space line)) ∙ is_blank-without_trailing_space line)
-blank-cut text ps (Line line rest more is) =
-    list_all-append is_space (line ++ newline) rest ∙ ap (λ c. c && is_blank rest) (sym (is_blank-without_trailing_space (line ++ newline)))
-    ∙ ap (λ c. is_blank (without_trailing_space (line ++ newline)) && c) (blank-cut rest more is)
+blank-cut text ps (Line line rest more is) = grind (arith, list_all-append, is_blank-without_trailing_space, blank-cut rest more is)
 
 -- whether one line at most is not blank, and the first such line
 abbrev pub has_one : List (List ℕ) → Bool
@@ -69,9 +64,7 @@ trimmed-after front rest h = leads-ends (front ++ rest) ∙ ap without_trailing_
 
 -- a line that is not blank before some more
 two-lines : (line rest : List ℕ) → is_blank line ≡ false → is_blank rest ≡ false → list_all is_line_byte (trimmed ((line ++ newline) ++ rest)) ≡ false
-two-lines line rest h k =
-    ap (λ t. list_all is_line_byte (without_leading_space t)) (ends-before_other (line ++ newline) rest k ∙ append_assoc line newline (without_trailing_space rest))
-    ∙ ap (list_all is_line_byte) (leads-after_other line (10 ∷ without_trailing_space rest) h) ∙ newline-within (without_leading_space line) (without_trailing_space rest)
+two-lines line rest h k = grind (arith, ends-before_other, append_assoc, leads-after_other, newline-within)
 
 trimmed-cut : (text : List ℕ) (ps : List (List ℕ)) → IsCut text ps →
     IsOneLine (has_one (map without_trailing_space ps)) (first_line (map without_trailing_space ps)) (trimmed text)
@@ -96,6 +89,4 @@ pub tokens_in-in_lines : (text : List ℕ) → tokens_in text ≡ flat_map token
 tokens_in-in_lines text = tokens_in-cut text (full_lines text) (full_lines-cut text) ∙ ap (flat_map tokens_in) (sym (lines-ends (full_lines text)))
 
 pub trimmed-in_lines : (text : List ℕ) → IsOneLine (has_one (ends_of text)) (first_line (ends_of text)) (trimmed text)
-trimmed-in_lines text =
-    subst (λ ls. IsOneLine (has_one ls) (first_line ls) (trimmed text)) (sym (lines-ends (full_lines text)))
-    (trimmed-cut text (full_lines text) (full_lines-cut text))
+trimmed-in_lines text = grind (arith, lines-ends, trimmed-cut, full_lines-cut)

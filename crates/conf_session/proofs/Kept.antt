@@ -13,7 +13,7 @@ use Rattle.conf_change.specs.Changer.{IsSound, Accepts, moved_to, begun_with, ne
 use Rattle.conf_change.specs.ConfState.{ConfStateLists, Describes, restored}
 use Rattle.conf_change.specs.Configuration.{Configuration, empty_configuration, has_voter, is_valid, has_voter_or_is_empty, is_restorable}
 use Rattle.conf_change.specs.Outcome.{outcome}
-use Rattle.conf_change.specs.Transition.{step_for, step_kind_of, step_of}
+use Rattle.conf_change.specs.Transition.{step_of}
 use Rattle.conf_change.specs.U64Lists.{HasU64Lists}
 use Rattle.conf_change.specs.declared.change.Change.{Change}
 use Rattle.conf_change.specs.declared.floor.Floor.{Floor}
@@ -121,8 +121,7 @@ led-take now (c ∷ kept) (suc n) led = (led.0, led.1, led-take c kept n led.2)
 
 led-drop : (now : Configuration) (kept : List Configuration) (position : ℕ) (older : Configuration) → LedTo now kept → slice_get kept position ≡ Some older → LedTo older (drop (suc position) kept)
 led-drop now [] position older led e = cc
-led-drop now (c ∷ kept) zero older led e =
-    let same : older ≡ c = cc in rw same led.2
+led-drop now (c ∷ kept) zero older led e = grind (arith, older)
 led-drop now (c ∷ kept) (suc position) older led e = led-drop c kept position older led.2 e
 
 -- the kept configurations after those that are dropped, and the first of them
@@ -242,8 +241,7 @@ command-due : ChangeLaws → PlanLaws → (command : Command) (session : Session
 command-due laws plans Simple session input values is small some = step-due laws session (SimpleStep input.changes) _ small.changes refl
 command-due laws plans EnterJoint session input values is small some = step-due laws session (EnterStep values.auto_leave input.changes) _ small.changes refl
 command-due laws plans LeaveJoint session input values is small some = step-due laws session LeaveStep _ leave-u64 refl
-command-due laws plans ConfChange session input values is small some =
-    step-due laws session (step_for values.transition input.changes) _ (step_of-u64 (step_kind_of values.transition input.changes) input.changes small.changes) refl
+command-due laws plans ConfChange session input values is small some = grind (arith, step-due, step_of-u64)
 command-due laws plans ConfState session input values is small some = tt
 command-due laws plans Restore session input values is small some = restored-due laws session input.saved (restored input.saved) small.saved refl
 command-due laws plans Undo session input values is small some = undo-due laws plans session values.steps is some
@@ -279,8 +277,7 @@ valid-older session count older earlier = and-first (is_valid older) (has_voter_
 
 pub plan-is : (session : SessionState) (count : ℕ) (older : Configuration) (plan : List Step) → slice_get session.kept (count - 1) ≡ Some older → has_voter older ≡ true → plan ≡ planned (current session) older →
     undo_plan_of session count ≡ Ok plan
-plan-is session count older plan kept voter same =
-    ap (plan_back session) kept ∙ ap (λ b. cond b (Ok (planned (current session) older)) (Err NoVoterTarget)) voter ∙ ap Ok (sym same)
+plan-is session count older plan kept voter same = grind (arith, older, voter)
 
 -- the law of conf_plan about undoing a run
 pub record UndoLaw : Type 0 where

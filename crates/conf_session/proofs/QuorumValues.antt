@@ -44,12 +44,7 @@ once-any (y ∷ xs) x =
 -- a longer list has no fewer
 once-longer : (ys xs : List ℕ) → length (each_once xs) ≤ length (each_once (xs ++ ys))
 once-longer [] xs = let same = ap (λ zs. length (each_once zs)) (append-nil xs) in omega arith
-once-longer (y ∷ ys) xs =
-    let more = once-longer ys (xs ++ y ∷ []) in
-    let one = ap length (once-more xs y) in
-    let split = length-append (each_once xs) (cond (list_any (λ id. y == id) xs) [] (y ∷ [])) in
-    let whole = ap (λ zs. length (each_once zs)) (append_assoc xs (y ∷ []) ys) in
-    omega arith
+once-longer (y ∷ ys) xs = grind (arith, once-more, length-append, append_assoc, once-longer ys (xs ++ y ∷ []))
 
 pub drop-here : {X : Type 0} (xs : List X) (i : ℕ) (x : X) → slice_get xs i ≡ Some x → drop i xs ≡ x ∷ drop (i + 1) xs
 drop-here xs i x e = drop_more xs i x (slice_get_within xs i x e) ∙ ap (λ y. y ∷ drop (i + 1) xs) (get_or_from_slice_get xs i x x e)
@@ -98,8 +93,7 @@ value_at (Some one) = one
 value-first : {V : Type 0} (id index : ℕ) (ids : List ℕ) (values : List (Option V)) → slice_get ids index ≡ Some id → ((k : ℕ) → k < index → slice_get ids k ≢ Some id) → finite.get (values_by_id ids values) id ≡ value_at (slice_get values index)
 value-first id index [] values there none = cc
 value-first id index (x ∷ ids) [] there none = finite.get-empty nat_cmp id
-value-first id zero (x ∷ ids) (one ∷ values) there none =
-    let same : x ≡ id = cc in get-with (values_by_id ids values) x id one true (eq-eqb x id same)
+value-first id zero (x ∷ ids) (one ∷ values) there none = grind (arith, get-with, eq-eqb)
 value-first id (suc index) (x ∷ ids) (one ∷ values) there none =
     let other : (x == id) ≡ false = false_from_ne_true _ (λ same. none 0 (omega arith) (ap Some (eqb-true x id same))) in
     get-with (values_by_id ids values) x id one false other ∙ value-first id index ids values there (λ k less. none (suc k) (omega arith))
@@ -108,12 +102,7 @@ pub at-position : (ids : List ℕ) (id position : ℕ) → IsAtPosition ids id p
 at-position ids id position at = slice_get-get_or ids position 0 at.within ∙ ap Some at.there
 
 pub value-at_position : {V : Type 0} (ids : List ℕ) (values : List (Option V)) (id position : ℕ) → IsAscending ids → IsAtPosition ids id position → finite.get (values_by_id ids values) id ≡ value_at (slice_get values position)
-value-at_position ids values id position up at =
-    let there : slice_get ids position ≡ Some id = at-position ids id position at in
-    value-first id position ids values there (λ k less here.
-    let below = up k position less at.within in
-    let same : get_or ids k 0 ≡ id = get_or_from_slice_get ids k id 0 here in
-    let last = at.there in absurd (omega arith))
+value-at_position ids values id position up at = grind (arith, at-position, at, value-first, get_or_from_slice_get)
 
 -- the value at the position of an id
 pub value-here : {V : Type 0} (ids xs : List ℕ) (own ys : List (Option (Option V))) (id position : ℕ) (o : Option (Option (Option V))) → IsAscending ids → xs ≡ ids → ys ≡ own → IsAtPosition xs id position → slice_get ys position ≡ o →

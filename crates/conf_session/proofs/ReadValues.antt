@@ -89,8 +89,7 @@ HasMore-values ps args i a old new here same fresh more = at (parameter_of ps a)
 -- ---- an argument is good, or bad
 pub bad-here : (ps : List Parameter) (args : List ArgumentText) (i : ℕ) (a : ArgumentText) → slice_get args i ≡ Some a → first_bad ps (take i args) (drop i args) ≡ bad_argument ps args →
     is_good ps (take i args) a ≡ false → Some a.key ≡ bad_argument ps args
-bad-here ps args i a here so_far bad =
-    sym (ap (first_bad ps (take i args)) (drop-here args i a here) ∙ ap (λ b. cond b (first_bad ps (take i args ++ a ∷ []) (drop (i + 1) args)) (Some a.key)) bad) ∙ so_far
+bad-here ps args i a here so_far bad = grind (arith, drop-here)
 
 pub good-here : (ps : List Parameter) (args : List ArgumentText) (i : ℕ) (a : ArgumentText) → slice_get args i ≡ Some a → first_bad ps (take i args) (drop i args) ≡ bad_argument ps args →
     is_good ps (take i args) a ≡ true → first_bad ps (take (i + 1) args) (drop (i + 1) args) ≡ bad_argument ps args
@@ -112,8 +111,7 @@ some-argument None = omega arith
 some-argument (Some argument) = some-values argument.values
 
 pub steps-some : (ps : Option (List Parameter)) (arguments : List ArgumentText) (values : Values) → read_arguments ps arguments ≡ Ok values → 1 ≤ values.steps
-steps-some None arguments values e =
-    let same : values_in [] ≡ values = cc in let AtLeastOne : Values → Type 0 = λ v. 1 ≤ v.steps in subst AtLeastOne same (omega arith)
+steps-some None arguments values e = grind arith
 steps-some (Some ps) arguments values e = at (bad_argument ps arguments) (missing_argument ps arguments) e where
   at : (bad : Option (List ℕ)) (missing : Option Parameter) → values_read bad missing (values_in arguments) ≡ Ok values → 1 ≤ values.steps
   at (Some key) missing e = cc

@@ -3,9 +3,6 @@ use Rattle.std.proofs.Common.{◌≡◌, ℕ, Bool, true, false, cond, not, List
 use Rattle.std.specs.Prelude.{Option, Some, None, Result, Ok, Err, codes}
 use Rattle.std.specs.List.{list_all, slice_split, onto_first}
 use Rattle.std.proofs.lemmas.Bool.Decides.{nat_tests}
-use Rattle.quorum_sets.specs.Committed.{joint_committed_index}
-use Rattle.quorum_sets.specs.Ids.{ascending, union}
-use Rattle.quorum_sets.specs.Votes.{joint_vote_result}
 use Rattle.dd_file.specs.DirectiveText.{DirectiveText}
 use Rattle.dd_file.specs.DirectiveLine.{ArgumentText, has_keys, is_key, is_key_byte}
 use Rattle.dd_file.proofs.Offered.{all-filter}
@@ -28,16 +25,16 @@ use Rattle.conf_change.specs.declared.refused.Refused.{Refused}
 use Rattle.conf_change.specs.declared.step.Step.{Step}
 use Rattle.conf_change.specs.declared.step.Step.TheVariants.{Simple as SimpleStep, EnterJoint as EnterStep, LeaveJoint as LeaveStep}
 use Rattle.conf_session.specs.Parameter.{key_of}
-use Rattle.conf_session.specs.Arguments.{first_bad, bad_argument, missing_argument}
+use Rattle.conf_session.specs.Arguments.{first_bad}
 use Rattle.conf_session.specs.SessionState.{SessionState}
 use Rattle.conf_session.specs.Reply.{Reply, replied_line}
 use Rattle.conf_session.specs.Undo.{undo_plan_of, undo_fault_text, undone_changer}
 use Rattle.conf_session.specs.declared.undo_fault.UndoFault.{UndoFault}
-use Rattle.conf_session.specs.Quorum.{voters_named, ids_named, values_by_id, is_one_each, committed_text, vote_text, with_one_each}
+use Rattle.conf_session.specs.Quorum.{is_one_each, with_one_each}
 use Rattle.conf_session.specs.Input.{Input, no_input_line, changes_read, no_change_read, conf_state_read, read_input}
-use Rattle.conf_session.specs.Values.{Values, values_in, values_read, read_arguments}
+use Rattle.conf_session.specs.Values.{Values, values_read, read_arguments}
 use Rattle.conf_session.specs.ReplyTexts.{line}
-use Rattle.conf_session.specs.Commands.{row_of, step_reply, restore_reply, undo_reply, ack_reply, committed_by, if_read, reply_of, reply_to}
+use Rattle.conf_session.specs.Commands.{step_reply, restore_reply, undo_reply, ack_reply, committed_by, if_read, reply_of, reply_to}
 use Rattle.conf_session.specs.ReplyLines.{is_line_byte, is_reply_line, IsReplyText}
 use Rattle.conf_session.specs.declared.parameter.Parameter.{Parameter}
 use Rattle.conf_session.specs.declared.input.InputKind.{InputKind}
@@ -126,8 +123,7 @@ values-in_lines None None values actual h e = cc
 
 arguments-in_lines : (parameters : Option (List Parameter)) (arguments : List ArgumentText) (actual : List ℕ) → has_keys arguments ≡ true → read_arguments parameters arguments ≡ Err actual → IsReplyText actual
 arguments-in_lines None arguments actual keys e = cc
-arguments-in_lines (Some parameters) arguments actual keys e =
-    values-in_lines (bad_argument parameters arguments) (missing_argument parameters arguments) (values_in arguments) actual (λ key bad. bad-key parameters [] arguments key keys bad) e
+arguments-in_lines (Some parameters) arguments actual keys e = grind (arith, values-in_lines, bad-key)
 
 -- ---- the commands
 step-in_lines : (made : Result ChangerState Refused) → HasReplyText (step_reply made)
@@ -163,14 +159,8 @@ command-in_lines Restore session input values = restored-in_lines session.change
 command-in_lines Undo session input values = undo-in_lines session values.steps (undo_plan_of session values.steps)
 command-in_lines Ack session input values = ack-in_lines session.changer values.id (ack_answer session.changer.tracker values.id values.index)
 command-in_lines CommitIndex session input values = line-in_lines _ (index-in_lines (committed_by session.changer.tracker))
-command-in_lines Committed session input values =
-    let voters = voters_named values in
-    let acks = values_by_id (ids_named values) values.indexes in
-    let chart : HasReplyText (replied_line (committed_text voters acks)) = chart-in_lines (ascending (union voters.incoming voters.outgoing)) acks (joint_committed_index voters acks) in
-    one_each-in_lines (ids_named values) values.indexes (committed_text voters acks) chart
-command-in_lines Vote session input values =
-    let result = joint_vote_result (voters_named values) (values_by_id (ids_named values) values.votes) in
-    one_each-in_lines (ids_named values) values.votes (vote_text result) (line-in_lines (vote_text result) (vote-in_lines result))
+command-in_lines Committed session input values = grind (arith, chart-in_lines, one_each-in_lines)
+command-in_lines Vote session input values = grind (arith, one_each-in_lines, line-in_lines, vote-in_lines)
 command-in_lines Unknown session input values = line-in_lines (codes "unknown command") refl
 
 if_read-in_lines : {V : Type 0} (reply : V → Reply) (read : Result V (List ℕ)) → ((actual : List ℕ) → read ≡ Err actual → IsReplyText actual) → ((v : V) → HasReplyText (reply v)) → HasReplyText (if_read reply read)
@@ -178,8 +168,4 @@ if_read-in_lines reply (Ok v) bad good = good v
 if_read-in_lines reply (Err actual) bad good = bad actual refl
 
 pub reply-in_lines : FirstBads → (session : SessionState) (directive : DirectiveText) → has_keys directive.arguments ≡ true → IsReplyText (reply_to session directive).actual
-reply-in_lines first_bads session directive keys =
-    let row = row_of directive.command in
-    if_read-in_lines _ (read_input row.input directive.input) (input-in_lines first_bads row.input directive.input)
-    (λ input. if_read-in_lines _ (read_arguments row.parameters directive.arguments) (λ actual. arguments-in_lines row.parameters directive.arguments actual keys)
-    (λ values. command-in_lines row.command session input values))
+reply-in_lines first_bads session directive keys = grind (arith, if_read-in_lines, input-in_lines, arguments-in_lines, command-in_lines)

@@ -1,4 +1,5 @@
 -- Which texts are reply lines.
+use Rattle.std.proofs.lemmas.Grind.{common_steps}
 use Rattle.std.proofs.Common.{◌≡◌, ℕ, zero, suc, ◌/◌, ◌%◌, ◌≤◌, Bool, true, false, cond, not, ◌&&◌, List, [], ◌∷◌, ◌++◌, map, refl, sym, ap, ◌∙◌, arith}
 use Rattle.std.specs.Prelude.{◌==◌, ◌||◌, codes, decimal, flat_map}
 use Rattle.std.specs.List.{AllZip, list_all, list_any, join_with_byte}
@@ -69,14 +70,11 @@ no_blank [] h = cc
 no_blank (b ∷ bs) h = grind (arith, no_blank bs)
 
 no_dashes-if : (bytes : List ℕ) (dashes : Bool) → is_dashes bytes ≡ dashes → list_any is_mark bytes ≡ true → dashes ≡ false
-no_dashes-if bytes true e h =
-    let same : bytes ≡ codes "----" = (bytes_eq-Decides bytes (codes "----")).0 e in
-    let none : list_any is_mark bytes ≡ false = ap (list_any is_mark) same in cc
+no_dashes-if bytes true e h = grind (arith, bytes, bytes_eq-Decides)
 no_dashes-if bytes false e h = refl
 
 pub marked-in_lines : (text : List ℕ) → list_any is_mark text ≡ true → IsBytes text → is_reply_line text ≡ true
-marked-in_lines text h k =
-    and-both _ _ (ap not (ap (λ t. t || is_dashes text) (no_blank text h) ∙ no_dashes-if text (is_dashes text) refl h)) k
+marked-in_lines text h k = grind (arith, and-both, no_blank, no_dashes-if)
 
 pub reply_line-append : (front back : List ℕ) → list_any is_mark front ≡ true → IsBytes front → IsBytes back → is_reply_line (front ++ back) ≡ true
 reply_line-append front back h k l = marked-in_lines (front ++ back) (any-prefix is_mark front back h) (all-append is_line_byte front back k l)
@@ -159,9 +157,7 @@ pub config-in_lines : (c : Configuration) → is_reply_line (config_text c) ≡ 
 config-in_lines c = IsLine-in_lines (config-line c)
 
 progress-line : (id : ℕ) (p : Progress) → IsLine (progress_text id p)
-progress-line id p =
-    decimal-line id ▸ IsTail-from_bytes (codes ": StateProbe match=") refl ▸ IsTail-number p.matched ▸ IsTail-from_bytes (codes " next=") refl ▸ IsTail-number p.next
-    ▸ IsTail-from_bytes (text_if p.learner (codes " learner")) (where-bytes p.learner (codes " learner") refl)
+progress-line id p = grind (arith, common_steps, decimal-line, IsTail-from_bytes, IsTail-number, where-bytes)
 
 pub progress-in_lines : (id : ℕ) (p : Progress) → is_reply_line (progress_text id p) ≡ true
 progress-in_lines id p = IsLine-in_lines (progress-line id p)
@@ -184,8 +180,7 @@ saved-line a b c d auto_leave voters voters_outgoing learners learners_next =
     ▸ IsTail-from_bytes (codes "] AutoLeave:") refl ▸ IsTail-from_bytes (truth_text auto_leave) (truth-bytes auto_leave)
 
 pub conf_state-in_lines : (saved : ConfStateLists) → is_reply_line (conf_state_text saved) ≡ true
-conf_state-in_lines saved =
-    IsLine-in_lines (saved-line _ _ _ _ saved.auto_leave (numbers saved.voters) (numbers saved.voters_outgoing) (numbers saved.learners) (numbers saved.learners_next))
+conf_state-in_lines saved = grind (arith, IsLine-in_lines, saved-line, numbers)
 
 -- numbers that were read, with any zeros before them
 byte-from_zero : (b : ℕ) → 48 ≤ b → is_line_byte b ≡ true
@@ -199,8 +194,7 @@ joined-bytes : (parts : List (List ℕ)) (ns : List ℕ) → AllZip ParsesToNumb
 joined-bytes [] ns h = refl
 joined-bytes (part ∷ parts) [] h = absurd h
 joined-bytes (part ∷ []) (n ∷ ns) h = digits-bytes part h.0.numeral.1
-joined-bytes (part ∷ next ∷ parts) (n ∷ ns) h =
-    all-append is_line_byte part (32 ∷ join_with_byte 32 (next ∷ parts)) (digits-bytes part h.0.numeral.1) (joined-bytes (next ∷ parts) ns h.1)
+joined-bytes (part ∷ next ∷ parts) (n ∷ ns) h = grind (arith, all-append, digits-bytes, joined-bytes (next ∷ parts) ns h.1)
 
 parsed-tail : (text ns : List ℕ) → ParsesToNumbers text ns → IsTail text
 parsed-tail text ns h = IsTail-from_bytes text (ap (list_all is_line_byte) h.spaced ∙ joined-bytes h.tokens ns h.parsed)

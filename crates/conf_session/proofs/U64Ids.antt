@@ -1,6 +1,7 @@
 -- That ids are numbers of 64 bits: those of an input are, an accepted step leads to no others, and a plan names no others.
-use Rattle.std.proofs.Common.{◌≡◌, ℕ, ◌<◌, ◌^◌, ◌==◌, ◌&&◌, Bool, true, false, List, [], ◌∷◌, ◌++◌, map, refl, sym, ◌∙◌, subst, inl, inr, eqb-true}
-use Rattle.std.specs.Prelude.{Option, Some, None, IfSome, option_map, Result, Ok, Err, IfOk, filter, filter_map, nat_le, if◌then◌else◌}
+use Rattle.std.proofs.Common.{◌≡◌, ℕ, ◌<◌, ◌^◌, ◌==◌, ◌&&◌, Bool, true, false, List, [], ◌∷◌, ◌++◌, map, refl, sym, ◌∙◌, subst, inl, inr, eqb-true, arith}
+use Rattle.std.proofs.lemmas.Grind.{common_steps}
+use Rattle.std.specs.Prelude.{Option, Some, None, IfSome, option_map, Result, Ok, Err, IfOk, filter, filter_map, if◌then◌else◌}
 use Rattle.std.specs.List.{All, AllZip, cons_option, list_any}
 use Rattle.std.specs.Result.{result_unwrap_or}
 use Rattle.std.proofs.lemmas.Bool.{or_cases}
@@ -9,7 +10,7 @@ use Rattle.std.proofs.lemmas.List.Elements.{All-nil, All-cons, All-head, All-tai
 use Rattle.std.proofs.lemmas.Map.Views.{All-from_any}
 use Rattle.ascii_text.specs.Number.{ParsesToNumber}
 use Rattle.ascii_text.specs.Tokens.{tokens_in}
-use Rattle.quorum_sets.specs.Ids.{Ids, no_ids, ascending, ids_of, ids_where, union, difference_count}
+use Rattle.quorum_sets.specs.Ids.{Ids, no_ids, ascending, ids_of, ids_where, union}
 use Rattle.quorum_sets.proofs.Offered.{ascending-no_ids, has-ascending, has-ids_of}
 use Rattle.conf_change.specs.Change.{named_or_in, result_of}
 use Rattle.conf_change.specs.ChangeList.{BadToken, ParsesTo, changes_in}
@@ -24,7 +25,7 @@ use Rattle.conf_change.specs.declared.step.Step.{Step}
 use Rattle.conf_change.specs.declared.step.Step.TheVariants.{Simple, EnterJoint, LeaveJoint}
 use Rattle.conf_change.proofs.Offered.{AllZip-from_ok, DenotesConfState-from_some, EnterTaken-from_outcome, LeaveTaken-from_outcome, SimpleTaken-from_outcome}
 use Rattle.conf_plan.specs.PlanSteps.{HasU64Ids}
-use Rattle.conf_plan.specs.Planned.{configuration_after, entering_step, inserted_steps, is_shared, joint_steps, kind_of_move, move_of, moves, planned, planned_from_single, shared_members, single_steps}
+use Rattle.conf_plan.specs.Planned.{configuration_after, entering_step, inserted_steps, is_shared, joint_steps, move_of, moves, planned, planned_from_single, shared_members, single_steps}
 use Rattle.conf_session.specs.Input.{Input, changes_read, conf_state_read, no_change_read, of_changes, read_input}
 use Rattle.conf_session.specs.declared.input.InputKind.{InputKind}
 use Rattle.conf_session.specs.declared.input.InputKind.TheVariants.{Changes, NoChange, ConfStateLine, Nothing}
@@ -64,9 +65,7 @@ pub empty-u64 : HasU64Lists empty_configuration
 empty-u64 = record { incoming = none-u64; outgoing = none-u64; learners = none-u64; learners_next = none-u64 }
 
 members-u64 : (c : Configuration) → HasU64Lists c → All IsU64 (members c)
-members-u64 c small =
-    All-append IsU64 (ascending c.incoming ++ ascending c.outgoing) (ascending c.learners)
-    (All-append IsU64 (ascending c.incoming) (ascending c.outgoing) small.incoming small.outgoing) small.learners
+members-u64 c small = grind (arith, common_steps, All-append)
 
 -- ---- a step
 result-u64 : (c : Configuration) (changes : List Change) → HasU64Lists c → NameU64 changes → HasU64Lists (result_of c changes)
@@ -199,8 +198,7 @@ moves-u64 c voters learners small in_voters in_learners =
 
     of_ids : (ids : List ℕ) → All IsU64 ids → NameU64 (filter_map (move_of c voters learners) ids)
     of_ids [] listed = All-nil (λ change. change.id < 2 ^ 64)
-    of_ids (id ∷ ids) listed =
-        with_move (kind_of_move c voters learners id) id (filter_map (move_of c voters learners) ids) (All-head IsU64 id ids listed) (of_ids ids (All-tail IsU64 id ids listed))
+    of_ids (id ∷ ids) listed = grind (arith, with_move, voters, learners, All-head, All-tail, of_ids ids (All-tail IsU64 id ids listed))
 
 pub leave-u64 : HasU64Ids LeaveJoint
 leave-u64 = All-nil (λ change. change.id < 2 ^ 64)
@@ -211,12 +209,7 @@ either-u64 true xs ys first second = first
 either-u64 false xs ys first second = second
 
 single_steps-u64 : (c : Configuration) (voters learners : Ids) → HasU64Lists c → All IsU64 (ascending voters) → All IsU64 (ascending learners) → All HasU64Ids (single_steps c voters learners)
-single_steps-u64 c voters learners small in_voters in_learners =
-    let changes = moves c voters learners in
-    let named = moves-u64 c voters learners small in_voters in_learners in
-    either-u64 (nat_le (difference_count c.incoming voters) 1) (Simple changes ∷ []) (EnterJoint false changes ∷ LeaveJoint ∷ [])
-    (All-cons HasU64Ids (Simple changes) [] named (All-nil HasU64Ids))
-    (All-cons HasU64Ids (EnterJoint false changes) (LeaveJoint ∷ []) named (All-cons HasU64Ids LeaveJoint [] leave-u64 (All-nil HasU64Ids)))
+single_steps-u64 c voters learners small in_voters in_learners = grind (arith, voters, learners, moves-u64, either-u64, All-cons, All-nil, leave-u64)
 
 inserted_steps-u64 : (c target : Configuration) → HasU64Lists c → HasU64Lists target → All HasU64Ids (inserted_steps c target)
 inserted_steps-u64 c target small there =

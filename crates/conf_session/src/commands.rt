@@ -77,10 +77,8 @@ impl Row {
 
 /// The table of commands: the row of a name.
 pub(crate) fn row_of(name: &[u8]) -> Row
-    ensures command { result.command ≡ (spec.row_of name.now).command }
-    ensures input { result.input ≡ (spec.row_of name.now).input }
-    ensures parameters { option_map (λ p. p.now) result.parameters
-        ≡ (spec.row_of name.now).parameters }
+    ensures { spec.row_with result.command result.input (option_map (λ p. p.now) result.parameters)
+        ≡ spec.row_of name.now }
 {
     if name == b"simple".as_slice() {
         Row::new(Command::Simple, InputKind::Changes, None)

@@ -8,7 +8,7 @@ ghost use Rattle.conf_change.specs.ConfState.{lists_of};
 ghost use Rattle.conf_change.specs.Text.{refused_text, progress_text, bad_token_text};
 ghost use Rattle.conf_change.specs.ConfStateLine.{conf_state_text};
 ghost use Rattle.conf_session.specs.Quorum.{index_text};
-ghost use Rattle.conf_session.specs.ReplyTexts.{line, member_lines, tracker_text};
+ghost use Rattle.conf_session.specs.ReplyTexts.{line, tracker_text};
 
 use crate::session_ids::SessionIds;
 use ascii_text::append::append_number;
@@ -79,7 +79,8 @@ pub(crate) fn append_index(text: &mut Vec<u8>, index: u64) -> Result<(), NoMemor
     end_line(text)
 }
 
-/// Appends a configuration, then a line for each member with its progress: what an accepted change prints.
+/// Appends a configuration, then a line for each member with its progress, in ascending order of the ids: what an
+/// accepted change prints.
 pub(crate) fn append_tracker(
     text: &mut Vec<u8>,
     tracker: &Tracker<SessionIds>,
@@ -88,13 +89,6 @@ pub(crate) fn append_tracker(
 {
     write_config(text, tracker.config())?;
     end_line(text)?;
-    append_members(tracker, text)
-}
-
-// Appends a line for each member, in ascending order of the ids.
-fn append_members(tracker: &Tracker<SessionIds>, text: &mut Vec<u8>) -> Result<(), NoMemory>
-    ensures { OnOk result (text.new.items ≡ text.old.items ++ member_lines tracker.now) }
-{
     for index in 0..tracker.member_count() {
         if let Some((id, progress)) = tracker.member_at(index) {
             append_member(text, id, progress)?;

@@ -24,6 +24,10 @@ use dd_file::item::Directive;
 use quorum_sets::NoMemory;
 use std::alloc::Global;
 use std::marker::Model;
+use std::mem::replace;
+
+// How many bytes an output usually has at most.
+const USUAL_OUTPUT: usize = 512;
 
 /// A configuration with the progress of its members, on which directives act, and the configurations from before its
 /// last accepted changes. A session runs one script, as etcd's tests make one `Changer` for each script file.
@@ -124,7 +128,9 @@ impl Session {
         self.state.is_session();
         answer_keeps_session();
         actual_output_is_valid();
-        let mut actual = self.buffers.take_output(self.alloc)?;
+        let mut actual = replace(&mut self.buffers.output, Vec::new(self.alloc));
+        actual.clear();
+        actual.reserve(USUAL_OUTPUT)?;
         let row = row_of(directive.command());
         let input = directive.input();
         let arguments = directive.arguments();

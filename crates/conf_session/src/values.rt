@@ -1,7 +1,7 @@
 //! The values of a directive's arguments. They are read before the command runs, so the command gets numbers and lists,
 //! never text, and a default in place of a missing argument.
 ghost use Rattle.std.specs.Prelude.{◌≡◌, true, ◌++◌, filter_map, is_some, unwrap_or, IfOk};
-ghost use Rattle.conf_session.specs.Parameter.{allows, all_read, id_in};
+ghost use Rattle.conf_session.specs.Parameter.{all_read};
 ghost use Rattle.conf_session.specs.Values as spec;
 
 use crate::arguments::{has_key, missing_argument, parameter_of};
@@ -168,7 +168,9 @@ impl Values {
             Parameter::Id => Ok(set(&mut self.id, number_from(1, argument))),
             Parameter::Index => Ok(set(&mut self.index, number_from(0, argument))),
             Parameter::Incoming => read_list(&mut self.incoming, argument),
-            Parameter::Outgoing => read_list_or_zero(&mut self.outgoing, argument),
+            // `zero` alone is the empty list, as in etcd's tests.
+            Parameter::Outgoing if has_only(argument, b"zero") => Ok(true),
+            Parameter::Outgoing => read_list(&mut self.outgoing, argument),
             Parameter::Indexes => read_list(&mut self.indexes, argument),
             Parameter::Votes => read_list(&mut self.votes, argument),
         }
@@ -186,19 +188,6 @@ fn set<T: Copy + Drop>(slot: &mut T, read: Option<T>) -> bool
             true
         }
         None => false,
-    }
-}
-
-// Reads the ids of `cfgj`, and returns whether each value is valid. `zero` alone is the empty list, as in etcd's tests.
-fn read_list_or_zero(list: &mut Vec<u64>, argument: &Argument) -> Result<bool, NoMemory>
-    ensures all { IfOk result (λ all. all ≡ allows Parameter.Outgoing argument.now.values) }
-    ensures list { IfOk result (λ all. all ≡ true
-        → list.new.items ≡ list.old.items ++ filter_map id_in argument.now.values) }
-{
-    if has_only(argument, b"zero") {
-        Ok(true)
-    } else {
-        read_list(list, argument)
     }
 }
 

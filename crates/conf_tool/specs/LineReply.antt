@@ -3,7 +3,7 @@ use Rattle.std.specs.Prelude.{ℕ, Bool, ◌==◌, List, [], ◌∷◌, ◌++◌
 use Rattle.ascii_text.specs.Lines.{newline}
 use Rattle.conf_change.specs.Configuration.{Configuration}
 use Rattle.conf_change.specs.Outcome.{Outcome, outcome}
-use Rattle.conf_change.specs.ChangeList.{BadToken, changes_in, changes_in_tokens}
+use Rattle.conf_change.specs.ChangeList.{BadToken, changes_in}
 use Rattle.ascii_text.specs.Tokens.{tokens_in}
 use Rattle.conf_change.specs.Text.{config_text, refused_text, bad_token_text}
 use Rattle.conf_change.specs.declared.change.Change.{Change}
@@ -27,10 +27,6 @@ reply_to_outcome c (Err refused) = text_alone c (refused_text refused)
 abbrev pub reply_to_changes : Configuration → Result (List Change) BadToken → LineReply
 reply_to_changes c (Ok changes) = reply_to_outcome c (outcome c (Simple changes))
 reply_to_changes c (Err bad) = text_alone c (bad_token_text bad)
-
--- the reply to a line of this one token
-abbrev pub reply_to_token : Configuration → List ℕ → LineReply
-reply_to_token c token = reply_to_changes c (changes_in_tokens (token ∷ []))
 
 -- whether a line has exactly one token
 abbrev pub has_one_token : List ℕ → Bool

@@ -2,7 +2,7 @@
 ghost use Rattle.std.specs.Prelude.{◌≡◌, ◌≤◌, ◌<◌, [], Option, Some, None, map, codes, option_map, MatchResult, IfOk, IfErr};
 ghost use Rattle.clap.specs.Words.{Text, fault_of, first_of, found_of, rows_of, subcommand_of, subcommand_rows_of};
 ghost use Rattle.conf_tool.specs.Program.{program as the_program, OfProgram};
-ghost use Rattle.conf_tool.specs.CommandLine.{mode_named, option_text, floor_named, strategy_named, output_named, ids_down, pair_of, texts_of, IsOptionValue, IsInvocation, AreGiven, IsValueFault, IsValueFaultOf, IsRefusal};
+ghost use Rattle.conf_tool.specs.CommandLine.{mode_named, option_text, floor_named, strategy_named, output_named, ids_down, pair_of, texts_of, IsOptionValue, IsInvocation, IsValueFault, IsValueFaultOf, IsRefusal};
 ghost use Rattle.conf_tool.specs.Ranges.{IsInRange};
 
 use crate::argument_fault::ArgumentFault;
@@ -167,25 +167,17 @@ fn pair_of<'a>(
         (None, None) => Ok(None),
         (Some(_), None) => Err(ArgumentFault::FromAlone),
         (None, Some(_)) => Err(ArgumentFault::ToAlone),
-        (Some(from), Some(to)) => match file {
-            Some(file) => Err(file_beside_pair(file, down)),
-            None => match from {
+        (Some(from), Some(to)) => match (file, down) {
+            // If FILE is an id, it was meant to be one of those that are down.
+            (Some(file), Some(ids)) if read_id(file.as_bytes()).is_some() => {
+                Err(ArgumentFault::IdBesidePair(file, ids))
+            }
+            (Some(file), _) => Err(ArgumentFault::FileBesidePair(file)),
+            (None, _) => match from {
                 "" => Err(ArgumentFault::EmptyFrom),
                 _ => Ok(Some(PairArguments { from, to })),
             },
         },
-    }
-}
-
-// The error of FILE beside `--from` and `--to`. If it is an id, it was meant to be one of those that are down.
-fn file_beside_pair<'a>(file: &'a str, down: Option<&'a str>) -> ArgumentFault<'a>
-    ensures { (from to : Option Text) → AreGiven from to →
-        IsValueFaultOf (Some file.entry.now) (option_map (λ text. text.now) down.entry) from to
-        result }
-{
-    match down {
-        Some(ids) if read_id(file.as_bytes()).is_some() => ArgumentFault::IdBesidePair(file, ids),
-        _ => ArgumentFault::FileBesidePair(file),
     }
 }
 
@@ -256,17 +248,9 @@ fn ids_down<'a>(
     };
     match ids_listed(alloc, text.as_bytes())? {
         Some(ids) => Ok(Some(SessionIds::of_list(alloc, ids.as_slice())?)),
-        None => Err(bad_ids(text)),
-    }
-}
-
-// The error of a text that is not a list of ids.
-fn bad_ids<'a>(text: &'a str) -> ArgumentFault<'a>
-    ensures { ids_down (Some text.entry.now) ≡ None → (file from to : Option Text) →
-        IsValueFaultOf file (Some text.entry.now) from to result }
-{
-    match hexadecimal_listed(text.as_bytes()) {
-        Some(digits) => ArgumentFault::HexadecimalId(ShortToken::new(digits)),
-        None => ArgumentFault::BadIds,
+        None => match hexadecimal_listed(text.as_bytes()) {
+            Some(digits) => Err(ArgumentFault::HexadecimalId(ShortToken::new(digits))),
+            None => Err(ArgumentFault::BadIds),
+        },
     }
 }

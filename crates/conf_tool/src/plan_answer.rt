@@ -1,13 +1,9 @@
 //! What the mode `plan` answers: the plan between two configurations, or why there is none.
-ghost use Rattle.std.specs.Prelude.{◌≡◌, ◌++◌, true, option_copied, IfOk, OnOk, IsOkUnless};
+ghost use Rattle.std.specs.Prelude.{◌≡◌, ◌++◌, true, IfOk, OnOk, IsOkUnless};
 ghost use Rattle.conf_change.specs.Configuration.{is_valid};
 ghost use Rattle.plan_output.specs.Stages.{stalls_with};
-ghost use Rattle.plan_output.specs.Steps.{stall_note};
 ghost use Rattle.conf_tool.specs.Pairs.{pair_between};
 ghost use Rattle.conf_tool.specs.PlanAnswer.{no_plan_text, path_status, path_text, plan_text_between, plan_status, session_as, session_between};
-ghost use Rattle.conf_tool.specs.PlanScript as spec;
-ghost use Rattle.conf_tool.specs.PlanScript.{script_items};
-ghost use Rattle.conf_tool.specs.Reports.{session_after_all};
 ghost use Rattle.conf_tool.specs.declared.tool_fault.ToolFault.TheVariants.{NoMemory as OutOfMemory};
 
 use crate::pair::Current;
@@ -113,32 +109,14 @@ fn append_path(
 {
     let down = options.down.as_ref();
     match options.output {
-        PlanOutput::Script => append_script(alloc, text, session, now, path, down),
+        PlanOutput::Script => {
+            let note = stall_note(alloc, now, path, down)?;
+            let script = script_text(alloc, session, note.as_ref(), now, path)?;
+            append(text, script.as_slice())?;
+            Ok(note.is_some())
+        }
         PlanOutput::Text(output) => add_path(alloc, text, output, number, now, path, down),
     }
-}
-
-// Appends the script of a path, with the note that it stalls, and returns whether it does.
-fn append_script(
-    alloc: Global,
-    text: &mut Vec<u8>,
-    session: &mut Session,
-    now: &Config<SessionIds>,
-    path: &Path,
-    down: Option<&SessionIds>,
-) -> Result<bool, NoMemory>
-    ensures text { OnOk result (text.new.items ≡ text.old.items
-        ++ spec.script_text session.old (stall_note (option_copied down.entry) now.now path.now)
-        now.now path.now) }
-    ensures session { OnOk result (session.new ≡ session_after_all session.old
-        (script_items (stall_note (option_copied down.entry) now.now path.now) now.now path.now)) }
-    ensures stalls { IfOk result (λ stalls. stalls ≡ stalls_with (option_copied down.entry) now.now
-        path.now) }
-{
-    let note = stall_note(alloc, now, path, down)?;
-    let script = script_text(alloc, session, note.as_ref(), now, path)?;
-    append(text, script.as_slice())?;
-    Ok(note.is_some())
 }
 
 // Appends the answer to the pair with this number if it has no plan, and returns its status.
@@ -154,26 +132,13 @@ fn no_plan(
     ensures status { IfOk result (λ status. status ≡ Status.Different) }
     ensures memory { IsOkUnless result OutOfMemory }
 {
-    append_no_plan(alloc, text, output, number, why)?;
-    Ok(Status::Different)
-}
-
-// Appends the text of that answer.
-fn append_no_plan(
-    alloc: Global,
-    text: &mut Vec<u8>,
-    output: PlanOutput,
-    number: u64,
-    why: &str,
-) -> Result<(), NoMemory>
-    ensures { OnOk result (text.new.items ≡ text.old.items ++ no_plan_text output number why.now) }
-{
     match output {
         PlanOutput::Script | PlanOutput::Text(Output::Steps | Output::Table) => {
             append(text, b"# no plan: ")?;
             append(text, why.as_bytes())?;
-            append(text, b"\n")
+            append(text, b"\n")?;
         }
-        PlanOutput::Text(Output::Json) => add_no_plan_line(alloc, text, number, why),
+        PlanOutput::Text(Output::Json) => add_no_plan_line(alloc, text, number, why)?,
     }
+    Ok(Status::Different)
 }

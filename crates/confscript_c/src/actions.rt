@@ -9,9 +9,7 @@
 //! ```
 //!
 //! The numbers of a stage are those of `confscript_stages`.
-ghost use Rattle.std.specs.Prelude.{◌≡◌, ◌∷◌, ◌++◌, length, IfOk, OnOk};
-ghost use Rattle.plan_output.specs.Stages.{first_stage, stage_after};
-ghost use Rattle.confscript_c.specs.Stages.{stage_numbers};
+ghost use Rattle.std.specs.Prelude.{◌≡◌, ◌∷◌, length, IfOk};
 ghost use Rattle.conf_driver.specs.declared.action.Action.TheVariants.{Propose};
 ghost use Rattle.confscript_c.specs.Actions as spec;
 ghost use Rattle.confscript_c.specs.Actions.{action_numbers};
@@ -72,26 +70,11 @@ fn numbers_of_proposal(
     ensures { IfOk result (λ numbers. numbers.items
         ≡ action_numbers down.now now.now (Propose step.now)) }
 {
-    let mut numbers = numbers_listing(alloc, 3, 0, &[])?;
-    append_first_stage(alloc, &mut numbers, down, now, step)?;
-    Ok(numbers)
-}
-
-// Appends the stage after a step from a configuration.
-fn append_first_stage(
-    alloc: Global,
-    numbers: &mut Numbers,
-    down: &InlineIds,
-    now: &Config<InlineIds>,
-    step: &Step,
-) -> Result<(), NoMemory>
-    ensures { OnOk result (numbers.new.items
-        ≡ numbers.old.items ++ stage_numbers down.now (first_stage now.now) step.now
-        (stage_after now.now step.now)) }
-{
     let before = Stage::first(alloc, now)?;
     let after = before.next(alloc, step)?;
-    append_stage(numbers, down, &before, step, &after)
+    let mut numbers = numbers_listing(alloc, 3, 0, &[])?;
+    append_stage(&mut numbers, down, &before, step, &after)?;
+    Ok(numbers)
 }
 
 // The number of a reason to wait.

@@ -59,10 +59,10 @@ finished part (Ok true) = Ok (Some part)
 finished part (Ok false) = Ok None
 finished part (Err fault) = Err fault
 
--- the result of a read that lends its part
-abbrev pub lent : {A : Type 0} → Result (Option (Bor A)) FileFault → Result (Option A) FileFault
-lent (Ok answer) = Ok (option_map (λ part. part.now) answer)
-lent (Err fault) = Err fault
+-- the result of a read, with the part itself in place of the reference to it
+abbrev pub by_value : {A : Type 0} → Result (Option (Bor A)) FileFault → Result (Option A) FileFault
+by_value (Ok answer) = Ok (option_map (λ part. part.now) answer)
+by_value (Err fault) = Err fault
 
 -- The draft has the lines that end in the first bytes, and the scan counts those lines and bytes. How many of the bytes
 -- after them have no newline is noted too.

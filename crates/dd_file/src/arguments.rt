@@ -15,7 +15,7 @@ ghost use Rattle.std.specs.Prelude.{◌≡◌, ◌<◌, ◌≤◌, length, IfSom
 ghost use Rattle.std.specs.List.{prefix_len};
 ghost use Rattle.dd_file.specs.DirectiveLine.{is_key_byte, is_plain_byte, ends_token, listed_at, values_at, after_key, argument_at};
 
-use crate::values::Values;
+use crate::values::{Values, ValuesKind};
 use ascii_text::position::find_far_byte;
 use ascii_text::white_space::is_space;
 use std::marker::Model;
@@ -100,7 +100,10 @@ fn values_at(text: &[u8]) -> Option<LeadingValues<'_>>
     }
     let (plain, rest) = text.split_at(plain_len(text));
     Some(LeadingValues {
-        values: Values::plain(plain),
+        values: Values {
+            text: plain,
+            kind: ValuesKind::Plain,
+        },
         rest,
     })
 }
@@ -132,7 +135,10 @@ fn after_key<'a>(key: &'a [u8], text: &'a [u8]) -> Option<LeadingArgument<'a>>
     }
     Some(LeadingArgument {
         key,
-        values: Values::none(text),
+        values: Values {
+            text,
+            kind: ValuesKind::Nothing,
+        },
         rest: text,
     })
 }

@@ -119,10 +119,7 @@ impl<W: Sink> Blocks<W> {
         ensures failed { W.has_failed (buffered_writer self.new)
             ≡ (W.has_failed (buffered_writer self.old) || is_err result) }
     {
-        match self.flush_block() {
-            Ok(()) => Ok(()),
-            Err(_) => Err(WriteFault),
-        }
+        self.flush_block().map_err(|_| WriteFault)
     }
 
     /// The writer. Bytes that are still buffered are lost: call `flush` first.

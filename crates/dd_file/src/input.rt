@@ -1,12 +1,16 @@
 //! An input while it is read: its buffered bytes, and the position of the first of them.
-ghost use Rattle.std.specs.Prelude.{◌≡◌, ◌≤◌, ◌<◌, ◌+◌, ◌-◌, ◌||◌, None, Some, [], true, false, IfOk, IfErr, OnErr, length};
+//!
+//! ```text
+//! buffer   returned already | buffered
+//!          0                start
+//! ```
+ghost use Rattle.std.specs.Prelude.{◌≡◌, ◌≤◌, ◌<◌, ◌+◌, ◌-◌, ◌||◌, None, [], true, false, IfOk, IfErr, OnErr, length};
 ghost use Rattle.dd_file.specs.Position.{longest_input};
 ghost use Rattle.dd_file.specs.Buffered.{FilledBy, IsInterruption, ended, passed, within_limit};
 ghost use Rattle.dd_file.specs.ReaderState.{fresh};
 ghost use Rattle.dd_file.specs.Answer.{is_read_fault};
 ghost use Rattle.dd_file.specs.Device.{LosesPrefix};
 
-use crate::buffer::Buffer;
 use crate::device::Source;
 use crate::fault::FileFault;
 use std::alloc::{AllocError, Global};
@@ -15,10 +19,17 @@ use std::marker::Model;
 /// The greatest length of an input in bytes: 2^30 - 1 (own).
 const LONGEST_INPUT: usize = 0x3fff_ffff;
 
+/// The greatest number of bytes that one read may return.
+const LOOKAHEAD: usize = 4096;
+
 /// An input while it is read.
 #[derive(Drop)]
 pub(crate) struct Input {
-    buffer: Buffer,
+    /// It grows while an item is read.
+    buffer: Vec<u8>,
+    start: usize,
+    /// What one read returns.
+    block: Vec<u8>,
     is_ended: bool,
     lines: usize,
     bytes: usize,
@@ -26,18 +37,20 @@ pub(crate) struct Input {
 }
 
 impl Model for Input {
+    ghost use Rattle.std.specs.Prelude.{◌≡◌, ◌≤◌, drop, vec_len};
     ghost use Rattle.dd_file.specs.ReaderState.{ReaderState, IsWithin};
 
     ghost Value = { ReaderState };
 
     ghost view = { λ a. record {
-      buffered = a.buffer;
+      buffered = drop a.start a.buffer.items;
       is_ended = a.is_ended;
       position = record { lines = a.lines; bytes = a.bytes };
       fault = a.fault;
     } };
 
-    ghost invariant = { λ a. IsWithin a.buffer a.is_ended a.lines a.bytes };
+    ghost invariant = { λ a. IsWithin (drop a.start a.buffer.items) a.is_ended a.lines a.bytes
+        × (a.start ≤ vec_len a.buffer) × (vec_len a.block ≡ 4096) };
 }
 
 impl Input {
@@ -45,7 +58,9 @@ impl Input {
         ensures { IfOk result (λ input. input ≡ fresh) }
     {
         Ok(Input {
-            buffer: Buffer::new(alloc)?,
+            buffer: Vec::new(alloc),
+            start: 0,
+            block: vec![in alloc; 0; LOOKAHEAD]?,
             is_ended: false,
             lines: 0,
             bytes: 0,
@@ -68,11 +83,18 @@ impl Input {
         self.fault = fault;
     }
 
-    /// The bytes that were read and not yet returned, within the limit.
+    /// The bytes that were read and not yet returned.
+    fn buffered(&self) -> &[u8]
+        ensures { result.now ≡ self.now.buffered }
+    {
+        self.buffer.as_slice().split_at(self.start).1
+    }
+
+    /// The buffered bytes within the limit.
     pub(crate) fn within_limit(&self) -> &[u8]
         ensures { result.now ≡ within_limit self.now }
     {
-        let buffered = self.buffer.buffered();
+        let buffered = self.buffered();
         let count = buffered.len().min(LONGEST_INPUT - self.bytes);
         buffered.split_at(count).0
     }
@@ -84,7 +106,7 @@ impl Input {
         ensures within { result ≡ false → self.now.position.bytes + length self.now.buffered ≤
             longest_input }
     {
-        self.buffer.buffered().len() > LONGEST_INPUT - self.bytes
+        self.buffered().len() > LONGEST_INPUT - self.bytes
     }
 
     /// Reads once, and appends the bytes to the buffered ones. Returns whether there were any; if not, the input has
@@ -101,7 +123,27 @@ impl Input {
         ensures failed { R.has_failed reader.new
             ≡ (R.has_failed reader.old || is_read_fault result) }
     {
-        self.buffer.fill(reader)
+        self.drop_returned();
+        let count = reader
+            .read(self.block.as_mut_slice())
+            .map_err(|_| FileFault::Read)?;
+        let block = self.block.as_slice().split_at(count).0;
+        self.buffer
+            .extend_from_slice(block)
+            .map_err(|_| FileFault::NoMemory)?;
+        Ok(count > 0)
+    }
+
+    /// Drops the bytes that were returned, and moves what is buffered to the start of the buffer.
+    fn drop_returned(&mut self)
+        ensures { self.new ≡ self.old }
+    {
+        if self.start > 0 {
+            let count = self.buffer.len() - self.start;
+            self.buffer.as_mut_slice().copy_within(self.start.., 0);
+            self.buffer.truncate(count);
+            self.start = 0;
+        }
     }
 
     /// Counts these lines and bytes as returned, and drops the bytes from the buffer.
@@ -112,7 +154,7 @@ impl Input {
         ensures passed { self.new ≡ passed self.old lines bytes }
         ensures counted { self.new.position.lines ≤ longest_input }
     {
-        self.buffer.pass(bytes);
+        self.start += bytes;
         self.lines += lines;
         self.bytes += bytes;
     }
@@ -124,8 +166,7 @@ impl Input {
         ensures ended { self.new ≡ ended self.old lines }
         ensures counted { self.new.position.lines ≤ longest_input }
     {
-        let bytes = self.buffer.buffered().len();
-        self.pass(lines, bytes);
+        self.pass(lines, self.buffered().len());
         self.is_ended = true;
     }
 

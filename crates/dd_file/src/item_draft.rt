@@ -81,7 +81,9 @@ impl DraftParts {
         }) }
     {
         let mut raw_lines = RawLines::of_line(alloc, line)?;
-        raw_lines.push_all(input)?;
+        for input_line in input {
+            raw_lines.push(input_line.as_slice())?;
+        }
         Ok(DraftParts {
             alloc,
             raw_lines,

@@ -41,7 +41,6 @@
 
 mod arguments;
 pub mod blocks;
-mod buffer;
 mod command;
 pub mod device;
 pub mod draft;

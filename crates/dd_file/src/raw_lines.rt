@@ -6,7 +6,7 @@
 //! text     v1\n  \n  ----\n
 //! ends     2     3   8
 //! ```
-ghost use Rattle.std.specs.Prelude.{◌≡◌, ◌≤◌, ◌<◌, ◌+◌, ◌-◌, ◌^◌, [], ◌∷◌, ◌++◌, length, take, drop, map, option_map, slice_get, slice_index_or, IfOk, OnOk, OnErr};
+ghost use Rattle.std.specs.Prelude.{◌≡◌, ◌≤◌, ◌<◌, ◌+◌, ◌-◌, ◌^◌, [], ◌∷◌, ◌++◌, length, take, drop, option_map, slice_get, slice_index_or, IfOk, OnOk, OnErr};
 ghost use Rattle.ascii_text.specs.Lines.{text_of};
 
 use crate::room::{append, make_room};
@@ -71,16 +71,6 @@ impl RawLines {
         self.ends.push(end)?;
         append(&mut self.text, line);
         append(&mut self.text, b"\n");
-        Ok(())
-    }
-
-    /// Appends lines in order.
-    pub(crate) fn push_all(&mut self, lines: &[Vec<u8>]) -> Result<(), AllocError>
-        ensures { OnOk result (self.new ≡ self.old ++ map (λ line. line.items) lines.now) }
-    {
-        for line in lines {
-            self.push(line.as_slice())?;
-        }
         Ok(())
     }
 

@@ -1,16 +1,16 @@
 //! Reading the parts of an input, items or lines, from the bytes that are read ahead.
-ghost use Rattle.std.specs.Prelude.{◌≡◌, ◌≤◌, ◌+◌, ◌||◌, None, true, false, is_err, IfOk, OnErr, IsOkUnless, length};
+ghost use Rattle.std.specs.Prelude.{◌≡◌, ◌+◌, ◌||◌, None, true, false, is_err, IfOk, OnErr, IsOkUnless, length};
 ghost use Rattle.std.specs.Io.KnownBytes.{Keeps};
 ghost use Rattle.dd_file.specs.Position.{longest_input};
 ghost use Rattle.dd_file.specs.Grammar.{next_of};
 ghost use Rattle.dd_file.specs.ReaderState.{IsBounded, fresh};
 ghost use Rattle.dd_file.specs.Buffered.{IsFirstBuffered, within_limit};
 ghost use Rattle.dd_file.specs.Answer.{ReadsOn, FlushesFirst, fault_of};
-ghost use Rattle.dd_file.specs.Draft.{DraftOf, finished, lent};
+ghost use Rattle.dd_file.specs.Draft.{DraftOf, finished, by_value};
 
 use crate::device::{Nowhere, Sink, Source};
 use crate::draft::Draft;
-use crate::fault::{FileFault, WriteFault, fault_in};
+use crate::fault::{FileFault, WriteFault};
 use crate::input::Input;
 use crate::scan::{Scan, add_last_line, add_lines};
 use std::alloc::Global;
@@ -21,7 +21,7 @@ use std::marker::Model;
 pub struct Parts<D: Draft> {
     input: Input,
     draft: D,
-    /// The part that was read last, which is lent.
+    /// The part that was read last, which the caller may borrow.
     part: D::Part,
 }
 
@@ -53,14 +53,14 @@ impl<D: Draft + Drop> Parts<D> {
         })
     }
 
-    /// The next part, which is lent until the next call; `None` at the end and from then on. The errors are those of a
+    /// The next part, borrowed until the next call; `None` at the end and from then on. The errors are those of a
     /// script's syntax, `InputTooLong` for an input of 2^30 bytes or more, `Read` if a read failed, and `NoMemory`. An
     /// error is permanent: later calls return it again, and read nothing.
     pub fn next<R: Source>(&mut self, reader: &mut R) -> Result<Option<&D::Part>, FileFault>
-        // Of the state once the part is no longer lent.
+        // Of the state once the part is no longer borrowed.
         ensures* reads { sem 𝓛 (Rests (the_row D.row D.Part.row D.Draft) self.entry (λ new.
             ReadsOn R.remaining R.has_failed (next_of D.first_item D.numbered longest_input)
-            D.IsFault self.old new reader.old reader.new (lent result))) }
+            D.IsFault self.old new reader.old reader.new (by_value result))) }
     {
         match self.next_after_flush(reader, &mut Nowhere) {
             Ok(answer) => answer,
@@ -75,11 +75,11 @@ impl<D: Draft + Drop> Parts<D> {
         reader: &mut R,
         writer: &mut W,
     ) -> Result<Result<Option<&D::Part>, FileFault>, WriteFault>
-        // Of the state once the part is no longer lent.
+        // Of the state once the part is no longer borrowed.
         ensures* reads { sem 𝓛 (Rests (the_row D.row D.Part.row D.Draft) self.entry (λ new.
             IfOk result (λ answer. ReadsOn R.remaining R.has_failed
             (next_of D.first_item D.numbered longest_input) D.IsFault self.old new reader.old
-            reader.new (lent answer)) × OnErr result (new ≡ self.old))) }
+            reader.new (by_value answer)) × OnErr result (new ≡ self.old))) }
         ensures buffered { IsFirstBuffered D.first_item self.old
             → (reader.new ≡ reader.old) × (writer.new ≡ writer.old) }
         ensures flushed { self.old.fault ≡ None
@@ -105,7 +105,7 @@ impl<D: Draft + Drop> Parts<D> {
             reader,
             writer,
         )?;
-        self.input.set_fault(fault_in(&answer));
+        self.input.set_fault(answer.err());
         Ok(match answer {
             Ok(true) => Ok(Some(&self.part)),
             Ok(false) => Ok(None),
@@ -141,7 +141,11 @@ fn read<D: Draft + Drop, R: Source, W: Sink>(
     let _ = &*writer;
     D::parts_are_of_a_grammar();
     draft.clear();
-    let mut scan = Scan::new();
+    let mut scan = Scan {
+        lines: 0,
+        bytes: 0,
+        searched: 0,
+    };
     match add_lines(draft, &mut scan, input.within_limit()) {
         Ok(true) => {
             let first = input.count() + 1;

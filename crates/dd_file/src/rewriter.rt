@@ -11,10 +11,8 @@
 //! If the rewritten script ends in two newlines, the last one is dropped. So a newline at the end of the text so far is
 //! pending: it is written only when more text follows, or at the end. A rewriter stores no text, only how many newlines
 //! the text so far ends in.
-ghost use Rattle.std.specs.Prelude.{◌≡◌, ℕ, List, [], ◌∷◌, ◌++◌, ◌==◌, Option, IsOk, IsErr, OnOk, OnErr, IfOk, true, false, if◌then◌else◌};
-ghost use Rattle.std.specs.Io.KnownBytes.{Appends};
+ghost use Rattle.std.specs.Prelude.{◌≡◌, ℕ, List, [], ◌∷◌, ◌++◌, ◌==◌, Option, OnOk, OnErr, IfOk, true, false, if◌then◌else◌};
 ghost use Rattle.ascii_text.specs.Lines.{newline, without_last};
-ghost use Rattle.dd_file.specs.Device.{AppendsPart};
 ghost use Rattle.dd_file.specs.RewriterState.{CanKeep, IsOutputNext, HasWritten, Continues, BreaksOff, WritesMore, WritesEnd};
 ghost use Rattle.dd_file.specs.Rewritten.{kept_text, output_text, opening, closing, entry_text, has_blank_line, is_output, is_directive, newlines_at_end, pending_newline, without_double_end};
 
@@ -28,6 +26,7 @@ use ascii_text::append::append;
 use ascii_text::lines::{next_full_line, strip_last};
 use ascii_text::white_space::is_blank;
 use std::marker::Model;
+use std::mem::replace;
 
 /// How many newlines a text ends in once a byte is added: 0, 1, or 2 for two or more.
 fn count_newline(newlines: u8, byte: u8) -> u8
@@ -61,21 +60,6 @@ pub fn last_newline(newlines: u8) -> &'static [u8]
     if newlines == 1 { b"\n" } else { b"" }
 }
 
-/// Writes the pending newline. There is one if the text so far ends in a newline.
-fn write_pending_newline<W: Sink>(writer: &mut W, newlines: u8) -> Result<(), WriteFault>
-    ensures ok { OnOk result (Appends (W.contents writer.old) (W.contents writer.new)
-        (if newlines == 0 then [] else newline)) }
-    ensures err { OnErr result (AppendsPart (W.contents writer.old) (W.contents writer.new)
-        (if newlines == 0 then [] else newline)) }
-    ensures failed { OnErr result (W.has_failed writer.new ≡ true) }
-    ensures sound { OnOk result (W.has_failed writer.new ≡ W.has_failed writer.old) }
-{
-    if newlines == 0 {
-        return Ok(());
-    }
-    write_all(writer, b"\n")
-}
-
 /// Writes more text after a text that ends in this many newlines; a newline at its end stays pending. Returns how many
 /// newlines the whole text ends in.
 fn write_text<W: Sink>(writer: &mut W, newlines: u8, text: &[u8]) -> Result<u8, WriteFault>
@@ -89,7 +73,7 @@ fn write_text<W: Sink>(writer: &mut W, newlines: u8, text: &[u8]) -> Result<u8, 
     if text.is_empty() {
         return Ok(newlines);
     }
-    write_pending_newline(writer, newlines)?;
+    write_all(writer, pending_newline(newlines))?;
     write_all(writer, strip_last(text, b'\n'))?;
     Ok(count_newlines(newlines, text))
 }
@@ -149,8 +133,8 @@ fn write_output<W: Sink>(writer: &mut W, newlines: u8, text: &[u8]) -> Result<u8
     Ok(count_newlines(count_newlines(1, text), suffix))
 }
 
-/// The newline that is pending after a text that ends in this many: it is appended once more text follows.
-pub fn pending_newline(newlines: u8) -> &'static [u8]
+// The newline that is pending after a text that ends in this many: it is appended once more text follows.
+fn pending_newline(newlines: u8) -> &'static [u8]
     ensures { result.now ≡ pending_newline newlines }
 {
     if newlines == 0 { b"" } else { b"\n" }
@@ -215,31 +199,6 @@ impl Rewriter {
         }
     }
 
-    /// Records the result of a write: the number of newlines and what is expected next if it succeeded; if not, the rewriter fails
-    /// permanently.
-    fn finish_call(
-        &mut self,
-        written: Result<u8, WriteFault>,
-        expecting: Expecting,
-    ) -> Result<(), WriteFault>
-        ensures ok { IfOk written (λ count. IsOk result
-            × (self.new ≡ record { expecting = expecting; newlines = count })) }
-        ensures err { OnErr written (IsErr result
-            × (self.new ≡ record self.old { expecting = Expecting.Failed })) }
-    {
-        match written {
-            Ok(newlines) => {
-                self.newlines = newlines;
-                self.expecting = expecting;
-                Ok(())
-            }
-            Err(fault) => {
-                self.expecting = Expecting::Failed;
-                Err(fault)
-            }
-        }
-    }
-
     /// Writes the raw lines of an item, as they are. After a directive, the next call has to write its actual output,
     /// by `found`. It fails if a write fails, or has failed before (datadriven).
     pub fn keep<W: Sink>(&mut self, writer: &mut W, item: &Item) -> Result<(), WriteFault>
@@ -248,16 +207,16 @@ impl Rewriter {
             (if is_directive item.now then Expecting.NeedsOutput else Expecting.Ready)
             (kept_text item.now) result }
     {
-        if self.expecting == Expecting::Failed {
+        if replace(&mut self.expecting, Expecting::Failed) == Expecting::Failed {
             return Err(WriteFault);
         }
-        let next = if item.is_directive() {
+        self.newlines = write_text(writer, self.newlines, item.raw_text())?;
+        self.expecting = if item.is_directive() {
             Expecting::NeedsOutput
         } else {
             Expecting::Ready
         };
-        let written = write_text(writer, self.newlines, item.raw_text());
-        self.finish_call(written, next)
+        Ok(())
     }
 
     /// Writes the actual output of the directive that was kept last, between double separators if it has a blank line.
@@ -268,11 +227,12 @@ impl Rewriter {
         ensures { WritesMore W.contents W.has_failed self.old self.new writer.old writer.new
             Expecting.Ready (output_text text.now) result }
     {
-        if self.expecting == Expecting::Failed {
+        if replace(&mut self.expecting, Expecting::Failed) == Expecting::Failed {
             return Err(WriteFault);
         }
-        let written = write_output(writer, self.newlines, text);
-        self.finish_call(written, Expecting::Ready)
+        self.newlines = write_output(writer, self.newlines, text)?;
+        self.expecting = Expecting::Ready;
+        Ok(())
     }
 
     /// Ends the script: writes the pending newline, unless the text ends in two. It fails if a write fails, or has
@@ -281,18 +241,11 @@ impl Rewriter {
         requires { CanKeep self.old }
         ensures { WritesEnd W.contents W.has_failed self.old self.new writer.old writer.new result }
     {
-        if self.expecting == Expecting::Failed {
+        if replace(&mut self.expecting, Expecting::Failed) == Expecting::Failed {
             return Err(WriteFault);
         }
-        match write_all(writer, last_newline(self.newlines)) {
-            Ok(()) => {
-                self.expecting = Expecting::Over;
-                Ok(())
-            }
-            Err(fault) => {
-                self.expecting = Expecting::Failed;
-                Err(fault)
-            }
-        }
+        write_all(writer, last_newline(self.newlines))?;
+        self.expecting = Expecting::Over;
+        Ok(())
     }
 }

@@ -18,19 +18,6 @@ pub(crate) struct Scan {
     pub(crate) searched: usize,
 }
 
-impl Scan {
-    /// Nothing was looked at.
-    pub(crate) fn new() -> Scan
-        ensures { result ≡ record { lines = 0; bytes = 0; searched = 0 } }
-    {
-        Scan {
-            lines: 0,
-            bytes: 0,
-            searched: 0,
-        }
-    }
-}
-
 /// The first full line, if it ends in a newline. The first `searched` bytes have none.
 pub(crate) fn whole_line_from(bytes: &[u8], searched: usize) -> Option<&[u8]>
     requires { HasNoNewline searched bytes.now }

@@ -41,26 +41,6 @@ impl<'a> Model for Values<'a> {
 }
 
 impl<'a> Values<'a> {
-    /// No values, with any text.
-    pub(crate) fn none(text: &'a [u8]) -> Values<'a>
-        ensures { result ≡ [] }
-    {
-        Values {
-            text,
-            kind: ValuesKind::Nothing,
-        }
-    }
-
-    /// One plain value.
-    pub(crate) fn plain(text: &'a [u8]) -> Values<'a>
-        ensures { result ≡ text.now ∷ [] }
-    {
-        Values {
-            text,
-            kind: ValuesKind::Plain,
-        }
-    }
-
     /// The values of a list, from the text between its parentheses.
     pub(crate) fn listed(text: &'a [u8]) -> Values<'a>
         ensures { result ≡ list_values text.now }

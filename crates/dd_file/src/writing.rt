@@ -2,49 +2,12 @@
 //!
 //! One call of a sink may write only a prefix, so the rest is written by further calls. After a call that fails or
 //! takes no byte there are no further calls, so no byte is written twice.
-ghost use Rattle.std.specs.Prelude.{◌≡◌, ◌≤◌, ◌<◌, ◌||◌, ◌==◌, nat_lt, ℕ, List, [], Option, IsOk, OnOk, OnErr, true, length, take};
+ghost use Rattle.std.specs.Prelude.{◌≡◌, ◌≤◌, ◌||◌, nat_lt, [], IsOk, OnOk, OnErr, true, length, take};
 ghost use Rattle.std.specs.Io.KnownBytes.{Appends};
 ghost use Rattle.dd_file.specs.Device.{AppendsPart};
 
 use crate::device::Sink;
 use crate::fault::WriteFault;
-
-/// Writes a prefix by one call, and returns its length: 0 only if the write failed.
-fn write_once<W: Sink>(writer: &mut W, bytes: &[u8]) -> usize
-    requires { 0 < length bytes.now }
-    ensures bound { result ≤ length bytes.now }
-    ensures bytes { Appends (W.contents writer.old) (W.contents writer.new)
-        (take result bytes.now) }
-    ensures failed { W.has_failed writer.new ≡ (W.has_failed writer.old || (result == 0)) }
-{
-    match writer.write(bytes) {
-        Ok(count) => count,
-        Err(_) => 0,
-    }
-}
-
-/// Writes the bytes after the first `first_count`, which are written already, until all are written or a write fails.
-/// Returns how many of all bytes are written.
-#[cold]
-fn write_rest<W: Sink>(writer: &mut W, bytes: &[u8], first_count: usize) -> usize
-    requires { first_count ≤ length bytes.now }
-    ensures bound { result ≤ length bytes.now }
-    ensures bytes { (start : Option (List ℕ))
-        → Appends start (W.contents writer.old) (take first_count bytes.now)
-        → Appends start (W.contents writer.new) (take result bytes.now) }
-    ensures failed { W.has_failed writer.new
-        ≡ (W.has_failed writer.old || nat_lt result (length bytes.now)) }
-{
-    let mut written = first_count;
-    while written < bytes.len() {
-        let count = write_once(writer, &bytes[written..]);
-        if count == 0 {
-            return written;
-        }
-        written += count;
-    }
-    written
-}
 
 /// Writes until all bytes are written or a write fails, and returns how many were written.
 #[inline(always)]
@@ -56,14 +19,19 @@ pub(crate) fn write_prefix<W: Sink>(writer: &mut W, bytes: &[u8]) -> usize
         ≡ (W.has_failed writer.old || nat_lt result (length bytes.now)) }
     ensures nothing { bytes.now ≡ [] → writer.new ≡ writer.old }
 {
-    if bytes.is_empty() {
-        return 0;
+    let mut written = 0;
+    while written < bytes.len() {
+        match writer.write(&bytes[written..]) {
+            Ok(count) => {
+                if count == 0 {
+                    return written;
+                }
+                written += count;
+            }
+            Err(_) => return written,
+        }
     }
-    let count = write_once(writer, bytes);
-    if count == 0 || count == bytes.len() {
-        return count;
-    }
-    write_rest(writer, bytes, count)
+    written
 }
 
 /// Writes all of the bytes. It fails if a call of the writer fails or takes no byte; then a prefix of the bytes is

@@ -1,6 +1,5 @@
 mod Actions
 mod Lines
-mod MemberItems
 mod NoFloats
 mod ProposedSteps
 mod Questions

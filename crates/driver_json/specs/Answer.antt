@@ -48,9 +48,6 @@ ids_members name ids others = member (codes "action") (string name) (member (cod
 abbrev pub reason : List ℕ → Members
 reason why = member (codes "why") (string why) no_members
 
-abbrev pub done_json : Data
-done_json = object (member (codes "action") (string (codes "done")) no_members)
-
 -- the ids that are down as `plan` has them, which has no empty list of them
 abbrev pub ids_given : Ids → Option Ids
 ids_given down = if is_empty down then None else Some down
@@ -75,7 +72,7 @@ action_json q (Transfer id) = object (ids_members (codes "transfer") (id ∷ [])
 action_json q (Propose step) = proposal_json q
 action_json q (Wait why ids) = object (ids_members (codes "wait") (ascending ids) (reason (wait_name why)))
 action_json q (Stuck why ids) = object (ids_members (codes "stuck") (ascending ids) (reason (stuck_name why)))
-action_json q Done = done_json
+action_json q Done = object (member (codes "action") (string (codes "done")) no_members)
 
 -- ---- answers
 -- why there is no path, by whether each configuration has a voter, and whether the strategy has one
@@ -85,16 +82,13 @@ no_path true false path = Some refused.NoVoterTarget
 no_path true true false = Some refused.JointTarget
 no_path true true true = None
 
--- why there is no answer, if the target stays and the view is complete: that there is no path by the strategy
-abbrev pub no_path_by : Strategy → Configuration → ViewState → Option NextFault
-no_path_by strategy target view = no_path (has_voter view.conf_state) (has_voter target) (has_path strategy view.conf_state target)
-
 -- why there is no answer by a strategy that is not the shortest one
 abbrev pub no_answer_by : Strategy → Configuration → ViewState → Option NextFault
 no_answer_by strategy target view =
     if target.auto_leave then Some refused.AutoLeaveTarget
     else (if lacks_conf_index view then Some refused.NoConfIndex
-    else (if lacks_leader_progress view then Some refused.NoLeaderProgress else no_path_by strategy target view))
+    else (if lacks_leader_progress view then Some refused.NoLeaderProgress
+    else no_path (has_voter view.conf_state) (has_voter target) (has_path strategy view.conf_state target)))
 
 -- why there is no answer
 abbrev pub no_answer : Strategy → Configuration → ViewState → Option NextFault

@@ -1,9 +1,9 @@
 -- What a line asks: what to do next on the way to a target, by a strategy, in a view of a cluster.
-use Rattle.std.specs.Prelude.{ℕ, List, codes, Option, Some, None, Result, Ok, Err}
+use Rattle.std.specs.Prelude.{ℕ, List, codes, Option, Some, Result, Ok, Err}
 use Rattle.quorum_sets.specs.Ids.{Ids}
 use Rattle.conf_driver.specs.View.{ViewState}
 use Rattle.conf_plan.specs.declared.strategy.Strategy.{Strategy}
-use Rattle.serde_json.specs.Data.{Data, null, boolean, number, string, array, object}
+use Rattle.serde_json.specs.Data.{Data, object}
 use Rattle.serde_json.specs.Find.{get}
 use Rattle.raft_json.specs.JsonText.{json_in}
 use Rattle.driver_json.specs.Values.{given, number_at, ids_at, strategy_at, configuration_at, progress_in}
@@ -51,12 +51,7 @@ question_in line =
 -- the question that a value asks
 abbrev pub question_of : Option Data → Result Question LineFault
 question_of (Some (object members)) = question_in (object members)
-question_of (Some null) = Err NotAnObject
-question_of (Some (boolean b)) = Err NotAnObject
-question_of (Some (number n)) = Err NotAnObject
-question_of (Some (string s)) = Err NotAnObject
-question_of (Some (array ds)) = Err NotAnObject
-question_of None = Err NotAnObject
+question_of _ = Err NotAnObject
 
 -- the question that a line asks
 abbrev pub asked_in : List ℕ → Result Question LineFault

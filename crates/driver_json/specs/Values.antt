@@ -8,7 +8,7 @@ use Rattle.conf_change.specs.declared.configuration_line.ConfigurationFault.TheV
 use Rattle.conf_driver.specs.declared.view.MemberView.{MemberView}
 use Rattle.conf_plan.specs.declared.strategy.Strategy.{Strategy}
 use Rattle.conf_plan.specs.declared.strategy.Strategy.TheVariants.{Shortest, LearnersFirst, OneAtATime}
-use Rattle.serde_json.specs.Data.{Data, null, boolean, number, string, array, object, Items, no_items, item}
+use Rattle.serde_json.specs.Data.{Data, null, array, object, Items, no_items, item}
 use Rattle.serde_json.specs.Find.{as_str, get}
 use Rattle.raft_json.specs.ConfStateJson.{boolean_in}
 use Rattle.raft_json.specs.IdsJson.{id_from, ids_in}
@@ -107,11 +107,7 @@ member_with index d =
 -- the member with this index in the list
 abbrev pub member_in : ℕ → Data → Result MemberView LineFault
 member_in index (object members) = member_with index (object members)
-member_in index null = Err (NotExpected (AtMember index) expects.Member)
-member_in index (boolean b) = Err (NotExpected (AtMember index) expects.Member)
-member_in index (number n) = Err (NotExpected (AtMember index) expects.Member)
-member_in index (string s) = Err (NotExpected (AtMember index) expects.Member)
-member_in index (array ds) = Err (NotExpected (AtMember index) expects.Member)
+member_in index _ = Err (NotExpected (AtMember index) expects.Member)
 
 -- the members, of which the first has this index, or what is wrong with the first of them that is wrong
 abbrev pub members_from : ℕ → Items → Result (List MemberView) LineFault
@@ -123,7 +119,4 @@ abbrev pub progress_in : Option Data → Result (List MemberView) LineFault
 progress_in None = Ok []
 progress_in (Some null) = Ok []
 progress_in (Some (array ds)) = members_from 0 ds
-progress_in (Some (boolean b)) = Err (NotExpected (AtKey key.Progress) expects.Members)
-progress_in (Some (number n)) = Err (NotExpected (AtKey key.Progress) expects.Members)
-progress_in (Some (string s)) = Err (NotExpected (AtKey key.Progress) expects.Members)
-progress_in (Some (object ms)) = Err (NotExpected (AtKey key.Progress) expects.Members)
+progress_in (Some _) = Err (NotExpected (AtKey key.Progress) expects.Members)

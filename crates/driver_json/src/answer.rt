@@ -1,5 +1,5 @@
 //! What is answered to a line.
-ghost use Rattle.std.specs.Prelude.{◌≡◌, [], ◌∷◌, ◌++◌, true, false, Ok, IfOk, IfErr, OnOk, OnErr, is_err};
+ghost use Rattle.std.specs.Prelude.{◌≡◌, ◌++◌, true, false, Ok, IfOk, IfErr, OnOk, OnErr, is_err};
 ghost use Rattle.quorum_sets.specs.Ids.{ascending};
 ghost use Rattle.conf_change.specs.Configuration.{is_valid};
 ghost use Rattle.serde_json.specs.Data.{object, no_members};
@@ -35,20 +35,13 @@ pub fn add_answer(alloc: Global, text: &mut Vec<u8>, line: &[u8]) -> Result<bool
         }
         Err(LineFault::NoMemory) => Err(NoMemory),
         Err(fault) => {
-            add_line(alloc, text, &error_value(alloc, fault)?)?;
+            let why = fault.to_string(alloc)?;
+            let mut members = Map::new(alloc);
+            put(&mut members, alloc, "error", Value::String(why))?;
+            add_line(alloc, text, &Value::Object(members))?;
             Ok(true)
         }
     }
-}
-
-// The object that says why a line is refused.
-fn error_value(alloc: Global, fault: LineFault) -> Result<Value, NoMemory>
-    ensures { IfOk result (λ v. view v ≡ spec.error_json fault) }
-{
-    let text = fault.to_string(alloc)?;
-    let mut members = Map::new(alloc);
-    put(&mut members, alloc, "error", Value::String(text))?;
-    Ok(Value::Object(members))
 }
 
 // The object that answers a line, or why it is refused.
@@ -107,7 +100,12 @@ fn action_value(alloc: Global, question: &Question, action: &Action) -> Result<V
         Action::Propose(_) => proposal_value(alloc, question),
         Action::Wait(why, ids) => reason_value(alloc, "wait", ids, wait_name(*why)),
         Action::Stuck(why, ids) => reason_value(alloc, "stuck", ids, stuck_name(*why)),
-        Action::Done => done_value(alloc),
+        Action::Done => {
+            let name = Value::try_from_str(alloc, "done")?;
+            let mut members = Map::new(alloc);
+            put(&mut members, alloc, "action", name)?;
+            Ok(Value::Object(members))
+        }
     }
 }
 
@@ -145,17 +143,6 @@ fn ids_members(alloc: Global, name: &str, ids: &[u64]) -> Result<Map<String, Val
     )?;
     put(&mut members, alloc, "ids", ids_value(alloc, ids)?)?;
     Ok(members)
-}
-
-// The object of the action that nothing is left to do.
-fn done_value(alloc: Global) -> Result<Value, NoMemory>
-    ensures value { IfOk result (λ v. view v ≡ spec.done_json) }
-    ensures no_float { IfOk result (λ v. has_float (view v) ≡ false) }
-{
-    let name = Value::try_from_str(alloc, "done")?;
-    let mut members = Map::new(alloc);
-    put(&mut members, alloc, "action", name)?;
-    Ok(Value::Object(members))
 }
 
 // The object of the proposal: the first line of the path, as `plan --output json` prints it, and the action.

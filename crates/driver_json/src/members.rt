@@ -1,6 +1,6 @@
 //! What is known of the members, in the list at the key `progress`.
 ghost use Rattle.std.specs.Prelude.{◌≡◌, Ok, IfOk, IfErr, option_and_then, option_map};
-ghost use Rattle.serde_json.specs.View.{view, items_view};
+ghost use Rattle.serde_json.specs.View.{view};
 ghost use Rattle.driver_json.specs.Values as spec;
 ghost use Rattle.driver_json.specs.Values.{IsFaultOf};
 
@@ -25,38 +25,24 @@ pub(crate) fn progress_in(
 {
     match value {
         None | Some(Value::Null) => Ok(Vec::new(alloc)),
-        Some(Value::Array(items)) => members_in(alloc, items),
+        Some(Value::Array(items)) => {
+            let mut members = Vec::with_capacity(alloc, items.len())?;
+            for (index, item) in items.iter().enumerate() {
+                members.push(member_in(index, item)?)?;
+            }
+            Ok(members)
+        }
         Some(_) => Err(LineFault::NotExpected(Place::AtKey(Key::Progress), Expected::Members)),
     }
-}
-
-// The members that the items are.
-fn members_in(alloc: Global, items: &Vec<Value>) -> Result<Vec<MemberView>, LineFault>
-    ensures members { IfOk result (λ members. spec.members_from 0 (items_view items.now.items)
-        ≡ Ok members.items) }
-    ensures fault { IfErr result (IsFaultOf (spec.members_from 0 (items_view items.now.items))) }
-{
-    let mut members = Vec::with_capacity(alloc, items.len())?;
-    for (index, item) in items.iter().enumerate() {
-        members.push(member_in(index, item)?)?;
-    }
-    Ok(members)
 }
 
 // The member that the item with this index is.
 fn member_in(index: usize, item: &Value) -> Result<MemberView, LineFault>
     ensures { result ≡ spec.member_in index (view item.now) }
 {
-    match item {
-        Value::Object(_) => member_with(index, item),
-        _ => Err(LineFault::NotExpected(Place::AtMember(index), Expected::Member)),
+    if !item.is_object() {
+        return Err(LineFault::NotExpected(Place::AtMember(index), Expected::Member));
     }
-}
-
-// The member with the keys of an object.
-fn member_with(index: usize, item: &Value) -> Result<MemberView, LineFault>
-    ensures { result ≡ spec.member_with index (view item.now) }
-{
     Ok(MemberView {
         id: id_in(item.get("id")).ok_or(not_expected(index, MemberKey::Id, Expected::Id))?,
         matched: number_in(item.get("match")).ok_or(not_expected(

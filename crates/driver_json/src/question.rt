@@ -35,11 +35,8 @@ pub fn read_question(alloc: Global, line: &[u8]) -> Result<Question, LineFault>
     ensures fault { IfErr result (IsFaultOf (asked_in line.now)) }
 {
     match json_in(alloc, line)? {
-        Some(value) => match value {
-            Value::Object(_) => question_in(alloc, &value),
-            _ => Err(LineFault::NotAnObject),
-        },
-        None => Err(LineFault::NotAnObject),
+        Some(value) if value.is_object() => question_in(alloc, &value),
+        _ => Err(LineFault::NotAnObject),
     }
 }
 

@@ -54,14 +54,9 @@ pub(crate) fn ids_at(alloc: Global, line: &Value, key: Key) -> Result<InlineIds,
 pub(crate) fn strategy_at(line: &Value) -> Result<Strategy, LineFault>
     ensures { result ≡ spec.strategy_at (view line.now) }
 {
-    strategy_in(line.get("strategy")).ok_or(not_expected(Key::Strategy, Expected::Strategy))
-}
-
-// The strategy whose name a value is.
-fn strategy_in(value: Option<&Value>) -> Option<Strategy>
-    ensures { result ≡ spec.strategy_in (option_map (λ v. view v.now) value.entry) }
-{
-    strategy_named(value?.as_str()?)
+    let name = line.get("strategy").and_then(Value::as_str);
+    name.and_then(strategy_named)
+        .ok_or(not_expected(Key::Strategy, Expected::Strategy))
 }
 
 // The strategy of a name.

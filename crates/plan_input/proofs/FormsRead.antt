@@ -1,5 +1,5 @@
 -- What is read of a text that denotes something in a form.
-use Rattle.std.proofs.Common.{◌≡◌, ℕ, List, refl, ap, ◌∙◌}
+use Rattle.std.proofs.Common.{◌≡◌, ℕ, List, refl, ap, ◌∙◌, arith}
 use Rattle.std.specs.Prelude.{◌↔◌, Some, Ok}
 use Rattle.conf_change.specs.ChangeList.{Denotes, changes_in}
 use Rattle.conf_change.specs.Configuration.{Configuration}
@@ -37,16 +37,14 @@ configuration_as-denoted lines printed Printed text saved h = ap (valid_or text 
 configuration_as-denoted lines printed Other text saved h = absurd h
 
 pub current-denoted : LinesAreRead → PrintedAreRead → (form : Form) (text : List ℕ) (saved : ConfStateLists) → DenotesIn form text saved → current_in text ≡ as_text text (valid_of saved)
-current-denoted lines printed form text saved h =
-    ap (λ (f : Form). configuration_as f text) (form-denoted form text saved h) ∙ configuration_as-denoted lines printed form text saved h
+current-denoted lines printed form text saved h = grind (arith, form-denoted, configuration_as-denoted)
 
 target_as-denoted : (form : Form) (now : Configuration) (text : List ℕ) (saved : ConfStateLists) → DenotesIn form text saved → target_as now form text ≡ configuration_as form text
 target_as-denoted Other now text saved h = absurd h
 target_as-denoted form now text saved h = refl
 
 pub target-denoted : LinesAreRead → PrintedAreRead → (form : Form) (now : Configuration) (text : List ℕ) (saved : ConfStateLists) → DenotesIn form text saved → target_in now text ≡ as_text text (valid_of saved)
-target-denoted lines printed form now text saved h =
-    ap (λ (f : Form). target_as now f text) (form-denoted form text saved h) ∙ target_as-denoted form now text saved h ∙ configuration_as-denoted lines printed form text saved h
+target-denoted lines printed form now text saved h = grind (arith, form-denoted, target_as-denoted, configuration_as-denoted)
 
 -- a text of changes is read by them
 pub target-changes : (now : Configuration) (text : List ℕ) (changes : List Change) → Denotes text changes → changes_in text ≡ Ok changes

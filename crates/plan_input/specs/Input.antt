@@ -12,8 +12,6 @@ use Rattle.conf_change.specs.declared.change.Change.{Change}
 use Rattle.conf_change.specs.declared.change_list.TokenFault.{TokenFault}
 use Rattle.conf_change.specs.declared.configuration_line.ConfigurationFault.{ConfigurationFault}
 use Rattle.conf_change.specs.declared.configuration_line.ConfigurationFault.TheVariants as line_fault
-use Rattle.conf_change.specs.declared.saved_configuration.ConfStateFault.{ConfStateFault}
-use Rattle.conf_change.specs.declared.saved_configuration.ConfStateFault.TheVariants as printed_fault
 use Rattle.plan_input.specs.Changed.{after_changes}
 use Rattle.plan_input.specs.Form.{form_of}
 use Rattle.plan_input.specs.HexadecimalId.{from_bracket, id_hint}
@@ -47,11 +45,6 @@ abbrev pub text_fault_of : List ℕ → ConfigurationFault → TextFault
 text_fault_of text line_fault.BadConfState = BadConfState (id_hint text)
 text_fault_of text (line_fault.NotAConfiguration violation) = NotAConfiguration violation
 text_fault_of text line_fault.NoMemory = NoMemory
-
--- the error of a printed configuration, as that of this text
-abbrev pub printed_fault_of : List ℕ → ConfStateFault → TextFault
-printed_fault_of text printed_fault.BadConfState = bad_printed text
-printed_fault_of text printed_fault.NoMemory = NoMemory
 
 -- the error for a bad token of a list of changes; without one, memory ran out
 abbrev pub change_fault : Option BadToken → TextFault

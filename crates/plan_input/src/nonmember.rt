@@ -1,6 +1,6 @@
 //! Ids that are down and are not members. They are a user's mistake, such as a digit that was mistyped.
 ghost use Rattle.std.specs.Prelude.{◌≡◌, option_copied};
-ghost use Rattle.plan_input.specs.Nonmember.{first_nonmember, is_nonmember};
+ghost use Rattle.plan_input.specs.Nonmember.{first_nonmember};
 
 use conf_change::Config;
 use quorum_sets::InlineIds;
@@ -17,15 +17,8 @@ pub fn first_nonmember(
     match down {
         Some(down) => {
             let mut ids = down.as_slice().iter().copied();
-            ids.find(|id| is_nonmember(now, target, *id))
+            ids.find(|id| !now.is_member(*id) && !target.is_member(*id))
         }
         None => None,
     }
-}
-
-// Whether the id is a member of neither configuration.
-fn is_nonmember(now: &Config<InlineIds>, target: &Config<InlineIds>, id: u64) -> bool
-    ensures { result ≡ is_nonmember now.now target.now id }
-{
-    !now.is_member(id) && !target.is_member(id)
 }

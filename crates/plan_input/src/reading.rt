@@ -15,7 +15,8 @@ use crate::refusal::list_refusal;
 use crate::text_fault::TextFault;
 use crate::text_ids::has_text_ids;
 use conf_change::{
-    Change, ConfState, Config, read_changes, read_config, read_configuration, valid_configuration,
+    ConfState, ConfStateFault, Config, read_changes, read_config, read_configuration,
+    valid_configuration,
 };
 use quorum_sets::InlineIds;
 use raft_json::{JsonFault, json_in, saved_of};
@@ -138,7 +139,8 @@ fn read_printed(alloc: Global, text: &[u8]) -> Result<Current, TextFault>
 {
     match read_config(alloc, text) {
         Ok(state) => valid(alloc, text, &state, false),
-        Err(fault) => Err(TextFault::of_printed(text, fault)),
+        Err(ConfStateFault::BadConfState) => Err(TextFault::bad_printed(text)),
+        Err(ConfStateFault::NoMemory) => Err(TextFault::NoMemory),
     }
 }
 
@@ -176,28 +178,9 @@ fn read_changed(
     ensures valid { IfOk result (λ c. is_valid c ≡ true) }
     ensures fault { IfErr result (IsFaultOf (target_of_changes now.now (changes_in text.now))) }
 {
-    match read_changes(alloc, text) {
-        Ok(changes) => target_of(alloc, now, changes.as_slice()),
-        Err(fault) => Err(TextFault::from(fault)),
-    }
-}
-
-// The target of these changes, unless they are refused.
-fn target_of(
-    alloc: Global,
-    now: &Config<InlineIds>,
-    changes: &[Change],
-) -> Result<Config<InlineIds>, TextFault>
-    requires { is_valid now.now ≡ true }
-    ensures configuration { IfOk result (λ c. target_of_changes now.now (Ok changes.now) ≡ Ok c) }
-    ensures valid { IfOk result (λ c. is_valid c ≡ true) }
-    ensures fault { IfErr result (IsFaultOf (target_of_changes now.now (Ok changes.now))) }
-{
-    if let Some(why) = list_refusal(now, changes) {
+    let changes = read_changes(alloc, text)?;
+    if let Some(why) = list_refusal(now, changes.as_slice()) {
         return Err(why);
     }
-    match after_changes(alloc, now, changes) {
-        Ok(target) => Ok(target),
-        Err(error) => Err(TextFault::from(error)),
-    }
+    Ok(after_changes(alloc, now, changes.as_slice())?)
 }

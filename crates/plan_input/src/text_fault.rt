@@ -1,11 +1,11 @@
 //! Why a text is not a configuration, or not a target.
 ghost use Rattle.std.specs.Prelude.{◌≡◌};
-ghost use Rattle.plan_input.specs.Input.{bad_change, bad_printed, change_fault_of, json_fault, printed_fault_of, text_fault_of};
+ghost use Rattle.plan_input.specs.Input.{bad_change, bad_printed, change_fault_of, json_fault, text_fault_of};
 
 use crate::id_hint::{IdHint, from_bracket};
 use crate::short_token::ShortToken;
 use ascii_text::number::has_digits_alone;
-use conf_change::{ConfStateFault, ConfigurationFault, TokenFault, Violation};
+use conf_change::{ConfigurationFault, TokenFault, Violation};
 use quorum_sets::NoMemory;
 use thiserror::Error;
 
@@ -67,13 +67,15 @@ impl TextFault {
         }
     }
 
-    // The error of a printed configuration.
-    pub(crate) fn of_printed(text: &[u8], fault: ConfStateFault) -> TextFault
-        ensures { result ≡ printed_fault_of text.now fault }
+    // What is wrong with a text that is not a printed configuration.
+    pub(crate) fn bad_printed(text: &[u8]) -> TextFault
+        ensures { result ≡ bad_printed text.now }
     {
-        match fault {
-            ConfStateFault::BadConfState => bad_printed(text),
-            ConfStateFault::NoMemory => TextFault::NoMemory,
+        let hint = IdHint::new(text);
+        if text.contains(&b',') {
+            TextFault::CommasBetween(hint)
+        } else {
+            TextFault::BadPrinted(hint)
         }
     }
 
@@ -87,18 +89,6 @@ impl TextFault {
         } else {
             TextFault::BadJson(hint)
         }
-    }
-}
-
-// What is wrong with a text that is not a printed configuration.
-fn bad_printed(text: &[u8]) -> TextFault
-    ensures { result ≡ bad_printed text.now }
-{
-    let hint = IdHint::new(text);
-    if text.contains(&b',') {
-        TextFault::CommasBetween(hint)
-    } else {
-        TextFault::BadPrinted(hint)
     }
 }
 

@@ -1,7 +1,7 @@
 //! JSON in which an id is a text, as in `{"voters":["1"]}`.
 ghost use Rattle.std.specs.Prelude.{◌≡◌, codes};
-ghost use Rattle.serde_json.specs.View.{items_view, view};
-ghost use Rattle.plan_input.specs.TextIds.{any_at, any_item, has_text_id, has_text_ids, is_text};
+ghost use Rattle.serde_json.specs.View.{view};
+ghost use Rattle.plan_input.specs.TextIds.{any_at, has_text_id, has_text_ids, is_text};
 
 use serde_json::Value;
 
@@ -21,18 +21,11 @@ fn has_text_member(value: &Value) -> bool
     ensures { result ≡ any_at has_text_id (codes "members") (view value.now) }
 {
     match value.get("members").and_then(Value::as_array) {
-        Some(items) => has_text_id(items),
+        Some(members) => members
+            .iter()
+            .any(|member| member.get("ID").is_some_and(Value::is_string)),
         None => false,
     }
-}
-
-// Whether the id of one of the members is a text.
-fn has_text_id(members: &Vec<Value>) -> bool
-    ensures { result ≡ any_item has_text_id (items_view members.now.items) }
-{
-    members
-        .iter()
-        .any(|member| member.get("ID").is_some_and(Value::is_string))
 }
 
 // Whether the value at this key is a list with a text.
@@ -40,14 +33,7 @@ fn has_text_at(value: &Value, key: &str) -> bool
     ensures { result ≡ any_at is_text key.now (view value.now) }
 {
     match value.get(key).and_then(Value::as_array) {
-        Some(items) => has_text(items),
+        Some(items) => items.iter().any(Value::is_string),
         None => false,
     }
-}
-
-// Whether one of the items is a text.
-fn has_text(items: &Vec<Value>) -> bool
-    ensures { result ≡ any_item is_text (items_view items.now.items) }
-{
-    items.iter().any(Value::is_string)
 }

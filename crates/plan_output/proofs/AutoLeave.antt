@@ -1,15 +1,14 @@
 -- Paths in which a joint configuration that is left automatically comes last.
 use Rattle.std.proofs.Common.{◌≡◌, Bool, true, false, not, ◌&&◌, ◌||◌, List, [], ◌∷◌, ◌++◌, map, refl, arith}
-use Rattle.std.specs.Prelude.{nat_le, if◌then◌else◌}
+use Rattle.std.specs.Prelude.{if◌then◌else◌}
 use Rattle.std.proofs.lemmas.Bool.{and_parts}
-use Rattle.quorum_sets.specs.Ids.{difference_count, is_empty}
-use Rattle.conf_change.specs.Configuration.{Configuration, is_joint, is_same, is_same_set}
+use Rattle.conf_change.specs.Configuration.{Configuration, is_joint, is_same}
 use Rattle.conf_change.specs.Outcome.{after_leave}
 use Rattle.conf_change.specs.declared.change.Change.{Change}
 use Rattle.conf_change.specs.declared.step.Step.{Step}
 use Rattle.conf_change.specs.declared.step.Step.TheVariants.{Simple, EnterJoint, LeaveJoint}
 use Rattle.conf_plan.specs.OnTheWay.{ChangesOneLearnerFirst}
-use Rattle.conf_plan.specs.LearnersFirst.{learner_changes, learners_first_from_single, newcomers, with_learners}
+use Rattle.conf_plan.specs.LearnersFirst.{learners_first_from_single}
 use Rattle.conf_plan.specs.OneChangeEach.{one_change_each}
 use Rattle.conf_plan.specs.Planned.{planned, planned_from_single}
 use Rattle.conf_plan.specs.Run.{IsRunWith}
@@ -70,19 +69,14 @@ pub stays_till_last-left_first : (same joint : Bool) (left single : List Step) �
 stays_till_last-left_first same joint left single of_left of_single = grind arith
 
 pub stays_till_last-planned_from_single : (c target : Configuration) → stays_till_last (planned_from_single c target) ≡ true
-stays_till_last-planned_from_single c target =
-    of_plan (is_same c target) (is_joint target) (is_same_set c.incoming target.outgoing) (nat_le (difference_count c.incoming target.outgoing) 1)
-    (nat_le (difference_count c.incoming target.incoming) 1) target.auto_leave _ _ _
+stays_till_last-planned_from_single c target = grind (arith, of_plan)
 
 stays_till_last-planned : (c target : Configuration) → stays_till_last (planned c target) ≡ true
 stays_till_last-planned c target =
     stays_till_last-left_first (is_same c target) (is_joint c) _ _ (stays_till_last-planned_from_single (after_leave c) target) (stays_till_last-planned_from_single c target)
 
 pub stays_till_last-learners_first : (c target : Configuration) → stays_till_last (learners_first_from_single c target) ≡ true
-stays_till_last-learners_first c target =
-    let grown = with_learners c (newcomers c target) in
-    of_either (is_empty (newcomers c target)) (planned c target) (Simple (learner_changes c (newcomers c target)) ∷ planned grown target)
-    (stays_till_last-planned c target) (stays_till_last-planned grown target)
+stays_till_last-learners_first c target = grind (arith, of_either, stays_till_last-planned)
 
 -- a path of one change a step
 pub stays_till_last-from_one_change : (steps : List Step) (now target : Configuration) → IsRunWith ChangesOneLearnerFirst now steps target → stays_till_last steps ≡ true

@@ -12,7 +12,7 @@ use Rattle.conf_change.specs.declared.step.Step.{Step}
 use Rattle.conf_change.specs.declared.step.Step.TheVariants.{Simple, EnterJoint, LeaveJoint}
 use Rattle.conf_change.proofs.Offered.{EnterTaken-from_outcome, LeaveTaken-from_outcome, SimpleTaken-from_outcome, ValidByMember-from_is_valid}
 use Rattle.conf_plan.specs.Run.{IsRun, IsValidWithVoter}
-use Rattle.raft_json.specs.Proposal.{after_auto_leave, proposal_of, proposed_changes, transition_of}
+use Rattle.raft_json.specs.Proposal.{after_auto_leave, proposal_of}
 use Rattle.raft_json.proofs.Offered.{carried_out-step, conf_change_of_json-conf_change_json, conf_state_of_json-conf_state_json}
 use Rattle.plan_output.specs.CarriedOut.{IsNoStep, LineLeads, LinesLead, configuration_in, proposal_in}
 use Rattle.plan_output.specs.Json.{each_json, no_steps_json, step_json, steps_json}
@@ -37,8 +37,7 @@ configuration_in-step_json given down flag plan count number before step after i
 
 proposal_in-step_json : (down : Option Ids) (flag : Option Bool) (plan count number : ℕ) (before : StageState) (step : Step) (after : StageState)
     → proposal_in (step_json down flag plan count number before step after) ≡ Some (proposal_of before.config step)
-proposal_in-step_json down flag plan count number before step after =
-    conf_change_of_json-conf_change_json (transition_of step) (proposed_changes before.config step)
+proposal_in-step_json down flag plan count number before step after = grind (arith, conf_change_of_json-conf_change_json)
 
 -- ---- where etcd ends
 -- a valid configuration stays, or is left
@@ -51,13 +50,9 @@ after_auto_leave-stays c flag = rw flag refl
 -- the configuration after a step that is not left automatically
 auto_leave-after : (before after : Configuration) (step : Step) → is_valid before ≡ true → outcome before step ≡ Ok after → leaves_by_itself step ≡ false
     → after.auto_leave ≡ false
-auto_leave-after before after (Simple changes) valid e stays =
-    let taken = SimpleTaken-from_outcome before after changes e in
-    sym (ap (λ (c : Configuration). c.auto_leave) taken.made) ∙ (ValidByMember-from_is_valid before valid).auto_leave taken.single
-auto_leave-after before after (EnterJoint auto_leave changes) valid e stays =
-    sym (ap (λ (c : Configuration). c.auto_leave) (EnterTaken-from_outcome before after auto_leave changes e).made) ∙ stays
-auto_leave-after before after LeaveJoint valid e stays =
-    sym (ap (λ (c : Configuration). c.auto_leave) (LeaveTaken-from_outcome before after e).made)
+auto_leave-after before after (Simple changes) valid e stays = grind (arith, SimpleTaken-from_outcome, ValidByMember-from_is_valid, valid)
+auto_leave-after before after (EnterJoint auto_leave changes) valid e stays = grind (arith, EnterTaken-from_outcome)
+auto_leave-after before after LeaveJoint valid e stays = grind (arith, LeaveTaken-from_outcome)
 
 -- ---- a line
 LineLeads-step : IsGiven → (down : Option Ids) (flag : Option Bool) (plan count number : ℕ) (before : StageState) (step : Step) (after : StageState) (end : Configuration)

@@ -41,9 +41,7 @@ count-at xs id i up at =
 
 -- ---- what a search finds
 pub number_in-there : (xs : List ℕ) (id i : ℕ) → IsAscending xs → IsAtPosition xs id i → Some (i + 1) ≡ number_in xs id
-number_in-there xs id i up at =
-    sym (ap (λ found. if found then Some (count_by (λ other. nat_le other id) xs) else None) (list_any_at (λ other. id == other) xs i 0 at.within (eq-eqb id _ (sym at.there)))
-    ∙ ap Some (count-at xs id i up at))
+number_in-there xs id i up at = grind (arith, list_any_at, eq-eqb, count-at)
 
 pub number_in-absent : (xs : List ℕ) (id i : ℕ) → IsInsertionPoint xs id i → None ≡ number_in xs id
 number_in-absent xs id i goes =

@@ -1,5 +1,5 @@
 -- The stages of a path, one step after another.
-use Rattle.std.proofs.Common.{◌≡◌, List, [], ◌∷◌, ◌++◌, refl, sym, ap, subst, ◌∙◌, append_assoc}
+use Rattle.std.proofs.Common.{◌≡◌, List, [], ◌∷◌, ◌++◌, refl, sym, ap, subst, ◌∙◌, append_assoc, arith}
 use Rattle.std.specs.Prelude.{Ok}
 use Rattle.std.specs.Result.{result_unwrap_or}
 use Rattle.quorum_sets.specs.Ids.{Ids}
@@ -13,10 +13,7 @@ use Rattle.plan_output.specs.Stages.{AreOnTheWay, StageState, configuration_afte
 -- one more stage, and those after it
 pub stages_after-next : (stages : List StageState) (last next : StageState) (step : Step) (steps more : List Step) → steps ≡ step ∷ more → next ≡ stage_after last.config step
     → (stages ++ last ∷ []) ++ next ∷ stages_after next.config more ≡ stages ++ last ∷ stages_after last.config steps
-stages_after-next stages last next step steps more first is =
-    append_assoc stages (last ∷ []) (next ∷ stages_after next.config more)
-    ∙ ap (λ (stage : StageState). stages ++ last ∷ stage ∷ stages_after stage.config more) is
-    ∙ sym (ap (λ all. stages ++ last ∷ stages_after last.config all) first)
+stages_after-next stages last next step steps more first is = grind (arith, append_assoc)
 
 -- the stages of a run are on its way, whichever members catch up at first
 pub AreOnTheWay-run : (now target : Configuration) (catching : Ids) (steps : List Step) → IsRun now steps target

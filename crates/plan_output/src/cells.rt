@@ -7,7 +7,7 @@
 //! ```
 //!
 //! `L` marks a learner. All cells are own.
-ghost use Rattle.std.specs.Prelude.{◌≡◌, ◌<◌, ◌^◌, ◌∷◌, ◌++◌, flat_map, IfOk, OnOk};
+ghost use Rattle.std.specs.Prelude.{◌≡◌, ◌∷◌, ◌++◌, flat_map, IfOk, OnOk};
 ghost use Rattle.plan_output.specs.Names.{name_by, named_change, names_text};
 ghost use Rattle.plan_output.specs.Table as spec;
 
@@ -45,18 +45,10 @@ fn append_changes(text: &mut Vec<u8>, names: &Names, changes: &[Change]) -> Resu
 {
     for change in changes {
         append(text, b" ")?;
-        append_change(text, names, *change)?;
+        text.push(letter(change.kind))?;
+        names.append(text, change.id)?;
     }
     Ok(())
-}
-
-// Appends a change: its letter and the name of its id.
-fn append_change(text: &mut Vec<u8>, names: &Names, change: Change) -> Result<(), NoMemory>
-    ensures { OnOk result (text.new.items ≡ text.old.items
-        ++ named_change (name_by names.now) change) }
-{
-    text.push(letter(change.kind))?;
-    names.append(text, change.id)
 }
 
 // The names of ids, ascending, with one space between, as in `4 5` or `#4 #5`.
@@ -84,25 +76,11 @@ pub(crate) fn marks_text(
     let mut text = Vec::new(alloc);
     for (index, id) in ids.iter().enumerate() {
         append_gap(&mut text, index)?;
-        append_mark(&mut text, config, *id, names.len(*id))?;
+        let mark = mark(config, *id);
+        append_times(&mut text, b' ', names.len(*id).saturating_sub(mark.len()))?;
+        append(&mut text, mark)?;
     }
     Ok(text)
-}
-
-// Appends the mark of an id, padded on the left to this width.
-fn append_mark(
-    text: &mut Vec<u8>,
-    config: &Config<InlineIds>,
-    id: u64,
-    width: usize,
-) -> Result<(), NoMemory>
-    requires { width < 2 ^ 63 }
-    ensures { OnOk result (text.new.items ≡ text.old.items
-        ++ spec.flush_right width (spec.mark config.now id)) }
-{
-    let mark = mark(config, id);
-    append_times(text, b' ', width.saturating_sub(mark.len()))?;
-    append(text, mark)
 }
 
 // The mark of an id. In a joint configuration `V` is a voter of both sets, `+` one of the incoming set alone, and `-`

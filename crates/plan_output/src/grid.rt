@@ -5,7 +5,7 @@
 //! ["now", "2 of 3"]        ->    now          2 of 3
 //! ["1 simple v4", ""]            1 simple v4
 //! ```
-ghost use Rattle.std.specs.Prelude.{◌≡◌, ℕ, ◌<◌, ◌≤◌, ◌^◌, [], ◌∷◌, ◌++◌, length, flat_map, slice_index, IfOk, OnOk};
+ghost use Rattle.std.specs.Prelude.{◌≡◌, ℕ, ◌<◌, ◌≤◌, ◌^◌, [], ◌∷◌, ◌++◌, length, slice_index, IfOk, OnOk};
 ghost use Rattle.plan_output.specs.Grid.{cell, width, cells_text, line_of_row, grid_text};
 
 use ascii_text::append::{append, append_times};
@@ -70,7 +70,10 @@ pub(crate) fn append_grid(alloc: Global, text: &mut Vec<u8>, rows: &[Row]) -> Re
     ensures { OnOk result (text.new.items ≡ text.old.items ++ grid_text rows.now) }
 {
     let widths = widths(alloc, rows)?;
-    append_lines(text, rows, widths.as_slice())
+    for row in rows {
+        append_line(text, row, widths.as_slice())?;
+    }
+    Ok(())
 }
 
 // The width of each column: that of its widest cell.
@@ -108,18 +111,6 @@ fn width(rows: &[Row], column: usize) -> usize
         width = width.max(row.cell(column).len());
     }
     width
-}
-
-// Appends a line for each row, by the widths of the columns.
-fn append_lines(text: &mut Vec<u8>, rows: &[Row], widths: &[usize]) -> Result<(), NoMemory>
-    requires { (column : ℕ) → slice_index widths.now column < 2 ^ 63 }
-    ensures { OnOk result (text.new.items
-        ≡ text.old.items ++ flat_map (line_of_row (slice_index widths.now)) rows.now) }
-{
-    for row in rows {
-        append_line(text, row, widths)?;
-    }
-    Ok(())
 }
 
 // Appends the line of a row: its cells, without the spaces at the end.

@@ -6,7 +6,7 @@
 //! #1  4                     4
 //! #2  10276657743932975437  8e9e05c52164694d
 //! ```
-ghost use Rattle.std.specs.Prelude.{◌≡◌, ◌<◌, ◌≤◌, ◌^◌, ◌++◌, [], decimal, length, map, IfOk, OnOk};
+ghost use Rattle.std.specs.Prelude.{◌≡◌, ◌<◌, ◌≤◌, ◌^◌, ◌++◌, [], decimal, length, IfOk, OnOk};
 ghost use Rattle.std.specs.List.{list_any};
 ghost use Rattle.quorum_sets.specs.AscendingLists.{IsAscending};
 ghost use Rattle.plan_output.specs.Names as spec;
@@ -139,20 +139,12 @@ pub(crate) fn append_denoted(
     if names.numbered().is_empty() {
         return Ok(());
     }
-    let rows = denoted_rows(alloc, names)?;
-    append(text, b"\n")?;
-    append_grid(alloc, text, rows.as_slice())
-}
-
-// A row for each id that is called by a number.
-fn denoted_rows(alloc: Global, names: &Names) -> Result<Vec<Row>, NoMemory>
-    ensures { IfOk result (λ rows. rows.items ≡ map (denoted_row (name_by names.now)) names.now) }
-{
     let mut rows = Vec::new(alloc);
     for id in names.numbered() {
         rows.push(denoted_row(alloc, names, *id)?)?;
     }
-    Ok(rows)
+    append(text, b"\n")?;
+    append_grid(alloc, text, rows.as_slice())
 }
 
 // The row of an id: its name, its decimal and its hexadecimal digits.

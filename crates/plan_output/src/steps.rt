@@ -101,20 +101,10 @@ fn append_lines(text: &mut Vec<u8>, note: Option<&Vec<u8>>, path: &Path) -> Resu
     ensures reads_back { OnOk result (path_in (plan_text path.now) ≡ Ok path.now) }
     ensures extends { Extends text.old.items text.new.items }
 {
-    append_note(text, note)?;
-    print_path(text, path)
-}
-
-// Appends a note as a comment line, if there is one.
-fn append_note(text: &mut Vec<u8>, note: Option<&Vec<u8>>) -> Result<(), NoMemory>
-    ensures ok { OnOk result (text.new.items
-        ≡ text.old.items ++ note_line (option_map (λ note. note.now.items) note.entry)) }
-    ensures extends { Extends text.old.items text.new.items }
-{
     if let Some(note) = note {
         append(text, b"# ")?;
         append(text, note.as_slice())?;
         append(text, b"\n")?;
     }
-    Ok(())
+    print_path(text, path)
 }

@@ -1,15 +1,12 @@
 -- Places in a list: the item at one, the items before it and those after it.
-use Rattle.std.proofs.Common.{◌≡◌, ℕ, ◌+◌, ◌<◌, List, [], ◌∷◌, ◌++◌, take, drop, length, sym, ap, ◌∙◌, inl, inr, arith, slice_get, drop-cons, add-one}
+use Rattle.std.proofs.Common.{◌≡◌, ℕ, ◌+◌, ◌<◌, List, [], ◌∷◌, ◌++◌, take, drop, length, sym, ap, ◌∙◌, arith, slice_get, drop-cons, add-one}
 use Rattle.std.specs.Prelude.{Some, None}
 use Rattle.std.proofs.lemmas.List.{take_more, take-append-drop}
 use Rattle.std.proofs.lemmas.Option.{slice_get_within, slice_get_cases, get_or_from_slice_get}
 
 -- a position below the length has an item
 pub slice_get-not_past : {P : Type 0} {X : Type 0} (xs : List X) (k n : ℕ) → None ≡ slice_get xs k → n ≡ length xs → k < n → P
-slice_get-not_past xs k n none is lt = elim (slice_get_cases xs k).1 [
-  | inl within ↦ let there = within.2 in cc
-  | inr past ↦ let end = past.0 in absurd (omega (arith, end, is, lt))
-]
+slice_get-not_past xs k n none is lt = grind (arith, slice_get_cases)
 
 -- the items before a position, and the one there
 pub take-one_more : {X : Type 0} (xs : List X) (k : ℕ) (x : X) → slice_get xs k ≡ Some x → take (k + 1) xs ≡ take k xs ++ x ∷ []

@@ -10,13 +10,11 @@ use smallvec::SmallVec;
 use std::alloc::Global;
 use std::marker::Model;
 
-// A cluster has few members, so the list keeps up to 8 ids in the value itself.
-type SmallList = SmallVec<u64, 8>;
-
 /// A set of ids as a sorted list. Only a set of more than 8 ids can run out of memory.
 #[derive(Drop)]
 pub struct InlineIds {
-    list: SmallList,
+    // A cluster has few members, so the list keeps up to 8 ids in the value itself.
+    list: SmallVec<u64, 8>,
 }
 
 impl Model for InlineIds {
@@ -51,7 +49,8 @@ impl MemberSet for InlineIds {
     {
         let mut own = SmallVec::from_slice(alloc, list)?;
         if !is_ascending(list) {
-            make_ascending(&mut own);
+            own.as_mut_slice().sort_unstable();
+            own.dedup();
         }
         Ok(InlineIds { list: own })
     }
@@ -143,16 +142,6 @@ fn is_ascending(list: &[u64]) -> bool
         }
     }
     true
-}
-
-// Sorts the ids and removes repeats.
-fn make_ascending(list: &mut SmallList)
-    ensures ascends { IsAscending list.new.items }
-    ensures same { ids_of list.new.items ≡ ids_of list.old.items }
-    ensures capacity { list.new.capacity ≡ list.old.capacity }
-{
-    list.as_mut_slice().sort_unstable();
-    list.dedup();
 }
 
 // The position of the id in an ascending list, or as an error the position at which it is to be inserted. In (1 3 5) it

@@ -5,7 +5,6 @@
 //! (1 2 4 7)   --1 out, 3 in, 7 in-->   (2 3 4 7)
 //! ```
 ghost use Rattle.std.specs.Prelude.{◌≡◌, ℕ, ◌<◌, ◌≤◌, Bool, Option, Some, None, filter, map, length, slice_index, nat_lt, ◌++◌, IfSome, OnOk, OnErr, if◌then◌else◌};
-ghost use Rattle.std.specs.Option.{option_to_list};
 ghost use Rattle.quorum_sets.specs.AscendingLists.{IsAscending};
 ghost use Rattle.quorum_sets.specs.Edits.{item_of, edited, is_there-has_id};
 
@@ -94,7 +93,9 @@ pub fn merge<T: Item, C, E: ItemEdit<T, C>, const N: usize>(
     for (id, edit) in edits {
         let (below, item, above) = cut(rest, *id);
         append(items, below)?;
-        push_some(items, edit.item_after(context, *id, item))?;
+        if let Some(after) = edit.item_after(context, *id, item) {
+            items.push(after)?;
+        }
         rest = above;
     }
     append(items, rest)?;
@@ -109,21 +110,6 @@ fn append<T: Item, const N: usize>(items: &mut SmallVec<T, N>, run: &[T]) -> Res
 {
     if !run.is_empty() {
         items.extend_from_slice(run)?;
-    }
-    Ok(())
-}
-
-// Appends an item, if there is one.
-fn push_some<T: Item, const N: usize>(
-    items: &mut SmallVec<T, N>,
-    item: Option<T>,
-) -> Result<(), NoMemory>
-    ensures ok { OnOk result (items.new.items ≡ items.old.items ++ option_to_list item) }
-    ensures err { OnErr result (items.new.items ≡ items.old.items) }
-    ensures capacity { items.old.capacity ≤ items.new.capacity }
-{
-    if let Some(item) = item {
-        items.push(item)?;
     }
     Ok(())
 }

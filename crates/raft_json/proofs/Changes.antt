@@ -19,5 +19,4 @@ changes_from-changes_json (change ∷ changes) = rw (kind_named-kind_name change
 
 pub conf_change_of_json-conf_change_json : (transition : Transition) (changes : List Change)
     → conf_change_of_json (conf_change_json transition changes) ≡ Some (transition, changes)
-conf_change_of_json-conf_change_json transition changes =
-    rw (transition_named-transition_name transition, changes_from-changes_json changes) refl
+conf_change_of_json-conf_change_json transition changes = grind (arith, transition_named-transition_name, changes_from-changes_json)

@@ -1,7 +1,6 @@
 -- Texts that are read as JSON.
-use Rattle.std.proofs.Common.{◌≡◌, ℕ, cond, List, refl, ap, ◌∙◌, inl, inr}
+use Rattle.std.proofs.Common.{◌≡◌, ℕ, cond, List, ap, ◌∙◌, arith}
 use Rattle.std.specs.Prelude.{Some, None, IsUtf8}
-use Rattle.std.specs.Str.{is_utf8}
 use Rattle.std.proofs.lemmas.Bool.{cases_Bool}
 use Rattle.std.proofs.lemmas.Str.{IsUtf8-from_is_utf8, is_utf8-from_IsUtf8}
 use Rattle.serde_json.specs.Data.{Data}
@@ -12,7 +11,4 @@ pub json_in-some : (text : List ℕ) (d : Data) → IsUtf8 text → read text �
 json_in-some text d utf8 is = ap (λ b. cond b (read text) None) (is_utf8-from_IsUtf8 text utf8) ∙ is
 
 pub json_in-none : (text : List ℕ) → (IsUtf8 text → read text ≡ None) → json_in text ≡ None
-json_in-none text none = elim (cases_Bool (is_utf8 text)) [
-  | inl is ↦ rw is (none (IsUtf8-from_is_utf8 text is))
-  | inr is ↦ rw is refl
-]
+json_in-none text none = grind (arith, cases_Bool, IsUtf8-from_is_utf8)

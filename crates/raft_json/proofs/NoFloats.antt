@@ -1,5 +1,5 @@
 -- The JSON of raftpb messages has no float, so its text is known byte for byte.
-use Rattle.std.proofs.Common.{◌≡◌, ℕ, List, [], ◌∷◌, false, refl}
+use Rattle.std.proofs.Common.{◌≡◌, ℕ, List, [], ◌∷◌, false, refl, arith}
 use Rattle.conf_change.specs.ConfState.{ConfStateLists}
 use Rattle.conf_change.specs.declared.change.Change.{Change}
 use Rattle.conf_change.specs.declared.transition.Transition.{Transition}
@@ -13,8 +13,7 @@ has_float-ids_json [] = refl
 has_float-ids_json (id ∷ ids) = has_float-ids_json ids
 
 pub has_float-conf_state_json : (saved : ConfStateLists) → has_float (conf_state_json saved) ≡ false
-has_float-conf_state_json saved =
-    rw (has_float-ids_json saved.learners, has_float-ids_json saved.learners_next, has_float-ids_json saved.voters, has_float-ids_json saved.voters_outgoing) refl
+has_float-conf_state_json saved = grind (arith, has_float-ids_json)
 
 has_float-changes_json : (changes : List Change) → has_float (changes_json changes) ≡ false
 has_float-changes_json [] = refl

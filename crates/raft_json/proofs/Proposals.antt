@@ -1,20 +1,18 @@
 -- Where etcd ends with what is proposed for a step.
-use Rattle.std.proofs.Common.{◌≡◌, ℕ, ◌<◌, Bool, true, false, not, ◌||◌, List, [], ◌∷◌, length, get_or, Option, Some, None, refl, sym, ap, ◌∙◌, arith}
-use Rattle.std.specs.Prelude.{Ok, Err, slice_get, nat_lt, if◌then◌else◌}
+use Rattle.std.proofs.lemmas.Grind.{common_steps}
+use Rattle.std.proofs.Common.{◌≡◌, ℕ, ◌<◌, Bool, true, false, ◌||◌, List, [], ◌∷◌, length, get_or, Option, Some, None, refl, sym, ap, ◌∙◌, arith}
+use Rattle.std.specs.Prelude.{Ok, slice_get}
 use Rattle.std.specs.Result.{result_ok}
 use Rattle.std.proofs.lemmas.Option.{slice_get-get_or}
 use Rattle.std.proofs.lemmas.Bool.{true≢false, not-true, eqb-false, false_from_ne_true}
-use Rattle.quorum_sets.specs.Ids.{has, ascending, difference_count}
+use Rattle.quorum_sets.specs.Ids.{has, ascending}
 use Rattle.quorum_sets.proofs.Offered.{has-no_ids}
 use Rattle.conf_change.specs.Configuration.{Configuration, is_valid, is_joint, has_voter}
 use Rattle.conf_change.specs.Change.{result_of, last_effective, is_learner_after, is_next_after}
-use Rattle.conf_change.specs.Outcome.{Outcome, outcome, with_outgoing, after_leave, leave_outcome}
-use Rattle.conf_change.specs.Transition.{step_for}
+use Rattle.conf_change.specs.Outcome.{outcome, with_outgoing, after_leave}
 use Rattle.conf_change.specs.declared.change.Change.{Change}
 use Rattle.conf_change.specs.declared.change.Kind.{Kind}
 use Rattle.conf_change.specs.declared.change.Kind.TheVariants.{Update}
-use Rattle.conf_change.specs.declared.refused.Refused.TheVariants.{AlreadyJoint, ZeroVoterJoint, SimpleInJoint, RemovedAllVoters, MoreThanOneVoter}
-use Rattle.conf_change.specs.declared.transition.Transition.TheVariants.{Auto}
 use Rattle.conf_change.specs.declared.step.Step.{Step}
 use Rattle.conf_change.specs.declared.step.Step.TheVariants.{Simple, EnterJoint, LeaveJoint}
 use Rattle.conf_change.proofs.Offered.{ValidByMember-from_is_valid, configuration-by_members, has-learners_after, has-next_after, has-after_leave, result_of-none, result_of-update, SimpleTaken-from_outcome, EnterTaken-from_outcome, LeaveTaken-from_outcome, outcome-enter_accepted, outcome-leave_accepted, outgoing-none}
@@ -32,8 +30,7 @@ result_of-or_update before c (change ∷ changes) = refl
 
 -- a configuration with a voter has a least one
 least_voter : (before : Configuration) → has_voter before ≡ true → slice_get (ascending before.incoming) 0 ≡ Some (get_or (ascending before.incoming) 0 0)
-least_voter before voter =
-    slice_get-get_or (ascending before.incoming) 0 0 (omega (arith, eqb-false (length (ascending before.incoming)) 0 (not-true _ voter)))
+least_voter before voter = grind (arith, slice_get-get_or, eqb-false, not-true)
 
 pub or_update-named : (before : Configuration) (changes : List Change) → has_voter before ≡ true → 0 < length (or_update before changes)
 or_update-named before [] voter = rw (least_voter before voter) (omega arith)
@@ -41,19 +38,11 @@ or_update-named before (change ∷ changes) voter = omega arith
 
 -- ---- the outcome goes by what the changes make
 simple_by_result : (c : Configuration) (xs ys : List Change) → result_of c xs ≡ result_of c ys → outcome c (Simple xs) ≡ outcome c (Simple ys)
-simple_by_result c xs ys e =
-    ap (λ (d : Configuration). if is_joint c then Err SimpleInJoint
-    else (if not (has_voter d) then Err RemovedAllVoters
-    else (if nat_lt 1 (difference_count c.incoming d.incoming) then Err MoreThanOneVoter
-    else Ok d))) e
+simple_by_result c xs ys e = grind arith
 
 enter_by_result : (c : Configuration) (auto_leave : Bool) (xs ys : List Change) → result_of (with_outgoing c auto_leave) xs ≡ result_of (with_outgoing c auto_leave) ys
     → outcome c (EnterJoint auto_leave xs) ≡ outcome c (EnterJoint auto_leave ys)
-enter_by_result c auto_leave xs ys e =
-    ap (λ (d : Configuration). if is_joint c then Err AlreadyJoint
-    else (if not (has_voter c) then Err ZeroVoterJoint
-    else (if not (has_voter d) then Err RemovedAllVoters
-    else Ok d))) e
+enter_by_result c auto_leave xs ys e = grind arith
 
 pub enter-proposed : (before : Configuration) (auto_leave : Bool) (changes : List Change)
     → outcome before (proposed_step before (EnterJoint auto_leave changes)) ≡ outcome before (EnterJoint auto_leave changes)
@@ -62,10 +51,7 @@ enter-proposed before false changes = enter_by_result before false (or_update be
 
 -- ---- a simple step ends without auto-leave
 after_auto_leave-simple : (before after : Configuration) (changes : List Change) → is_valid before ≡ true → outcome before (Simple changes) ≡ Ok after → after_auto_leave (Ok after) ≡ Ok after
-after_auto_leave-simple before after changes valid e =
-    let taken = SimpleTaken-from_outcome before after changes e in
-    ap (λ b. if b then leave_outcome after else Ok after)
-    (sym (ap (λ (c : Configuration). c.auto_leave) taken.made) ∙ (ValidByMember-from_is_valid before valid).auto_leave taken.single)
+after_auto_leave-simple before after changes valid e = grind (arith, SimpleTaken-from_outcome, ValidByMember-from_is_valid)
 
 final_outcome-simple : (before after : Configuration) (changes : List Change) → is_valid before ≡ true → outcome before (Simple changes) ≡ Ok after → final_outcome before (Simple changes) ≡ Ok after
 final_outcome-simple before after changes valid e = ap after_auto_leave e ∙ after_auto_leave-simple before after changes valid e
@@ -99,20 +85,11 @@ entered_and_left before changes valid single =
 
 through_joint : (before after : Configuration) (changes : List Change) → is_valid before ≡ true → has_voter before ≡ true
     → outcome before (Simple changes) ≡ Ok after → final_outcome before (EnterJoint true changes) ≡ Ok after
-through_joint before after changes valid voter e =
-    let taken = SimpleTaken-from_outcome before after changes e in
-    let joint = result_of (with_outgoing before true) changes in
-    ap after_auto_leave (outcome-enter_accepted before joint true changes taken.single voter refl taken.voter)
-    ∙ outcome-leave_accepted joint voter
-    ∙ ap Ok (entered_and_left before changes valid taken.single ∙ taken.made)
+through_joint before after changes valid voter e = grind (arith, SimpleTaken-from_outcome, outcome-enter_accepted, outcome-leave_accepted, entered_and_left)
 
 pub simple-proposed : (before after : Configuration) (changes : List Change) → is_valid before ≡ true → has_voter before ≡ true
     → outcome before (Simple changes) ≡ Ok after → final_outcome before (proposed_step before (Simple changes)) ≡ Ok after
-simple-proposed before after [] valid voter e =
-    let least = Some (get_or (ascending before.incoming) 0 0) in
-    ap (λ o. final_outcome before (step_for Auto (update_of o))) (least_voter before voter)
-    ∙ ap after_auto_leave (simple_by_result before (update_of least) [] (result_of-update_of before least))
-    ∙ final_outcome-simple before after [] valid e
+simple-proposed before after [] valid voter e = grind (arith, common_steps, least_voter, simple_by_result, result_of-update_of, final_outcome-simple)
 simple-proposed before after (change ∷ []) valid voter e = final_outcome-simple before after (change ∷ []) valid e
 simple-proposed before after (change ∷ other ∷ changes) valid voter e = through_joint before after (change ∷ other ∷ changes) valid voter e
 
@@ -139,9 +116,5 @@ carried_out-step before after (Simple changes) valid voter e =
     carried_out-let_through before (Simple changes)
     (let_through-some before (or_update before changes) (or_update-named before changes voter) (SimpleTaken-from_outcome before after changes e).single)
     ∙ ap result_ok (simple-proposed before after changes valid voter e ∙ sym (after_auto_leave-simple before after changes valid e))
-carried_out-step before after (EnterJoint auto_leave changes) valid voter e =
-    let taken = EnterTaken-from_outcome before after auto_leave changes e in
-    carried_out-let_through before (EnterJoint auto_leave changes) (let_through-some before (or_update before changes) (or_update-named before changes voter) taken.single)
-    ∙ ap (λ (o : Outcome). result_ok (after_auto_leave o)) (enter-proposed before auto_leave changes ∙ e)
-carried_out-step before after LeaveJoint valid voter e =
-    carried_out-let_through before LeaveJoint (LeaveTaken-from_outcome before after e).joint ∙ ap (λ (o : Outcome). result_ok (after_auto_leave o)) e
+carried_out-step before after (EnterJoint auto_leave changes) valid voter e = grind (arith, EnterTaken-from_outcome, carried_out-let_through, let_through-some, or_update-named, enter-proposed)
+carried_out-step before after LeaveJoint valid voter e = grind (arith, carried_out-let_through, LeaveTaken-from_outcome)

@@ -1,11 +1,10 @@
 -- The JSON of a change of the configuration, in the form of raftpb.ConfChangeV2.
-use Rattle.std.specs.Prelude.{List, codes, map}
+use Rattle.std.specs.Prelude.{ℕ, List, codes, map}
 use Rattle.conf_change.specs.declared.change.Change.{Change}
 use Rattle.conf_change.specs.declared.change.Kind.{Kind}
 use Rattle.conf_change.specs.declared.change.Kind.TheVariants.{Voter, Learner, Remove, Update}
 use Rattle.conf_change.specs.declared.transition.Transition.{Transition}
 use Rattle.conf_change.specs.declared.transition.Transition.TheVariants.{Auto, Implicit, Explicit}
-use Rattle.std.specs.Prelude.{ℕ}
 use Rattle.serde_json.specs.Data.{Data, number, unsigned, string, array, object, no_members, member}
 use Rattle.serde_json.specs.View.{items_of}
 

@@ -1,6 +1,6 @@
 //! Lists of ids in JSON, such as `[1,2,3]`.
 ghost use Rattle.std.specs.Prelude.{◌≡◌, Some, None, Err, IfOk, option_map};
-ghost use Rattle.serde_json.specs.View.{view, items_view};
+ghost use Rattle.serde_json.specs.View.{view};
 ghost use Rattle.raft_json.specs.IdsJson as spec;
 
 use crate::conf_state_json::JsonFault;
@@ -17,22 +17,15 @@ pub fn ids_in(alloc: Global, value: Option<&Value>) -> Result<Vec<u64>, JsonFaul
 {
     match value {
         None | Some(Value::Null) => Ok(Vec::new(alloc)),
-        Some(Value::Array(items)) => ids_from(alloc, items),
+        Some(Value::Array(items)) => {
+            let mut ids = Vec::with_capacity(alloc, items.len())?;
+            for item in items {
+                ids.push(item.as_u64().ok_or(JsonFault::BadJson)?)?;
+            }
+            Ok(ids)
+        }
         Some(_) => Err(JsonFault::BadJson),
     }
-}
-
-fn ids_from(alloc: Global, items: &Vec<Value>) -> Result<Vec<u64>, JsonFault>
-    ensures ok { IfOk result (λ ids. spec.ids_from (items_view items.now.items) ≡ Some ids.items) }
-    ensures bad { result ≡ Err JsonFault.BadJson → spec.ids_from (items_view items.now.items)
-        ≡ None }
-{
-    let mut ids = Vec::with_capacity(alloc, items.len())?;
-    for item in items {
-        let id = item.as_u64().ok_or(JsonFault::BadJson)?;
-        ids.push(id)?;
-    }
-    Ok(ids)
 }
 
 /// The JSON of a list of ids, in its order.

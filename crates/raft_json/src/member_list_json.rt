@@ -5,8 +5,8 @@
 //! {"header":{..},"members":[{"ID":1,"name":"a",..},{"ID":2,"name":"b",..,"isLearner":true}]}
 //! Voters:[1] VotersOutgoing:[] Learners:[2] LearnersNext:[] AutoLeave:false
 //! ```
-ghost use Rattle.std.specs.Prelude.{◌≡◌, Some, None, Err, IfOk, option_map};
-ghost use Rattle.serde_json.specs.View.{view, items_view};
+ghost use Rattle.std.specs.Prelude.{◌≡◌, Some, None, Err, IfOk};
+ghost use Rattle.serde_json.specs.View.{view};
 ghost use Rattle.raft_json.specs.MemberListJson as spec;
 ghost use Rattle.raft_json.specs.MemberListJson.{conf_state_of_member_list};
 
@@ -29,16 +29,6 @@ pub(crate) fn conf_state_of_member_list(alloc: Global, list: &Value) -> Result<C
         ≡ None }
 {
     let items = list.as_array().ok_or(JsonFault::BadJson)?;
-    conf_state_of_items(alloc, items)
-}
-
-// The saved configuration with the members that the items denote.
-fn conf_state_of_items(alloc: Global, items: &Vec<Value>) -> Result<ConfState, JsonFault>
-    ensures ok { IfOk result (λ state. option_map spec.conf_state_of_members
-        (spec.members_from (items_view items.now.items)) ≡ Some state) }
-    ensures bad { result ≡ Err JsonFault.BadJson → spec.members_from (items_view items.now.items)
-        ≡ None }
-{
     let mut voters = Vec::with_capacity(alloc, items.len())?;
     let mut learners = Vec::new(alloc);
     for item in items {

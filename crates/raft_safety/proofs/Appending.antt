@@ -4,7 +4,7 @@ use Rattle.conf_change.specs.Configuration.{Configuration}
 use Rattle.raft_safety.specs.Logs.{Log, IsPrefix, Entry}
 use Rattle.raft_safety.specs.Cluster.{Cluster, Leads}
 use Rattle.raft_safety.proofs.Invariants.{AreInvariants, log_of, IsFromLeaders}
-use Rattle.std.specs.Prelude.{nat_eq, nat_le}
+use Rattle.std.specs.Prelude.{nat_eq}
 use Rattle.std.proofs.lemmas.Bool.{cases_eq, cond-true, cond-false}
 use Rattle.std.proofs.lemmas.Bool.Decides.{nat_tests}
 use Rattle.raft_safety.specs.Steps.{IsLogAfter}
@@ -15,19 +15,12 @@ use Rattle.raft_safety.proofs.Logs.{IsPrefix-refl, IsPrefix-trans, IsPrefix-leng
 
 pub upto-prefix : (a log : Log) → IsPrefix a log → upto log (length a) ≡ a
 upto-prefix a [] p = sym p
-upto-prefix a (entry ∷ log) (inl p) =
-    let e : length a ≡ length (entry ∷ log) = ap (λ (x : Log). length x) p in
-    cond-true (nat_le (length (entry ∷ log)) (length a)) (entry ∷ log) (upto log (length a)) (grind (arith, nat_tests)) ∙ sym p
-upto-prefix a (entry ∷ log) (inr p) =
-    let h : length a ≤ length log = IsPrefix-length a log p in
-    cond-false (nat_le (length (entry ∷ log)) (length a)) (entry ∷ log) (upto log (length a)) (grind (arith, nat_tests)) ∙ upto-prefix a log p
+upto-prefix a (entry ∷ log) (inl p) = grind (arith, cond-true, nat_tests)
+upto-prefix a (entry ∷ log) (inr p) = grind (arith, IsPrefix-length, cond-false, nat_tests, upto-prefix a log p)
 
 term_at_prefix : (entry : Entry) (before log : Log) → IsPrefix (entry ∷ before) log → term_at log (length before + 1) ≡ entry.term
 term_at_prefix entry before [] p = absurd cc
-term_at_prefix entry before (newest ∷ log) (inl p) =
-    let e : length (entry ∷ before) ≡ length (newest ∷ log) = ap (λ (x : Log). length x) p in
-    let same : entry ≡ newest = cc in
-    cond-true (nat_eq (length before + 1) (length (newest ∷ log))) newest.term (term_at log (length before + 1)) (grind (arith, nat_tests)) ∙ sym (ap (λ (x : Entry). x.term) same)
+term_at_prefix entry before (newest ∷ log) (inl p) = grind (arith, cond-true, nat_tests)
 term_at_prefix entry before (newest ∷ log) (inr p) =
     let h : length (entry ∷ before) ≤ length log = IsPrefix-length (entry ∷ before) log p in
     cond-false (nat_eq (length before + 1) (length (newest ∷ log))) newest.term (term_at log (length before + 1)) (grind (arith, nat_tests)) ∙ term_at_prefix entry before log p
@@ -47,8 +40,7 @@ entry-found (newest ∷ log) index some = elim (cases_eq (index + 1) (length (ne
 -- past the end there is none
 term_at_past : (log : Log) (index : ℕ) → length log < index → term_at log index ≡ 0
 term_at_past [] index past = refl
-term_at_past (entry ∷ log) index past =
-    cond-false (nat_eq index (length (entry ∷ log))) entry.term (term_at log index) (grind (arith, nat_tests)) ∙ term_at_past log index (omega arith)
+term_at_past (entry ∷ log) index past = grind (arith, cond-false, nat_tests, term_at_past log index (omega arith))
 
 -- was if it began with these too, else it is the leader's up to there
 pub entries-taken : (first : Configuration) (c : Cluster) → AreInvariants first c → (term leader : ℕ) → Leads c term leader → (log : Log) → IsFromLeaders c log

@@ -54,11 +54,7 @@ entry_at_within (newest ∷ log) index entry is = elim (cases_eq index (length (
 entry_at_prefix : (a log : Log) (index : ℕ) (entry : Entry) → IsPrefix a log → entry_at a index ≡ Some entry → entry_at log index ≡ Some entry
 entry_at_prefix a [] index entry p is = subst (λ (x : Log). entry_at x index ≡ Some entry) p is
 entry_at_prefix a (newest ∷ log) index entry (inl p) is = subst (λ (x : Log). entry_at x index ≡ Some entry) p is
-entry_at_prefix a (newest ∷ log) index entry (inr p) is =
-    let within : index ≤ length a = entry_at_within a index entry is in
-    let short : length a ≤ length log = IsPrefix-length a log p in
-    let not_last : index ≡ length (newest ∷ log) → ⊥ = λ e. omega arith in
-    cond-false (nat_eq index (length (newest ∷ log))) (Some newest) (entry_at log index) (grind (arith, nat_tests)) ∙ entry_at_prefix a log index entry p is
+entry_at_prefix a (newest ∷ log) index entry (inr p) is = grind (arith, entry_at_within, IsPrefix-length, cond-false, nat_tests, entry_at_prefix a log index entry p is)
 
 same_entries : (a b : Log) (index : ℕ) (one other : Entry) → AreAlike a b → entry_at a index ≡ Some one → entry_at b index ≡ Some other → one ≡ other
 same_entries a b index one other (inl p) x y = let e : entry_at b index ≡ Some one = entry_at_prefix a b index one p x in cc

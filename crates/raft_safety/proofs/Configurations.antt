@@ -1,9 +1,9 @@
 -- What holds of the voters after logs: each quorum meets the quorums of the same voters, and of those that are one change
 -- away.
 use Rattle.std.proofs.Common.{◌≡◌, ℕ, ◌+◌, ◌≤◌, ◌<◌, ◌⊎◌, true, false, [], ◌∷◌, refl, sym, ap, subst, ◌∙◌, inl, inr, arith}
-use Rattle.std.specs.Prelude.{Bool, Ok, Err, IsTrue, ◌||◌, if◌then◌else◌}
+use Rattle.std.specs.Prelude.{Bool, Ok, Err, IsTrue, if◌then◌else◌}
 use Rattle.std.proofs.lemmas.Bool.{cases_lt, cases_Bool, and_parts, and_from, or_left}
-use Rattle.quorum_sets.specs.Ids.{Ids, no_ids, has, is_empty, majority_passes}
+use Rattle.quorum_sets.specs.Ids.{Ids, no_ids}
 use Rattle.std.specs.Result.{result_unwrap_or}
 use Rattle.quorum_sets.specs.Voters.{Voters, AreNeighbours, is_quorum, pair}
 use Rattle.quorum_sets.specs.Overlap.{QuorumsMeet}
@@ -26,9 +26,7 @@ abbrev pub IsChange : Configuration → Entry → Log → Type 0
 IsChange first entry log = (voter_changes first (entry ∷ log) ≡ voter_changes first log + 1) × AreNeighbours (voters_after first log) (voters_after first (entry ∷ log))
 
 same_voters : (a b : Voters) → are_same_voters a b ≡ true → a ≡ b
-same_voters a b same =
-    let parts = and_parts (is_same_set a.incoming b.incoming) (is_same_set a.outgoing b.outgoing) same in
-    λ i. record { incoming = is_same_set-equal a.incoming b.incoming parts.0 i; outgoing = is_same_set-equal a.outgoing b.outgoing parts.1 i }
+same_voters a b same = grind (arith, and_parts, is_same_set-equal)
 
 outcome_cases : (before : Configuration) (step : Step) (o : Outcome) → outcome before step ≡ o
     → (result_unwrap_or o before ≡ before) ⊎ AreNeighbours (voters_of before) (voters_of (result_unwrap_or o before))
@@ -54,37 +52,18 @@ counted_one false n e = omega arith
 pub voter_changes-none : (first : Configuration) (entry : Entry) (log : Log) → voters_after first (entry ∷ log) ≡ voters_after first log
     → voter_changes first (entry ∷ log) ≡ voter_changes first log
 unfolding voter_changes
-voter_changes-none first entry log same =
-    let before = voters_after first log in
-    counted_none (are_same_voters before (voters_after first (entry ∷ log))) (voter_changes first log)
-    (subst (λ (v : Voters). are_same_voters before v ≡ true) (sym same) (same_voters_refl before))
+voter_changes-none first entry log same = grind (arith, counted_none, same_voters_refl)
 
 -- the only cases of an entry
 entry-cases : (first : Configuration) (entry : Entry) (log : Log) → IsIdle first entry log ⊎ IsChange first entry log
 unfolding configuration_after voters_after voter_changes
-entry-cases first entry log =
-    let before = voters_after first log in
-    let after = voters_after first (entry ∷ log) in
-    let same = are_same_voters before after in
-    let idle : after ≡ before → IsIdle first entry log = λ stays. (voter_changes-none first entry log stays, stays) in
-    elim (cases_Bool same) [
-      | inl alike ↦ inl (idle (sym (same_voters before after alike)))
-      | inr differ ↦ elim (payload_cases (configuration_after first log) entry.payload) [
-        | inl kept ↦ inl (idle (ap voters_of kept))
-        | inr neighbours ↦ inr (counted_one same (voter_changes first log) differ, neighbours)
-      ]
-    ]
+entry-cases first entry log = grind (arith, voter_changes-none, cases_Bool, same_voters, payload_cases, counted_one)
 
 -- ---- changes in a prefix
 pub voter_changes-prefix : (first : Configuration) (a log : Log) → IsPrefix a log → voter_changes first a ≤ voter_changes first log
 voter_changes-prefix first a [] p = let e : voter_changes first a ≡ voter_changes first [] = ap (voter_changes first) p in omega arith
 voter_changes-prefix first a (entry ∷ log) (inl p) = let e : voter_changes first a ≡ voter_changes first (entry ∷ log) = ap (voter_changes first) p in omega arith
-voter_changes-prefix first a (entry ∷ log) (inr p) =
-    let h : voter_changes first a ≤ voter_changes first log = voter_changes-prefix first a log p in
-    elim (entry-cases first entry log) [
-      | inl idle ↦ (let e : voter_changes first (entry ∷ log) ≡ voter_changes first log = idle.0 in omega arith)
-      | inr step ↦ (let e : voter_changes first (entry ∷ log) ≡ voter_changes first log + 1 = step.0 in omega arith)
-    ]
+voter_changes-prefix first a (entry ∷ log) (inr p) = grind (arith, entry-cases, voter_changes-prefix first a log p)
 
 -- with as many changes, the voters are the same
 pub voters_after-same : (first : Configuration) (a log : Log) → IsPrefix a log → voter_changes first log ≤ voter_changes first a
@@ -120,10 +99,7 @@ change-numbered first n (entry ∷ log) few = elim (entry-cases first entry log)
 -- ---- quorums of the same voters meet
 -- a quorum of a pair is one of its incoming half
 incoming_quorum : (voters : Voters) (ids : Ids) → IsTrue (is_quorum voters ids) → IsTrue (is_quorum (pair voters.incoming no_ids) ids)
-incoming_quorum voters ids quorum =
-    and_from (majority_passes (has ids) voters.incoming) (is_empty no_ids || majority_passes (has ids) no_ids)
-    (and_parts (majority_passes (has ids) voters.incoming) (is_empty voters.outgoing || majority_passes (has ids) voters.outgoing) quorum).0
-    (or_left (is_empty no_ids) (majority_passes (has ids) no_ids) is_empty-no_ids)
+incoming_quorum voters ids quorum = grind (arith, and_from, and_parts, or_left, is_empty-no_ids)
 
 QuorumsMeet-self : (voters : Voters) → QuorumsMeet voters voters
 QuorumsMeet-self voters first second quorums =
@@ -169,7 +145,4 @@ DoMeet-one_change first a (entry ∷ log) (inr p) few = elim (entry-cases first 
 
 -- an entry adds at most one
 pub voter_changes-entry : (first : Configuration) (entry : Entry) (log : Log) → voter_changes first (entry ∷ log) ≤ voter_changes first log + 1
-voter_changes-entry first entry log = elim (entry-cases first entry log) [
-  | inl idle ↦ (let e : voter_changes first (entry ∷ log) ≡ voter_changes first log = idle.0 in omega arith)
-  | inr step ↦ (let e : voter_changes first (entry ∷ log) ≡ voter_changes first log + 1 = step.0 in omega arith)
-]
+voter_changes-entry first entry log = grind (arith, entry-cases)

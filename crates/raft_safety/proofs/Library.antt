@@ -1,5 +1,5 @@
 -- What the library counts and changes is what the rules speak of.
-use Rattle.std.proofs.Common.{◌≡◌, ℕ, ◌≤◌, Bool, true, false, cond, ◌==◌, List, [], ◌∷◌, ◌++◌, eq-eqb, refl, ap, ◌∙◌, arith}
+use Rattle.std.proofs.Common.{◌≡◌, ℕ, ◌≤◌, Bool, true, false, cond, ◌==◌, List, [], ◌∷◌, ◌++◌, eq-eqb, refl, arith}
 use Rattle.std.specs.Prelude.{Ok, Err, count_by, nat_le}
 use Rattle.std.specs.Result.{result_unwrap_or}
 use Rattle.std.specs.List.{list_any}
@@ -30,8 +30,7 @@ count_by-mono p q (x ∷ xs) passes =
     grind (arith, head, rest, sum_by-cons (λ y. cond (p y) 1 0) x xs, sum_by-cons (λ y. cond (q y) 1 0) x xs)
 
 majority_passes-mono : (p q : ℕ → Bool) (ids : Ids) → ((x : ℕ) → has ids x ≡ true → p x ≡ true → q x ≡ true) → majority_passes p ids ≡ true → majority_passes q ids ≡ true
-majority_passes-mono p q ids passes most =
-    lt-ltb _ _ (omega (arith, ltb-true _ _ most, count_by-mono p q (ascending ids) (λ x here. passes x (has-ascending ids x ∙ here))))
+majority_passes-mono p q ids passes most = grind (arith, lt-ltb, ltb-true, count_by-mono, has-ascending)
 
 -- the voters that pass are a quorum where most of each set do
 HasQuorum-passing : (first : Configuration) (log : Log) (p : ℕ → Bool) → majority_passes p (voters_after first log).incoming ≡ true
@@ -53,9 +52,7 @@ HasQuorum-won first log votes some won =
 -- more than half of a set have acknowledged what it has committed
 acknowledged : (ids : Ids) (acks : Acks) (index : ℕ) → IsCommitted ids acks (committed_index ids acks) → index ≤ committed_index ids acks → is_empty ids ≡ false
     → majority_passes (λ id. nat_le index (acked_index acks id)) ids ≡ true
-acknowledged ids acks index fits low some =
-    majority_passes-mono (λ id. nat_le (committed_index ids acks) (acked_index acks id)) (λ id. nat_le index (acked_index acks id)) ids
-    (λ id here enough. grind (arith, nat_tests, enough, low)) (fits.reached some)
+acknowledged ids acks index fits low some = grind (arith, majority_passes-mono, nat_tests)
 
 pub HasQuorum-committed : ((ids : Ids) (acks : Acks) → IsCommitted ids acks (committed_index ids acks)) → (first : Configuration) (log : Log) (acks : Acks) (index : ℕ)
     → is_empty (voters_after first log).incoming ≡ false → index ≤ joint_committed_index (voters_after first log) acks → HasQuorum first log (λ id. index ≤ acked_index acks id)
@@ -78,5 +75,4 @@ config_after_payload before (ConfChange step) = config_after_step before step (o
 pub config_after_log : (before : ChangerState) (log : Log) → (changer_after_log before log).tracker.config ≡ configuration_after before.tracker.config log
 unfolding configuration_after
 config_after_log before [] = refl
-config_after_log before (entry ∷ log) =
-    config_after_payload (changer_after_log before log) entry.payload ∙ ap (λ (c : Configuration). after_payload c entry.payload) (config_after_log before log)
+config_after_log before (entry ∷ log) = grind (arith, config_after_payload, config_after_log before log)

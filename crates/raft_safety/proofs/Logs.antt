@@ -1,6 +1,5 @@
 -- Prefixes of logs.
 use Rattle.std.proofs.Common.{◌≡◌, ◌≤◌, ◌<◌, ◌⊎◌, [], ◌∷◌, length, refl, sym, ap, subst, inl, inr, arith}
-use Rattle.std.specs.Prelude.{nat_lt}
 use Rattle.std.proofs.lemmas.Bool.{cases_lt, cond-true, cond-false}
 use Rattle.std.proofs.lemmas.Bool.Decides.{nat_tests}
 use Rattle.raft_safety.specs.Logs.{Log, IsPrefix, longer}
@@ -38,20 +37,11 @@ IsPrefix-whole a (entry ∷ log) (inr p) long = let h : length a ≤ length log 
 
 -- of two parts of a log, the shorter is a part of the longer
 pub shorter-prefix : (a b log : Log) → IsPrefix a log → IsPrefix b log → length a ≤ length b → IsPrefix a b
-shorter-prefix a b log p q short = elim (IsPrefix-compare a b log p q) [
-  | inl less ↦ less
-  | inr more ↦ subst (IsPrefix a) (sym (IsPrefix-whole b a more short)) (IsPrefix-refl a)
-]
+shorter-prefix a b log p q short = grind (arith, IsPrefix-compare, IsPrefix-whole, IsPrefix-refl)
 
 pub IsPrefix-same_length : (a b log : Log) → IsPrefix a log → IsPrefix b log → length a ≡ length b → a ≡ b
-IsPrefix-same_length a b log p q same = elim (IsPrefix-compare a b log p q) [
-  | inl less ↦ IsPrefix-whole a b less (omega arith)
-  | inr more ↦ sym (IsPrefix-whole b a more (omega arith))
-]
+IsPrefix-same_length a b log p q same = grind (arith, IsPrefix-compare, IsPrefix-whole)
 
 -- what holds of the longer of two logs, by cases
 pub longer-each : (P : Log → Type 0) (one other : Log) → (length one < length other → P other) → (length other ≤ length one → P one) → P (longer one other)
-longer-each P one other second first = elim (cases_lt (length one) (length other)) [
-  | inl less ↦ subst P (sym (cond-true (nat_lt (length one) (length other)) other one (grind (arith, nat_tests)))) (second less)
-  | inr not_less ↦ subst P (sym (cond-false (nat_lt (length one) (length other)) other one (grind (arith, nat_tests)))) (first not_less)
-]
+longer-each P one other second first = grind (arith, cases_lt, cond-true, nat_tests, cond-false)

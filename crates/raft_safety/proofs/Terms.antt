@@ -27,10 +27,7 @@ DoTermsRise-prefix a (entry ∷ log) (inr p) rise = DoTermsRise-prefix a log p r
 pub last_term-prefix : (a log : Log) → IsPrefix a log → DoTermsRise log → last_term a ≤ last_term log
 last_term-prefix a [] p rise = let e : last_term a ≡ last_term [] = ap last_term p in omega arith
 last_term-prefix a (entry ∷ log) (inl p) rise = let e : last_term a ≡ entry.term = ap last_term p in omega arith
-last_term-prefix a (entry ∷ log) (inr p) rise =
-    let h : last_term a ≤ last_term log = last_term-prefix a log p rise.1 in
-    let r : last_term log ≤ entry.term = rise.0 in
-    omega arith
+last_term-prefix a (entry ∷ log) (inr p) rise = grind (arith, last_term-prefix a log p rise.1)
 
 -- entries of a later term after a log
 pub last_term-grown : (term : ℕ) (old log : Log) → IsGrown term old log → last_term old < term → last_term log ≤ term
@@ -41,10 +38,7 @@ last_term-grown term old (entry ∷ log) (inr more) past = let e : entry.term �
 rise_grown : (term : ℕ) (old log : Log) → IsGrown term old log → last_term old < term → DoTermsRise old → DoTermsRise log
 rise_grown term old [] g past rise = tt
 rise_grown term old (entry ∷ log) (inl same) past rise = subst DoTermsRise same rise
-rise_grown term old (entry ∷ log) (inr more) past rise =
-    let h : last_term log ≤ term = last_term-grown term old log more.1 past in
-    let e : entry.term ≡ term = more.0 in
-    (omega arith, rise_grown term old log more.1 past rise)
+rise_grown term old (entry ∷ log) (inr more) past rise = grind (arith, last_term-grown, past, rise_grown term old log more.1 past rise)
 
 -- logs whose last term is below a bound
 rise_below : (bound : ℕ) (c : Cluster) → AreLeaders c → (log : Log) → last_term log < bound → IsFromLeaders c log → DoTermsRise log
@@ -71,10 +65,7 @@ pub IsPrefix-up_to_date : (c : Cluster) → AreLeaders c → ElectionSafety c �
     → IsFromLeaders c candidate → IsFromLeaders c voter → IsUpToDate candidate voter → last_term candidate < next
     → Leads c term leader → IsPrefix kept (c.leaderships term leader).log → last_term kept ≡ term → 0 < term
     → IsPrefix kept voter → IsKept c kept term next → IsPrefix kept candidate
-IsPrefix-up_to_date c leaders one [] voter kept term leader next from voter_from up past leads of own some stored keeps =
-    let rise : DoTermsRise voter = DoTermsRise-from_leaders c leaders voter voter_from in
-    let high : last_term kept ≤ last_term voter = last_term-prefix kept voter stored rise in
-    absurd (elim up [ inl newer ↦ (let h : last_term voter < 0 = newer in omega arith) | inr as_new ↦ (let h : 0 ≡ last_term voter = as_new.0 in omega arith) ])
+IsPrefix-up_to_date c leaders one [] voter kept term leader next from voter_from up past leads of own some stored keeps = grind (arith, DoTermsRise, DoTermsRise-from_leaders, last_term-prefix)
 IsPrefix-up_to_date c leaders one (entry ∷ log) voter kept term leader next from voter_from up past leads of own some stored keeps =
     let rise : DoTermsRise voter = DoTermsRise-from_leaders c leaders voter voter_from in
     let high : last_term kept ≤ last_term voter = last_term-prefix kept voter stored rise in

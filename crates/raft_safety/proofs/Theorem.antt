@@ -1,5 +1,5 @@
 -- The theorem: the invariants hold before anything happens, each action keeps them, and the claims follow.
-use Rattle.std.proofs.Common.{List, ◌++◌, refl, inl, inr, arith}
+use Rattle.std.proofs.Common.{List, ◌++◌, inr, arith}
 use Rattle.conf_change.specs.Configuration.{Configuration}
 use Rattle.raft_safety.specs.Cluster.{Cluster, new_cluster}
 use Rattle.raft_safety.specs.Steps.{Action, Campaign, SeeTerm, GrantVote, BecomeLeader, Learn, Propose, Receive, Commit, Restart, IsAllowed, AreAllowed, after_action, after_actions}
@@ -16,19 +16,7 @@ use Rattle.raft_safety.proofs.Runs.{all-keep, claims-of_run}
 
 -- ---- every state that is reached
 pub AreInvariants-new : (first : Configuration) → AreInvariants first new_cluster
-AreInvariants-new first = record {
-  servers = λ s. record { from_leaders = tt; term = omega arith; stored = refl; known = inl refl };
-  requests = λ r x. absurd x;
-  one_request = λ a b x y t s. absurd x;
-  elections = λ e x. absurd x;
-  one_election = λ a b x y t. absurd x;
-  votes = λ v x. absurd x;
-  one_vote = λ t v one other x y. absurd x;
-  acknowledgements = λ a x. absurd x;
-  voters_keep = λ r voter term log x voted ack before own kept led. absurd x;
-  commitments = λ m x. absurd x;
-  counted_before = λ m entry log x p. absurd x;
-}
+AreInvariants-new first = grind arith
 
 action_keeps : (first : Configuration) (c : Cluster) (action : Action) → IsAllowed first c action → AreInvariants first c → AreInvariants first (after_action c action)
 action_keeps first c (Campaign server term counted) may i = campaign-keeps first c server term counted may i

@@ -1,5 +1,5 @@
 -- A function with another value at one number, and a cluster with another state of a server or of a leader.
-use Rattle.std.proofs.Common.{◌≡◌, ℕ, ◌≤◌, true, refl, sym, ap, subst, ◌∙◌, inl, inr, arith, false}
+use Rattle.std.proofs.Common.{◌≡◌, ℕ, ◌≤◌, true, ap, ◌∙◌, arith, false}
 use Rattle.raft_safety.specs.Cluster.{Cluster, Server, Leadership, with_value}
 use Rattle.raft_safety.specs.Steps.{with_leadership}
 use Rattle.std.specs.Prelude.{nat_eq}
@@ -20,30 +20,21 @@ with_value-there old n value k other = cond-false (nat_eq k n) value (old k) (eq
 
 -- what holds of the new value there, and of the old ones elsewhere, holds everywhere
 pub with_value-each : {X : Type 0} (P : X → Type 0) (old : ℕ → X) (n : ℕ) (value : X) (k : ℕ) → (k ≡ n → P value) → ((k ≡ n → ⊥) → P (old k)) → P (with_value old n value k)
-with_value-each {X} P old n value k here there = elim (cases_eq k n) [
-  | inl same ↦ subst (λ (q : ℕ). P (with_value old n value q)) (sym same) (subst P (sym (with_value-here old n value)) (here same))
-  | inr other ↦ subst P (sym (with_value-there old n value k other)) (there other)
-]
+with_value-each {X} P old n value k here there = grind (arith, cases_eq, with_value-here, with_value-there)
 
 pub with_value-term_rises : (servers : ℕ → Server) (n : ℕ) (value : Server) → (servers n).term ≤ value.term → (k : ℕ) → (servers k).term ≤ (with_value servers n value k).term
-with_value-term_rises servers n value order k = with_value-each (λ (x : Server). (servers k).term ≤ x.term) servers n value k
-    (λ same. let e : (servers k).term ≡ (servers n).term = ap (λ (q : ℕ). (servers q).term) same in omega arith) (λ other. omega arith)
+with_value-term_rises servers n value order k = grind (arith, with_value-each)
 
 pub with_value-log_stays : (servers : ℕ → Server) (n : ℕ) (value : Server) → (servers n).log ≡ value.log → (k : ℕ) → (servers k).log ≡ (with_value servers n value k).log
-with_value-log_stays servers n value is k = with_value-each (λ (x : Server). (servers k).log ≡ x.log) servers n value k
-    (λ same. ap (λ (q : ℕ). (servers q).log) same ∙ is) (λ other. refl)
+with_value-log_stays servers n value is k = grind (arith, with_value-each)
 
 -- what holds of the new state of a leader there, and of the old states everywhere
 pub with_leadership-each : (c : Cluster) (t s : ℕ) (new : Leadership) (P : Leadership → Type 0) (t' s' : ℕ) → (t' ≡ t → s' ≡ s → P new) → P (c.leaderships t' s')
     → P ((with_leadership c t s new).leaderships t' s')
-with_leadership-each c t s new P t' s' here old =
-    with_value-each (λ (g : ℕ → Leadership). P (g s')) c.leaderships t (with_value (c.leaderships t) s new) t'
-    (λ same_t. with_value-each P (c.leaderships t) s new s' (here same_t) (λ other. subst (λ (q : ℕ). P (c.leaderships q s')) same_t old))
-    (λ other. old)
+with_leadership-each c t s new P t' s' here old = grind (arith, with_value-each)
 
 pub leadership-same : (c : Cluster) (t s t' s' : ℕ) → t' ≡ t → s' ≡ s → c.leaderships t' s' ≡ c.leaderships t s
 leadership-same c t s t' s' same_t same_s = ap (λ (q : ℕ). c.leaderships q s') same_t ∙ ap (λ (q : ℕ). c.leaderships t q) same_s
 
 pub with_leadership-here : (c : Cluster) (t s : ℕ) (new : Leadership) → (with_leadership c t s new).leaderships t s ≡ new
-with_leadership-here c t s new =
-    ap (λ (g : ℕ → Leadership). g s) (with_value-here c.leaderships t (with_value (c.leaderships t) s new)) ∙ with_value-here (c.leaderships t) s new
+with_leadership-here c t s new = grind (arith, with_value-here)

@@ -45,8 +45,7 @@ accepted = outcome-simple_accepted three with_learner learner (simp written_out 
 
 learner_counts_none : voter_changes three (one_change 1 Learner 4 ∷ []) ≡ 0
 unfolding voter_changes voters_after configuration_after
-learner_counts_none =
-    ap (λ o. (if are_same_voters (voters_of three) (voters_of (result_unwrap_or o three)) then 0 else 1) + 0) accepted ∙ simp written_out refl
+learner_counts_none = grind (arith, accepted, written_out)
 
 -- a step that is refused: the configuration is not joint, so it cannot be left
 refused_counts_none : voter_changes three (record { term = 1; payload = ConfChange LeaveJoint } ∷ []) ≡ 0

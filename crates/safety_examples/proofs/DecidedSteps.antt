@@ -1,5 +1,6 @@
 -- Whether the rules of raft_safety's Steps.antt allow an action, or all but one field of its guard do, is decided by computing,
 -- where sets of servers are written as lists.
+use Rattle.std.proofs.Common.{arith}
 use Rattle.std.proofs.Common.{◌≡◌, ℕ, ◌<◌, ◌≤◌, Bool, true, false, List, length, refl, subst, nat_eq}
 use Rattle.quorum_sets.specs.Ids.{has, ids_of}
 use Rattle.conf_change.specs.Configuration.{Configuration}
@@ -134,10 +135,8 @@ allowed first c (core.GrantVote voter request) but = record { asked = but.0; not
 allowed first c (core.BecomeLeader request votes) but = record { asked = but.0; not_yet = but.1.0; voted = but.1.1.0; quorum = but.1.1.1 }
 allowed first c (core.Learn term leader known) but = record { leads = but.0; same_term = but.1.0; known_of = but.1.1 }
 allowed first c (core.Propose term leader entry) but = record { own_term = but }
-allowed first c (core.Receive server term leader sent known after) but =
-    record { leads = but.0; not_past = but.1.0; sent_of = but.1.1.0; known_of = but.1.1.1.0; committed = but.1.1.1.1.0; taken = but.1.1.1.1.1 }
-allowed first c (core.Commit leader m) but =
-    record { leads = but.0; longer_than = but.1.0; in_log = but.1.1.0; own_term = but.1.1.1.0; acknowledged = but.1.1.1.1.0; counted = but.1.1.1.1.1.0; one_change_beyond = but.1.1.1.1.1.1.0; quorum = but.1.1.1.1.1.1.1 }
+allowed first c (core.Receive server term leader sent known after) but = grind arith
+allowed first c (core.Commit leader m) but = grind (arith, one_change_beyond, quorum)
 allowed first c (core.Restart server known) but = record { known_of = but }
 
 pub fields_of : (first : Configuration) (c : Cluster) (action : Action) → IsAllowed first c action → IsAllowedBut 0 first c action
@@ -148,8 +147,7 @@ fields_of first c (core.BecomeLeader request votes) may = (may.asked, (may.not_y
 fields_of first c (core.Learn term leader known) may = (may.leads, (may.same_term, may.known_of))
 fields_of first c (core.Propose term leader entry) may = may.own_term
 fields_of first c (core.Receive server term leader sent known after) may = (may.leads, (may.not_past, (may.sent_of, (may.known_of, (may.committed, may.taken)))))
-fields_of first c (core.Commit leader m) may =
-    (may.leads, (may.longer_than, (may.in_log, (may.own_term, (may.acknowledged, (may.counted, (may.one_change_beyond, may.quorum)))))))
+fields_of first c (core.Commit leader m) may = grind arith
 fields_of first c (core.Restart server known) may = may.known_of
 
 abbrev pub decided : (out : ℕ) → (l : Lists) → (c : Cluster) → (a : ListedAction) → Decision (IsAllowedBut out (configuration_of l) c (action_of a))

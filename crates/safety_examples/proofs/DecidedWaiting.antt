@@ -1,5 +1,6 @@
 -- Whether the rules of Waiting.antt and WaitingOnDisk.antt allow an action is decided by computing, where sets of servers are
 -- written as lists.
+use Rattle.std.proofs.Common.{arith}
 use Rattle.std.proofs.Common.{ℕ, ◌+◌, ◌≤◌, List, ◌∷◌, length, subst₂}
 use Rattle.quorum_sets.specs.Ids.{ids_of}
 use Rattle.raft_safety.specs.Logs.{Entry, Log, last_term}
@@ -25,8 +26,7 @@ HasLeaderChanges l c log e =
     voter_changes (configuration_of l) (c.leaderships e.request.term e.request.candidate).log ≤ voter_changes (configuration_of l) log + 1
 
 pub changes_of : (l : Lists) (c : Cluster) (log : Log) → ((e : Election) → In e c.elections → HasLeaderChanges l c log e) → HasChanges (configuration_of l) c log
-changes_of l c log each term leader leads =
-    subst₂ (λ t s. voter_changes (configuration_of l) (c.leaderships t s).log ≤ voter_changes (configuration_of l) log + 1) leads.2 leads.3 (each leads.0 leads.1)
+changes_of l c log each term leader leads = grind (arith, subst₂, configuration_of, leads)
 
 abbrev pub has_changes : (l : Lists) → (c : Cluster) → (log : Log) → Decision (HasChanges (configuration_of l) c log)
 has_changes l c log =

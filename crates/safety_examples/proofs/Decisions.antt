@@ -73,9 +73,7 @@ module _ {P Q : Type 0} where
   shows_either p q e = elim (either_true p.holds q.holds e) [ inl first ↦ inl (p.shows first) | inr second ↦ inr (q.shows second) ]
 
   pub refutes_either : (p : Decision P) → (q : Decision Q) → (p.fails && q.fails) ≡ true → ¬ (P ⊎ Q)
-  refutes_either p q e either =
-      let parts = and_parts p.fails q.fails e in
-      elim either [ inl first ↦ p.refutes parts.0 first | inr second ↦ q.refutes parts.1 second ]
+  refutes_either p q e either = grind (arith, and_parts)
 
   abbrev pub either : Decision P → Decision Q → Decision (P ⊎ Q)
   either p q = record { holds = p.holds || q.holds; fails = p.fails && q.fails; shows = shows_either p q; refutes = refutes_either p q }

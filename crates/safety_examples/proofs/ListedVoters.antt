@@ -178,13 +178,7 @@ after_simple l change computed =
 
 after_enter : (l : Lists) (change : Change) → is_computed l (ConfChange (EnterJoint false (change ∷ []))) ≡ true
     → outcome (configuration_of l) (EnterJoint false (change ∷ [])) ≡ Ok (configuration_of (lists_after l (ConfChange (EnterJoint false (change ∷ [])))))
-after_enter l change computed =
-    let ids = changed l.incoming change in
-    let parts = and_parts (is_plain change && no_listed l.outgoing) (not (no_listed l.incoming) && not (no_listed ids)) computed in
-    let before = and_parts (is_plain change) (no_listed l.outgoing) parts.0 in
-    let some = and_parts (not (no_listed l.incoming)) (not (no_listed ids)) parts.1 in
-    outcome-enter_accepted (configuration_of l) (with_sets (ids_of ids) (ids_of l.incoming)) false (change ∷ []) (not_joint l before.1)
-    (some-listed l.incoming some.0) (result-changed l.incoming (ids_of l.incoming) change before.0) (some-listed ids some.1)
+after_enter l change computed = grind (arith, and_parts, not, outcome-enter_accepted, false, not_joint, some-listed, result-changed)
 
 no_learners : union no_ids no_ids ≡ no_ids
 no_learners i = ids_of (ascending-listed [] i ++ ascending-listed [] i)
@@ -196,8 +190,7 @@ lists-after : (l : Lists) (payload : Payload) → is_computed l payload ≡ true
 lists-after l (Command bytes) computed = refl
 lists-after l (ConfChange (Simple (change ∷ []))) computed = ap (λ o. result_unwrap_or o (configuration_of l)) (after_simple l change computed)
 lists-after l (ConfChange (EnterJoint false (change ∷ []))) computed = ap (λ o. result_unwrap_or o (configuration_of l)) (after_enter l change computed)
-lists-after l (ConfChange LeaveJoint) computed =
-    ap (λ o. result_unwrap_or o (configuration_of l)) (outcome-leave_accepted (configuration_of l) (some-listed l.outgoing computed)) ∙ after_left l
+lists-after l (ConfChange LeaveJoint) computed = grind (arith, outcome-leave_accepted, some-listed, after_left)
 lists-after l payload computed = absurd (true≢false (sym computed))
 
 -- ---- the voters after a log

@@ -25,13 +25,7 @@ Lists-from_names_once list e = record { same = refl; once = eqb-true (length lis
 
 -- ---- configurations that are described
 pub Describes-lists_of : (c : Configuration) → Describes (lists_of c) c
-Describes-lists_of c = record {
-  incoming = Lists-ascending c.incoming;
-  outgoing = Lists-ascending c.outgoing;
-  learners = Lists-ascending c.learners;
-  learners_next = Lists-ascending c.learners_next;
-  auto_leave = refl;
-}
+Describes-lists_of c = grind (arith, Lists-ascending)
 
 -- the one that is described is the one that is named
 pub named_by-from_Describes : (saved : ConfStateLists) (c : Configuration) → Describes saved c → named_by saved ≡ c
@@ -48,23 +42,10 @@ Describes-same saved c d is_c is_d = sym (named_by-from_Describes saved c is_c) 
 
 -- ---- the configuration to which a saved form is restored
 pub names_each_once-from_Describes : (saved : ConfStateLists) (c : Configuration) → Describes saved c → names_each_once saved ≡ true
-names_each_once-from_Describes saved c d =
-    grind (
-      arith,
-      names_once-from_Lists saved.voters c.incoming d.incoming,
-      names_once-from_Lists saved.voters_outgoing c.outgoing d.outgoing,
-      names_once-from_Lists saved.learners c.learners d.learners,
-      names_once-from_Lists saved.learners_next c.learners_next d.learners_next,
-    )
+names_each_once-from_Describes saved c d = grind (arith, names_once-from_Lists)
 
 pub Describes-from_names_each_once : (saved : ConfStateLists) → names_each_once saved ≡ true → Describes saved (named_by saved)
-Describes-from_names_each_once saved e = record {
-  incoming = Lists-from_names_once saved.voters (grind arith);
-  outgoing = Lists-from_names_once saved.voters_outgoing (grind arith);
-  learners = Lists-from_names_once saved.learners (grind arith);
-  learners_next = Lists-from_names_once saved.learners_next (grind arith);
-  auto_leave = refl;
-}
+Describes-from_names_each_once saved e = grind (arith, Lists-from_names_once)
 
 pub described-from_Describes : (saved : ConfStateLists) (c : Configuration) → Describes saved c → described saved ≡ Some c
 described-from_Describes saved c d = λ i. cond (names_each_once-from_Describes saved c d i) (Some (named_by-from_Describes saved c d i)) None

@@ -1,5 +1,5 @@
 -- Sets and configurations that are found to be the same are equal.
-use Rattle.std.proofs.Common.{◌≡◌, ℕ, ◌+◌, ◌<◌, suc, max, Bool, true, false, cond, not, ◌==◌, List, [], ◌∷◌, length, get_or, slice_get, refl, sym, ap, subst, ◌∙◌, arith, eqb-true, eq-eqb}
+use Rattle.std.proofs.Common.{◌≡◌, ℕ, ◌<◌, suc, max, Bool, true, false, cond, not, ◌==◌, List, [], ◌∷◌, length, get_or, slice_get, refl, sym, ap, subst, ◌∙◌, arith, eqb-true, eq-eqb}
 use Rattle.std.specs.Prelude.{◌↔◌, Some, count_by}
 use Rattle.std.specs.Bool.{beq, MatchBool}
 use Rattle.std.specs.List.{AllWithin, HoldsAt, list_any, range_with_len}
@@ -7,7 +7,7 @@ use Rattle.std.proofs.lemmas.Bool.{not_from_true, false_from_ne_true}
 use Rattle.std.proofs.lemmas.List.FromFn.{get_or-range_with_len, length-range_with_len}
 use Rattle.std.proofs.lemmas.List.Sums.{sum_by-cons}
 use Rattle.std.proofs.lemmas.Bool.Decides.{nat_tests}
-use Rattle.quorum_sets.specs.Ids.{Ids, has, ascending, size, difference_count}
+use Rattle.quorum_sets.specs.Ids.{Ids, has, ascending, size}
 use Rattle.quorum_sets.proofs.Offered.{count_by-none, has-ascending, has-same_ids}
 use Rattle.conf_change.specs.Configuration.{Configuration, is_same_set, is_same}
 
@@ -25,14 +25,10 @@ each_in : (a b : Ids) → count_by (λ id. not (has b id)) (ascending a) ≡ 0 �
 each_in a b none q here = none_counted (λ id. not (has b id)) (ascending a) none q (sym (has-ascending a q) ∙ here)
 
 pub is_same_set-equal : (a b : Ids) → is_same_set a b ≡ true → a ≡ b
-is_same_set-equal a b e =
-    let none : difference_count a b ≡ 0 = eqb-true (difference_count a b) 0 e in
-    has-same_ids a b (λ q. alike (has a q) (has b q) (each_in a b (omega arith) q) (each_in b a (omega arith) q))
+is_same_set-equal a b e = grind (arith, eqb-true, has-same_ids, alike, each_in)
 
 pub is_same_set-refl : (a : Ids) → is_same_set a a ≡ true
-is_same_set-refl a =
-    let none : count_by (λ id. not (has a id)) (ascending a) ≡ 0 = count_by-none _ (ascending a) (λ q here. not_from_true (has a q) (has-ascending a q ∙ here)) in
-    eq-eqb (difference_count a a) 0 (λ i. none i + none i)
+is_same_set-refl a = grind (arith, count_by-none, not_from_true, has-ascending, eq-eqb)
 
 -- ---- lists of ids that agree at each index
 same_items : (xs ys : List ℕ) → ((k : ℕ) → k < max (length xs) (length ys) → slice_get xs k ≡ slice_get ys k) → xs ≡ ys
@@ -74,9 +70,7 @@ is_same-refl : (c : Configuration) → is_same c c ≡ true
 is_same-refl c = grind (arith, is_same_set-refl c.incoming, is_same_set-refl c.outgoing, is_same_set-refl c.learners, is_same_set-refl c.learners_next)
 
 pub is_same-is_equality : (a b : Configuration) → (is_same a b ≡ true) ↔ (a ≡ b)
-is_same-is_equality a b =
-    let P : Configuration → Type 0 = λ d. is_same a d ≡ true in
-    (is_same-equal a b, λ e. subst P e (is_same-refl a))
+is_same-is_equality a b = grind (arith, is_same-equal, is_same-refl)
 
 -- a test that answers as this one decides whether they are equal
 pub is_same-by_test : (a b : Configuration) (found : Bool) → found ≡ is_same a b → (found ≡ true) ↔ (a ≡ b)

@@ -59,25 +59,13 @@ keeps_from_flag joint flag f = grind arith
 next_from_joint : (c : Configuration) → ((q : ℕ) → has c.learners_next q ≡ true → has c.outgoing q ≡ true) → (empty : Bool) → is_empty c.outgoing ≡ empty
     → (not empty || is_empty c.learners_next) ≡ true
 next_from_joint c within false e = refl
-next_from_joint c within true e =
-    is_empty-from_none c.learners_next (λ q. false_from_ne_true (has c.learners_next q) (λ here.
-    true≢false (sym (within q here) ∙ has-none_in_empty c.outgoing e q)))
+next_from_joint c within true e = grind (arith, is_empty-from_none, false_from_ne_true, true≢false, has-none_in_empty)
 
 pub next_is_joint : (c : Configuration) → is_within c.learners_next c.outgoing ≡ true → (is_joint c || is_empty c.learners_next) ≡ true
 next_is_joint c within = next_from_joint c (within_members c.learners_next c.outgoing within) (is_empty c.outgoing) refl
 
 pub ValidByMember-from_is_valid : (c : Configuration) → is_valid c ≡ true → ValidByMember c
-ValidByMember-from_is_valid c e = record {
-  zero_incoming = grind arith;
-  zero_outgoing = grind arith;
-  zero_learners = grind arith;
-  zero_next = grind arith;
-  next_outgoing = within_members c.learners_next c.outgoing (grind arith);
-  next_incoming = apart_members c.learners_next c.incoming (grind arith);
-  learner_incoming = apart_members c.learners c.incoming (grind arith);
-  learner_outgoing = apart_members c.learners c.outgoing (grind arith);
-  auto_leave = λ single. grind arith;
-}
+ValidByMember-from_is_valid c e = grind (arith, within_members, apart_members)
 
 pub is_valid-from_members : (c : Configuration) → ValidByMember c → is_valid c ≡ true
 is_valid-from_members c m =

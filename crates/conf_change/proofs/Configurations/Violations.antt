@@ -1,5 +1,6 @@
 -- What is wrong with a configuration or a saved form is there exactly if it is not valid.
-use Rattle.std.proofs.Common.{◌≡◌, ℕ, ◌<◌, ◌≤◌, Bool, true, cond, not, ◌&&◌, ◌||◌, List, [], ◌∷◌, length, refl, sym, ap, subst, ◌∙◌, eq-eqb, eqb-true, arith}
+use Rattle.std.proofs.lemmas.Grind.{common_steps}
+use Rattle.std.proofs.Common.{◌≡◌, ℕ, ◌<◌, ◌≤◌, Bool, true, not, ◌&&◌, ◌||◌, List, [], ◌∷◌, length, refl, sym, ap, subst, ◌∙◌, eq-eqb, eqb-true, arith}
 use Rattle.std.specs.Prelude.{Option, Some, None, Result, Ok, Err, ◌↔◌, find, option_map, is_some}
 use Rattle.std.specs.Option.{option_or}
 use Rattle.std.specs.List.{list_all}
@@ -62,9 +63,7 @@ is_valid-from_none c none = is_valid-by_violation c ∙ ap (λ o. not (is_some o
 -- the first broken invariant is that of the violation
 pub first_exactly : (c : Configuration) (violation : Violation) (result : Result (Unit {0}) Invariant) → Some violation ≡ violation_of c → result ≡ Err (broken_by violation)
     → (broken : Invariant) → (result ≡ Err broken) ↔ (first_broken c ≡ Some broken)
-first_exactly c violation result is made broken =
-    let first : first_broken c ≡ Some (broken_by violation) = first_broken-by_violation c ∙ ap (option_map broken_by) (sym is) in
-    (λ e. cc, λ e. cc)
+first_exactly c violation result is made broken = grind (arith, first_broken-by_violation)
 
 pub no_violation : (c : Configuration) (o : Option Violation) → o ≡ violation_of c → (o ≡ None) ↔ (is_valid c ≡ true)
 no_violation c o is = (λ none. is_valid-by_violation c ∙ ap (λ o. not (is_some o)) (sym is ∙ none), λ valid. is ∙ none-from_is_valid c valid)
@@ -88,11 +87,7 @@ names_once-from_none : (list : List ℕ) → first_repeat list ≡ None → name
 names_once-from_none list e = eq-eqb (length list) (size (ids_of list)) (sym (size-once list e))
 
 none-from_names_once : (list : List ℕ) → names_once list ≡ true → first_repeat list ≡ None
-none-from_names_once list once =
-    elim (first_repeat list) as (λ o. first_repeat list ≡ o → o ≡ None) [
-      | None ↦ λ _. refl
-      | Some id ↦ λ e. absurd (omega (arith, eqb-true (length list) (size (ids_of list)) once, size-twice list id e))
-    ] refl
+none-from_names_once list once = grind (arith, eqb-true, once, size-twice)
 
 -- a form that is described names no id twice, and its configuration is the one that it names
 pub record IsNamed (saved : ConfStateLists) (c : Configuration) : Type 0 where
@@ -108,21 +103,15 @@ IsNamed-from_described saved c e =
     }
 
 names_each_once-from_none : (saved : ConfStateLists) → repeat_in saved ≡ None → names_each_once saved ≡ true
-names_each_once-from_none saved e =
-    grind (arith, names_once-from_none saved.voters, names_once-from_none saved.voters_outgoing, names_once-from_none saved.learners, names_once-from_none saved.learners_next)
+names_each_once-from_none saved e = grind (arith, names_once-from_none)
 
 -- one that is not described names an id twice
 pub repeat_in-there : (saved : ConfStateLists) → described saved ≡ None → repeat_in saved ≡ None → ⊥
-repeat_in-there saved none e =
-    let some : described saved ≡ Some (named_by saved) = ap (λ b. cond b (Some (named_by saved)) None) (names_each_once-from_none saved e) in
-    cc
+repeat_in-there saved none e = grind (arith, names_each_once-from_none)
 
 -- ---- the valid configuration of a form
 pub valid_of-described : (saved : ConfStateLists) (c : Configuration) → described saved ≡ Some c → valid_of saved ≡ unless_violated c (violation_of c)
-valid_of-described saved c e =
-    let is = IsNamed-from_described saved c e in
-    ap (λ o. unless_violated (named_by saved) (option_or (option_map ListedTwice o) (violation_of (named_by saved)))) is.once
-    ∙ ap (λ d. unless_violated d (violation_of d)) is.named
+valid_of-described saved c e = grind (arith, common_steps, IsNamed-from_described)
 
 -- it is the one that the form describes, and is valid
 pub record IsValidOf (saved : ConfStateLists) (c : Configuration) : Type 0 where

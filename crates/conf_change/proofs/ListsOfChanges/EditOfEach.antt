@@ -1,5 +1,6 @@
 -- The edit of each id, one more change at a time.
-use Rattle.std.proofs.Common.{◌≡◌, ℕ, ◌+◌, ◌<◌, Bool, true, false, cond, not, ◌&&◌, ◌||◌, ◌==◌, List, [], ◌∷◌, ◌++◌, length, map, take, get_or, reverse, refl, sym, ap, subst, ◌∙◌, eqb-true, arith}
+use Rattle.std.proofs.lemmas.Grind.{common_steps}
+use Rattle.std.proofs.Common.{◌≡◌, ℕ, ◌+◌, ◌<◌, Bool, true, false, cond, not, ◌&&◌, ◌||◌, ◌==◌, List, [], ◌∷◌, ◌++◌, length, map, take, get_or, reverse, refl, sym, ap, ◌∙◌, eqb-true, arith}
 use Rattle.std.specs.Prelude.{Option, Some, None, IfSome, option_map, is_some, find as first}
 use Rattle.std.specs.List.{list_any}
 use Rattle.std.specs.Ordering.{nat_cmp}
@@ -27,8 +28,7 @@ effective_one b kind rest h = grind arith
 
 first-effective : (xs : List Change) (q : ℕ) → IsEffective (option_map (λ change. change.kind) (first (names q) xs))
 first-effective [] q = tt
-first-effective (x ∷ xs) q =
-    subst IsEffective (sym (option_map-cond (λ change. change.kind) (names q x) x (first (names q) xs))) (effective_one ((x.id == q) && not (q == 0)) x.kind (option_map (λ change. change.kind) (first (names q) xs)) (first-effective xs q))
+first-effective (x ∷ xs) q = grind (arith, option_map-cond, effective_one, first-effective xs q)
 
 pub last-effective : (xs : List Change) (q : ℕ) → IsEffective (last_effective xs q)
 last-effective xs q = first-effective (reverse xs) q
@@ -55,9 +55,7 @@ edit-more outgoing removed named zero kind last none apart = grind arith
 
 pub edit_of-push : (xs : List Change) (x : Change) (outgoing : Ids) (q : ℕ)
     → edit_of (xs ++ x ∷ []) outgoing q ≡ cond (names q x) (Some (with_change (edit_of xs outgoing q) x.kind (has outgoing q))) (edit_of xs outgoing q)
-edit_of-push xs x outgoing q =
-    (λ i. edit_with (removes-push xs x q i) (has outgoing q) (last_effective-push xs x q i))
-    ∙ edit-more (has outgoing q) (removes xs q) (x.id == q) (q == 0) x.kind (last_effective xs q) (λ zero. ap (last_effective xs) (eqb-true q 0 zero) ∙ last_effective-zero xs) (removes-none xs q)
+edit_of-push xs x outgoing q = grind (arith, removes-push, last_effective-push, edit-more, eqb-true, last_effective-zero, removes-none)
 
 names-effective : (x : Change) (q : ℕ) → (not (x.id == 0) && not (is_update x.kind)) ≡ true → names q x ≡ (q == x.id)
 names-effective x q e = grind (arith, nat_tests)
@@ -83,25 +81,14 @@ AreEdits-added changes k d outgoing is_outgoing before after within effective is
 
     by : (q : ℕ) (b : Bool) → (q == x.id) ≡ b → cond b (Some (with_change (find nat_cmp x.id before) x.kind is_outgoing)) (find nat_cmp q before)
         ≡ cond (names q x) (Some (with_change (edit_of xs outgoing q) x.kind (has outgoing q))) (edit_of xs outgoing q)
-    by q true e =
-        (λ i. Some (with_change ((so_far.each x.id ∙ ap (edit_of xs outgoing) (sym (eqb-true q x.id e))) i) x.kind ((is ∙ ap (has outgoing) (sym (eqb-true q x.id e))) i)))
-        ∙ ap (λ b. cond b (Some (with_change (edit_of xs outgoing q) x.kind (has outgoing q))) (edit_of xs outgoing q)) (sym (names-effective x q effective ∙ e))
+    by q true e = grind (arith, eqb-true, names-effective)
     by q false e = so_far.each q ∙ ap (λ b. cond b (Some (with_change (edit_of xs outgoing q) x.kind (has outgoing q))) (edit_of xs outgoing q)) (sym (names-effective x q effective ∙ e))
 
 pub AreEdits-passed : (changes : List Change) (k : ℕ) (d : Change) (outgoing : Ids) (edits : List (ℕ × Edit)) → k < length changes
     → (let x = get_or changes k d in
     (not (x.id == 0) && not (is_update x.kind)) ≡ false → AreEdits (take k changes) outgoing edits → AreEdits (take (k + 1) changes) outgoing edits)
-AreEdits-passed changes k d outgoing edits within ineffective so_far =
-    let x = get_or changes k d in
-    let xs = take k changes in
-    rw (take_more changes k d within) (record {
-      ascends = so_far.ascends;
-      each = λ q. so_far.each q ∙ ap (λ b. cond b (Some (with_change (edit_of xs outgoing q) x.kind (has outgoing q))) (edit_of xs outgoing q)) (sym (names-ineffective x q ineffective)) ∙ sym (edit_of-push xs x outgoing q);
-    })
+AreEdits-passed changes k d outgoing edits within ineffective so_far = grind (arith, common_steps, take_more, names-ineffective, edit_of-push)
 
 -- a stable sort by id leaves the edits
 pub AreEdits-sorted : (changes sorted : List Change) (outgoing : Ids) (edits : List (ℕ × Edit)) → IsStableByKey (λ x. x.id) nat_cmp changes sorted → AreEdits sorted outgoing edits → AreEdits changes outgoing edits
-AreEdits-sorted changes sorted outgoing edits stable are = record {
-  ascends = are.ascends;
-  each = λ q. are.each q ∙ (λ i. edit_with (removes-sorted changes sorted stable q i) (has outgoing q) (last_effective-sorted changes sorted stable q i));
-}
+AreEdits-sorted changes sorted outgoing edits stable are = grind (arith, removes-sorted, last_effective-sorted)

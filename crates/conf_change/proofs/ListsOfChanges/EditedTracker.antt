@@ -5,7 +5,7 @@ use Rattle.std.specs.Ordering.{nat_cmp}
 use Rattle.std.specs.FinMap as finite
 use Rattle.std.specs.Cmp.{nat_cmp_total, unsigned_tied, nat_eq_equiv}
 use Rattle.std.proofs.lemmas.Bool.{true≢false, and_parts, not-false}
-use Rattle.quorum_sets.specs.Ids.{Ids, has, is_empty}
+use Rattle.quorum_sets.specs.Ids.{Ids, has}
 use Rattle.quorum_sets.specs.Edits.{item_of, edited, edited_by}
 use Rattle.conf_change.specs.Configuration.{Configuration, is_member, is_joint}
 use Rattle.conf_change.specs.Change.{last_effective, removes, is_incoming_after, is_learner_after, is_next_after, result_of}
@@ -92,10 +92,6 @@ value-edited next_index q (Some e) had = again (entry_after e next_index (option
     again None = refl
     again (Some p) = refl
 
--- each entry of a list is left as the edits state
-abbrev pub AreEditedMembers : ℕ → List (ℕ × Progress) → List (ℕ × Progress) → List (ℕ × Edit) → Type 0
-AreEditedMembers next_index es es' edits = (q : ℕ) → item_of (λ m. m.0) q es' ≡ edited (λ e. member_after e next_index q) edits q (item_of (λ m. m.0) q es)
-
 pub get-edited : (next_index : ℕ) (es es' : List (ℕ × Progress)) (edits : List (ℕ × Edit)) (q : ℕ) → item_of (λ m. m.0) q es' ≡ edited (λ e. member_after e next_index q) edits q (item_of (λ m. m.0) q es)
     → finite.get (finite.from_entries {R = nat_cmp} es') q ≡ edited (λ e. entry_after e next_index) edits q (finite.get (finite.from_entries {R = nat_cmp} es) q)
 get-edited next_index es es' edits q is =
@@ -110,18 +106,14 @@ HasSameMembers c outgoing = (q : ℕ) → (has c.incoming q || has outgoing q ||
 
 -- the incoming voters may be the outgoing ones too, where there are none
 pub HasSameMembers-entering : (c : Configuration) → is_joint c ≡ false → HasSameMembers c c.incoming
-HasSameMembers-entering c single q =
-    let none : has c.outgoing q ≡ false = has-none_in_empty c.outgoing (not-false (is_empty c.outgoing) single) q in
-    grind (arith, none)
+HasSameMembers-entering c single q = grind (arith, has-none_in_empty, not-false)
 
 -- who is a member has progress with its mark, and no other id has any
 entry_of-known : (next_index : ℕ) (had : Option Progress) (member learner : Bool) → is_some had ≡ member → IfSome had (λ p. p.learner ≡ learner) → had ≡ entry_of next_index member learner had
 entry_of-known next_index had member learner e marked = grind arith
 
 no_progress_of_zero : (t : TrackerState) → IsSound t → finite.get t.progress 0 ≡ None
-no_progress_of_zero t sound =
-    let valid = ValidByMember-from_is_valid t.config (and_parts _ _ sound.restorable).0 in
-    grind (arith, sound.of_members 0, valid.zero_incoming, valid.zero_outgoing, valid.zero_learners)
+no_progress_of_zero t sound = grind (arith, ValidByMember-from_is_valid, and_parts)
 
 -- the entry of each id is that of the changes
 pub entry-moved : (next_index : ℕ) (before : TrackerState) (outgoing : Ids) (auto_leave : Bool) (changes : List Change) (edits : List (ℕ × Edit)) (after : Configuration) (progress : ProgressMap)

@@ -7,7 +7,7 @@ use Rattle.std.proofs.lemmas.Bool.Decides.{nat_tests}
 use Rattle.std.proofs.lemmas.List.{reverse-append}
 use Rattle.std.proofs.lemmas.List.Folds.{list_any-append}
 use Rattle.std.specs.List.{list_any}
-use Rattle.quorum_sets.specs.Ids.{Ids, has, ascending, ids_where, with_id, without_id}
+use Rattle.quorum_sets.specs.Ids.{Ids, has, ids_where, with_id, without_id}
 use Rattle.quorum_sets.proofs.Offered.{has-ids_where, has-ascending, has-same_ids, has-with_id, has-without_id}
 use Rattle.conf_change.specs.Configuration.{Configuration}
 use Rattle.conf_change.specs.Change.{names, last_effective, named_or_in, is_update, is_removal, is_incoming_after, is_learner_after, is_next_after, removes, result_of}
@@ -28,8 +28,7 @@ pub last_effective-push : (xs : List Change) (x : Change) (id : ℕ) → last_ef
 last_effective-push xs x id = ap (λ ys. option_map (λ change. change.kind) (find (names id) ys)) (reverse-push xs x) ∙ option_map-cond (λ change. change.kind) (names id x) x _
 
 pub removes-push : (xs : List Change) (x : Change) (id : ℕ) → removes (xs ++ x ∷ []) id ≡ (removes xs id || ((x.id == id) && is_removal x.kind))
-removes-push xs x id =
-    list_any-append (λ change. (change.id == id) && is_removal change.kind) xs (x ∷ []) ∙ ap (λ b. removes xs id || b) (or-false ((x.id == id) && is_removal x.kind))
+removes-push xs x id = grind (arith, list_any-append, or-false)
 
 -- a list of one change
 pub last_effective-one : (x : Change) (q : ℕ) → last_effective (x ∷ []) q ≡ cond (names q x) (Some x.kind) None
@@ -75,10 +74,8 @@ all_in t a f = grind arith
 
 among : (decide : Option Kind → Bool → Bool) → ((was : Bool) → decide None was ≡ was) → (s : Ids) (xs : List Change) (q : ℕ) (o : Option Kind)
     → last_effective xs q ≡ o → decide o (has s q) ≡ true → list_any (λ m. q == m) (named_or_in xs s) ≡ true
-among decide same s xs q None e d =
-    list_any-append _ (map (λ change. change.id) xs) (ascending s) ∙ or_right _ _ (sym (has-ascending s q) ∙ sym (same (has s q)) ∙ d)
-among decide same s xs q (Some k) e d =
-    list_any-append _ (map (λ change. change.id) xs) (ascending s) ∙ ap (λ b. b || list_any (λ m. q == m) (ascending s)) (last_effective-is_named xs q (ap is_some e))
+among decide same s xs q None e d = grind (arith, list_any-append, or_right, has-ascending)
+among decide same s xs q (Some k) e d = grind (arith, list_any-append, last_effective-is_named)
 
 has-decided : (decide : ℕ → Option Kind → Bool → Bool) → ((id : ℕ) (was : Bool) → decide id None was ≡ was) → (s : Ids) (xs : List Change) (q : ℕ)
     → has (ids_where (λ id. decide id (last_effective xs id) (has s id)) (named_or_in xs s)) q ≡ decide q (last_effective xs q) (has s q)
@@ -115,10 +112,7 @@ only kind id = record { kind = kind; id = id } ∷ []
 
 -- a change has its say on its id alone
 last_effective-only : (kind : Kind) (q id : ℕ) → id ≢ 0 → is_update kind ≡ false → last_effective (only kind id) q ≡ cond (q == id) (Some kind) None
-last_effective-only kind q id apart e =
-    let x : Change = record { kind = kind; id = id } in
-    let named : names q x ≡ (q == id) = grind (arith, nat_tests) in
-    last_effective-one x q ∙ ap (λ b. cond b (Some kind) None) named
+last_effective-only kind q id apart e = grind (arith, nat_tests, last_effective-one)
 
 -- the set with the id or without it
 abbrev pub put_to : Bool → Ids → ℕ → Ids
@@ -132,8 +126,7 @@ has-put_to false s id q = grind (arith, has-without_id s id q)
 set_made : (decide : ℕ → Option Kind → Bool → Bool) → ((id : ℕ) (was : Bool) → decide id None was ≡ was) → (kind : Kind) (s t : Ids) (id : ℕ)
     → id ≢ 0 → is_update kind ≡ false → t ≡ put_to (decide id (Some kind) (has s id)) s id
     → (q : ℕ) → has t q ≡ decide q (last_effective (only kind id) q) (has s q)
-set_made decide same kind s t id apart e made q =
-    rw made (grind (arith, nat_tests, has-put_to (decide id (Some kind) (has s id)) s id q, same q (has s q), last_effective-only kind q id apart e))
+set_made decide same kind s t id apart e made q = grind (arith, nat_tests, has-put_to, last_effective-only)
 
 pub incoming_of-change : (kind : Kind) (c : Configuration) (id : ℕ) → id ≢ 0 → is_update kind ≡ false
     → put_to (is_incoming_after (Some kind) (has c.incoming id)) c.incoming id ≡ (result_of c (only kind id)).incoming
@@ -144,13 +137,7 @@ incoming_of-change kind c id apart e =
 
 -- a list that has no say
 no_effect : (c : Configuration) (xs : List Change) → ((q : ℕ) → last_effective xs q ≡ None) → c ≡ result_of c xs
-no_effect c xs empty_summary =
-    configuration-by_members c (result_of c xs)
-    (λ q. sym (has-incoming_after c xs q ∙ ap (λ o. is_incoming_after o (has c.incoming q)) (empty_summary q)))
-    refl
-    (λ q. sym (has-learners_after c xs q ∙ ap (λ o. is_learner_after o (has c.outgoing q) (has c.learners q)) (empty_summary q)))
-    (λ q. sym (has-next_after c xs q ∙ ap (λ o. is_next_after o (has c.outgoing q) (has c.learners_next q)) (empty_summary q)))
-    refl
+no_effect c xs empty_summary = grind (arith, configuration-by_members, has-incoming_after, has-learners_after, has-next_after)
 
 pub result_of-none : (c : Configuration) → c ≡ result_of c []
 result_of-none c = no_effect c [] (λ q. refl)

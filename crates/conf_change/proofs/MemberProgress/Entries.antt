@@ -1,13 +1,13 @@
 -- The entries of a map that is made of entries in ascending order.
-use Rattle.std.proofs.Common.{◌≡◌, ℕ, zero, suc, ◌+◌, ◌-◌, ◌<◌, ◌≤◌, inl, inr, Bool, true, false, cond, ◌&&◌, ◌==◌, T, List, [], ◌∷◌, ◌++◌, length, map, take, drop, get_or, set, slice_get, Bor, refl, sym, ap, subst, ◌∙◌, arith, eq-eqb, eqb-true, add-one}
+use Rattle.std.proofs.Common.{◌≡◌, ℕ, zero, suc, ◌+◌, ◌-◌, ◌<◌, ◌≤◌, Bool, true, false, cond, ◌&&◌, ◌==◌, T, List, [], ◌∷◌, ◌++◌, length, map, take, drop, get_or, set, slice_get, Bor, refl, sym, ap, subst, ◌∙◌, arith, eq-eqb, eqb-true, add-one}
 use Rattle.std.specs.Prelude.{Option, Some, None, Result, Ok, Err, MatchResult, is_some}
 use Rattle.std.specs.Option.{option_copied}
 use Rattle.std.specs.Slice.{IsItemAt}
-use Rattle.std.specs.List.Sorted.{IsBinarySearchResult, IsSearchInRange}
-use Rattle.std.specs.FinMap.{find}
-use Rattle.std.specs.List.{insert}
-use Rattle.std.specs.Ordering.{ordering_index}
-use Rattle.std.specs.Cmp.{unsigned_tied}
+use Rattle.std.specs.List.Sorted.{IsBinarySearchResult, IsSearchInRange, IsStrictlySortedBy}
+use Rattle.std.specs.FinMap.{nat_cmp-IsAntisymmetric, is_sorted, find}
+use Rattle.std.specs.List.{insert, AllByRecursion}
+use Rattle.std.specs.Ordering.{nat_cmp, is_lt, ordering_index}
+use Rattle.std.specs.Cmp.{unsigned_tied, nat_cmp_total}
 use Rattle.std.proofs.lemmas.Bool.{ne_eqb, cases_lt, cases_order}
 use Rattle.std.proofs.lemmas.Option.{slice_get_past, slice_get-get_or}
 use Rattle.std.proofs.lemmas.List.{length-map, length-drop, get_or_default, get_or-map, get_or-drop, map-append, map-set, set-get_or, set_split, take-map, take-append-drop, drop-map, drop_more}
@@ -20,12 +20,7 @@ use Rattle.conf_change.specs.declared.progress.Progress.{Progress}
 use Rattle.conf_change.proofs.MemberProgress.Filtered.{keys-find}
 use Rattle.std.specs.declared.cmp.Ordering.{Ordering}
 use Rattle.std.specs.declared.cmp.Ordering.TheVariants.{Less}
-use Rattle.std.specs.Ordering.{nat_cmp, is_lt}
-use Rattle.std.specs.Cmp.{nat_cmp_total}
-use Rattle.std.specs.List.{AllByRecursion}
-use Rattle.std.specs.List.Sorted.{IsStrictlySortedBy}
 use Rattle.std.specs.FinMap as finite
-use Rattle.std.specs.FinMap.{nat_cmp-IsAntisymmetric, is_sorted}
 
 -- the key is below each of these
 abbrev below_all : {X : Type 0} → ℕ → List (ℕ × X) → Bool
@@ -78,11 +73,7 @@ keyed {X} order (e ∷ es) (Err i) within parted = λ up.
     ((λ k d low high. ap order (key k d e (omega arith)) ∙ point.0 k e low high), (λ k d low high. ap order (key k d e (omega arith)) ∙ point.1 k e low (omega arith)))
 
 not_falling : (xs : List ℕ) → IsAscending xs → (i j : ℕ) → i ≤ j → j < length xs → get_or xs i 0 ≤ get_or xs j 0
-not_falling xs up i j le within = elim (cases_order i j) [
-  | inl same ↦ rw same (omega arith)
-  | inr (inl lt) ↦ (let above = up i j lt within in omega arith)
-  | inr (inr gt) ↦ absurd (omega arith)
-]
+not_falling xs up i j le within = grind (arith, cases_order, within)
 
 pub search-in_entries : {X : Type 0} (es : List (ℕ × X)) (id : ℕ) (r : Result ℕ ℕ) → IsAscending (keys es) → IsSearchInRange r (length es) → IsBinarySearchResult (λ m. nat_cmp m.0 id) es r
     → MatchResult r (IsAtPosition (keys es) id) (IsInsertionPoint (keys es) id)
@@ -116,10 +107,7 @@ absent es id apart =
     ap (λ x. id == x) (get_or_default (keys es) k d 0 within) ∙ ne_eqb id _ (apart k within)))
 
 pub find-missing : {X : Type 0} (es : List (ℕ × X)) (id i : ℕ) → IsInsertionPoint (keys es) id i → None ≡ find nat_cmp id es
-find-missing es id i goes = absent es id (λ k within same. elim (cases_lt k i) [
-  | inl before ↦ (let less = goes.below k before in omega arith)
-  | inr suffix ↦ (let more = goes.above k suffix within in omega arith)
-])
+find-missing es id i goes = grind (arith, absent, cases_lt)
 
 -- the entry at a position, and those after it
 record Standing {X : Type 0} (es : List (ℕ × X)) (id i : ℕ) (d : ℕ × X) : Type 0 where
@@ -175,10 +163,7 @@ find-set es id i v up at q =
 
 pub find-insert : {X : Type 0} (es : List (ℕ × X)) (id i : ℕ) (v : X) → IsInsertionPoint (keys es) id i
     → (q : ℕ) → find nat_cmp q (insert es i (id, v)) ≡ cond (q == id) (Some v) (find nat_cmp q es)
-find-insert es id i v goes q =
-    let long = length-keys es in
-    let within = goes.within in
-    find-from es ((id, v) ∷ drop i es) i id q (Some v) (omega arith) goes.below (ap (λ b. cond b (Some v) (find nat_cmp q (drop i es))) (unsigned_tied q id))
+find-insert es id i v goes q = grind (arith, length-keys, find-from)
 
 pub keys-set : {X : Type 0} (es : List (ℕ × X)) (id i : ℕ) (v : X) → IsAtPosition (keys es) id i → keys (set es i (id, v)) ≡ keys es
 keys-set es id i v at = map-set (λ m. m.0) es i (id, v) ∙ ap (set (keys es) i) (sym at.there) ∙ set-get_or (keys es) i 0

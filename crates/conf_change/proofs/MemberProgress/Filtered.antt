@@ -61,8 +61,7 @@ kept_entry member learner m = progress_kept (member m.0) (learner m.0) (Some m.1
 
 find-kept : (member learner : ℕ → Bool) (es : List (ℕ × Progress)) (q : ℕ) → find nat_cmp q (filtered (λ m. m.0) (kept_entry member learner) es) ≡ progress_kept (member q) (learner q) (find nat_cmp q es)
 find-kept member learner [] q = grind arith
-find-kept member learner (e ∷ es) q =
-    grind (arith, nat_tests, find_one q e.0 (kept_entry member learner e) (filtered (λ m. m.0) (kept_entry member learner) es), find-kept member learner es q, unsigned_tied q e.0)
+find-kept member learner (e ∷ es) q = grind (arith, nat_tests, find_one, find-kept member learner es q)
 
 pub get-kept : (member learner : ℕ → Bool) (es : List (ℕ × Progress)) (q : ℕ)
     → finite.get (finite.from_entries {R = nat_cmp} (filtered (λ m. m.0) (kept_entry member learner) es)) q ≡ progress_kept (member q) (learner q) (finite.get (finite.from_entries {R = nat_cmp} es) q)

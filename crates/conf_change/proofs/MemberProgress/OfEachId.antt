@@ -1,5 +1,5 @@
 -- What progress each id has.
-use Rattle.std.proofs.Common.{◌≡◌, ℕ, cond, ◌||◌, ◌==◌, List, [], ◌∷◌, ◌++◌, map, refl, sym, ap, subst, ◌∙◌, arith}
+use Rattle.std.proofs.Common.{◌≡◌, ℕ, cond, ◌||◌, ◌==◌, List, [], ◌∷◌, map, refl, sym, ap, subst, ◌∙◌, arith}
 use Rattle.std.specs.Prelude.{Some, None, if◌then◌else◌}
 use Rattle.std.specs.Ordering.{nat_cmp}
 use Rattle.std.specs.Cmp.{nat_cmp_total, unsigned_tied}
@@ -23,10 +23,7 @@ find-of_each of q (x ∷ xs) = grind (arith, nat_tests, unsigned_tied q x, find-
 
 -- the list of the members has the members
 pub any-members : (c : Configuration) (q : ℕ) → list_any (λ x. q == x) (members c) ≡ is_member c q
-any-members c q =
-    list_any-append _ (ascending c.incoming ++ ascending c.outgoing) (ascending c.learners)
-    ∙ ap (λ b. b || list_any (λ x. q == x) (ascending c.learners)) (list_any-append _ (ascending c.incoming) (ascending c.outgoing))
-    ∙ sym (λ i. has-ascending c.incoming q i || has-ascending c.outgoing q i || has-ascending c.learners q i)
+any-members c q = grind (arith, list_any-append, has-ascending)
 
 -- each member has its own, and no other id has any
 pub get-progress_by : (c : Configuration) (of : ℕ → Progress) (id : ℕ)

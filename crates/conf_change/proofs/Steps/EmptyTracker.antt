@@ -1,5 +1,5 @@
 -- That a tracker with an empty configuration is sound.
-use Rattle.std.proofs.Common.{◌≡◌, ℕ, true, refl, sym, ap, subst, ◌∙◌, is_some, ◌||◌}
+use Rattle.std.proofs.Common.{◌≡◌, ℕ, true, refl, sym, subst, arith}
 use Rattle.std.specs.Prelude.{None, IfSome, Option}
 use Rattle.std.specs.Ordering.{nat_cmp}
 use Rattle.std.specs.FinMap as finite
@@ -19,9 +19,4 @@ of_none : (o : Option Progress) (P : Progress → Type 0) → o ≡ None → IfS
 of_none o P e = let Q : Option Progress → Type 0 = λ x. IfSome x P in subst Q (sym e) tt
 
 pub empty_tracker-is_sound : (floor : Floor) → IsSound (empty_tracker floor)
-empty_tracker-is_sound floor = record {
-  restorable = empty_is_restorable;
-  of_members = λ id. ap is_some (no_progress id) ∙ sym (λ i. has-no_ids id i || has-no_ids id i || has-no_ids id i);
-  marked = λ id. of_none _ _ (no_progress id);
-  ahead = λ id. of_none _ _ (no_progress id);
-}
+empty_tracker-is_sound floor = grind (arith, empty_is_restorable, no_progress, has-no_ids, of_none)

@@ -1,9 +1,8 @@
 -- The tracker after a step, from the edits of its changes or from the members that leaving keeps.
-use Rattle.std.proofs.Common.{◌≡◌, ◌⊎◌, inl, inr, ℕ, Bool, true, List, refl, sym, ap, subst, ◌∙◌, arith}
+use Rattle.std.proofs.Common.{◌≡◌, ◌⊎◌, inl, inr, ℕ, Bool, true, List, refl, sym, ap, subst, arith}
 use Rattle.std.specs.Prelude.{Option, Ok, is_some}
-use Rattle.std.specs.FinMap as finite
 use Rattle.std.proofs.lemmas.Bool.{and_parts}
-use Rattle.quorum_sets.specs.Ids.{Ids, has}
+use Rattle.quorum_sets.specs.Ids.{Ids}
 use Rattle.quorum_sets.proofs.Offered.{has-no_ids}
 use Rattle.conf_change.specs.Configuration.{Configuration, is_member}
 use Rattle.conf_change.specs.Edits.{AreEdits, HasEdits, HasEditedEntries}
@@ -67,12 +66,4 @@ kept_entry next member learner had some = grind arith
 
 pub Moves-leave : (next_index : ℕ) (before after : TrackerState) → IsSound before → outcome before.config LeaveJoint ≡ Ok after.config → after.floor ≡ before.floor
     → KeepsMembers after.config before.progress after.progress → Moves next_index LeaveJoint before after
-Moves-leave next_index before after sound e floor entries =
-    let c = before.config in
-    let made = (LeaveTaken-from_outcome c after.config e).made in
-    let valid = ValidByMember-from_is_valid c (and_parts _ _ sound.restorable).0 in
-    record {
-      configuration = e;
-      floor = floor;
-      entries = λ q. entries q ∙ kept_entry next_index (is_member after.config q) (has after.config.learners q) (finite.get before.progress q) (λ m. sound.of_members q ∙ was_member c q valid (ap (λ d. is_member d q) made ∙ m));
-    }
+Moves-leave next_index before after sound e floor entries = grind (arith, LeaveTaken-from_outcome, ValidByMember-from_is_valid, and_parts, kept_entry, was_member)

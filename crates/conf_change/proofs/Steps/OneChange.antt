@@ -16,10 +16,7 @@ apart_from : (id : ℕ) → (id == 0) ≡ false → id ≢ 0
 apart_from id e z = false≢true (sym e ∙ eq-eqb id 0 z)
 
 unaltered : (c d : Configuration) → c ≡ d → difference_count c.incoming d.incoming ≤ 1
-unaltered c d same =
-    let none = eqb-true (difference_count c.incoming c.incoming) 0 (is_same_set-refl c.incoming) in
-    let few : difference_count c.incoming c.incoming ≤ 1 = omega arith in
-    subst (λ (d : Configuration). difference_count c.incoming d.incoming ≤ 1) same few
+unaltered c d same = grind (arith, eqb-true, is_same_set-refl)
 
 one_at_most : (kind : Kind) (c : Configuration) (id : ℕ) (zero : Bool) → (id == 0) ≡ zero → difference_count c.incoming (result_of c (only kind id)).incoming ≤ 1
 one_at_most kind c id true e = unaltered c (result_of c (only kind id)) (result_of-zero c (record { kind = kind; id = id }) (eqb-true id 0 e))

@@ -12,7 +12,7 @@ use Rattle.std.proofs.lemmas.Option.{option_and_then_some, same_Some}
 use Rattle.std.proofs.lemmas.Fmt.{decimal_is_IsNumeral}
 use Rattle.std.proofs.lemmas.Str.Parse.{digit_at}
 use Rattle.std.proofs.lemmas.Slice.Eq.{bytes_eq-Decides}
-use Rattle.ascii_text.specs.WhiteSpace.{trimmed, without_leading_space}
+use Rattle.ascii_text.specs.WhiteSpace.{trimmed}
 use Rattle.ascii_text.specs.Number.{ParsesToNumber}
 use Rattle.conf_change.specs.Text.{spaced_numbers}
 use Rattle.conf_change.specs.ConfState.{ConfStateLists}
@@ -93,8 +93,7 @@ ParsesToNumbers-spaced numbers h = record { tokens = map decimal numbers; spaced
 
 -- ---- one field
 after_prefix-append : (prefix body : List ℕ) → after_prefix prefix (prefix ++ body) ≡ Some body
-after_prefix-append prefix body =
-    rw (take_at prefix body (length prefix) refl, drop_at prefix body (length prefix) refl, (bytes_eq-Decides prefix prefix).1 refl) refl
+after_prefix-append prefix body = grind (arith, take_at, drop_at, bytes_eq-Decides)
 
 position_or_len-close : (inside rest : List ℕ) → All (λ b. is_close b ≡ false) inside → position_or_len is_close (inside ++ 93 ∷ rest) ≡ length inside
 position_or_len-close inside rest none =
@@ -188,8 +187,7 @@ DenotesConfState-from_some text saved e =
 
 -- ---- the printed line
 trimmed-from_first : (text more beginning : List ℕ) → text ≡ 86 ∷ more → text ≡ beginning ++ 101 ∷ [] → trimmed text ≡ text
-trimmed-from_first text more beginning first last =
-    ap without_leading_space (sym (without_trailing_space-other 101 beginning text last refl) ∙ first) ∙ sym first
+trimmed-from_first text more beginning first last = grind (arith, without_trailing_space-other)
 
 -- the line but for the truth value
 abbrev line_start : List ℕ → List ℕ → List ℕ → List ℕ → List ℕ
@@ -203,17 +201,7 @@ trimmed-bracketed_line a b c d false =
 
 pub DenotesConfState-printed : (saved : ConfStateLists) → ParsesToNumbers (spaced_numbers saved.voters) saved.voters → ParsesToNumbers (spaced_numbers saved.voters_outgoing) saved.voters_outgoing → ParsesToNumbers (spaced_numbers saved.learners) saved.learners → ParsesToNumbers (spaced_numbers saved.learners_next) saved.learners_next
     → DenotesConfState (conf_state_text saved) saved
-DenotesConfState-printed saved voters voters_outgoing learners learners_next = record {
-  voters = spaced_numbers saved.voters;
-  voters_outgoing = spaced_numbers saved.voters_outgoing;
-  learners = spaced_numbers saved.learners;
-  learners_next = spaced_numbers saved.learners_next;
-  line = trimmed-bracketed_line (spaced_numbers saved.voters) (spaced_numbers saved.voters_outgoing) (spaced_numbers saved.learners) (spaced_numbers saved.learners_next) saved.auto_leave;
-  parsed_voters = voters;
-  parsed_voters_outgoing = voters_outgoing;
-  parsed_learners = learners;
-  parsed_learners_next = learners_next;
-}
+DenotesConfState-printed saved voters voters_outgoing learners learners_next = grind (arith, trimmed-bracketed_line)
 
 pub line_grouped : (old p a q b r c s d t f : List ℕ) → old ++ (p ++ a) ++ (q ++ b) ++ (r ++ c) ++ (s ++ d) ++ t ++ f ≡ old ++ (p ++ a ++ q ++ b ++ r ++ c ++ s ++ d ++ t ++ f)
 line_grouped old p a q b r c s d t f = simp append_assoc

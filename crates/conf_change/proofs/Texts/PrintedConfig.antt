@@ -5,7 +5,7 @@ use Rattle.std.specs.List.{AllZip}
 use Rattle.std.proofs.lemmas.Bool.{false_from_ne_true}
 use Rattle.std.proofs.lemmas.Option.{cond_some, option_and_then_some, same_Some}
 use Rattle.std.proofs.lemmas.Slice.Eq.{bytes_eq-Decides}
-use Rattle.ascii_text.specs.Number.{ParsesToNumber, number_in}
+use Rattle.ascii_text.specs.Number.{ParsesToNumber}
 use Rattle.ascii_text.proofs.Offered.{number_in-ok, ParsesToNumber-from_some}
 use Rattle.conf_change.specs.ConfState.{ConfStateLists}
 use Rattle.conf_change.specs.PrintedConfig.{after_name, after_token, auto_leave_at_end, bracketed, config_in, config_tokens, config_tokens_in, DenotesConfig, numbers_to_close, part_in, part_tokens, set_in, with_numbers}
@@ -17,10 +17,7 @@ Read = List ℕ × List (List ℕ)
 -- ---- a set that is read is denoted
 -- a number is not a closing bracket
 number-not_close : (token : List ℕ) (number : ℕ) → ParsesToNumber token number → bytes_eq token (codes ")") ≡ false
-number-not_close token number parsed = false_from_ne_true _ (λ e.
-    let is = (bytes_eq-Decides token (codes ")")).0 e in
-    let some : number_in (codes ")") ≡ Some number = ap number_in (sym is) ∙ number_in-ok token number parsed in
-    cc)
+number-not_close token number parsed = grind (arith, false_from_ne_true, bytes_eq-Decides, number_in-ok, parsed)
 
 numbers_to_close-ok : (ids : List (List ℕ)) (numbers : List ℕ) (rest : List (List ℕ)) → AllZip ParsesToNumber ids numbers → numbers_to_close (ids ++ codes ")" ∷ rest) ≡ Some (numbers, rest)
 numbers_to_close-ok [] [] rest parsed = refl
@@ -88,14 +85,10 @@ config_in-ok text saved h =
 -- ---- a set that is denoted is read
 after_token-is : (expected : List ℕ) (tokens rest : List (List ℕ)) → after_token expected tokens ≡ Some rest → tokens ≡ expected ∷ rest
 after_token-is expected [] rest e = absurd cc
-after_token-is expected (token ∷ tokens) rest e =
-    let parts = cond_some (bytes_eq token expected) tokens rest e in
-    λ i. (bytes_eq-Decides token expected).0 parts.0 i ∷ parts.1 i
+after_token-is expected (token ∷ tokens) rest e = grind (arith, cond_some, bytes_eq-Decides)
 
 after_name-is : (name : List ℕ) (tokens rest : List (List ℕ)) → after_name name tokens ≡ Some rest → tokens ≡ name ∷ codes "=" ∷ rest
-after_name-is name tokens rest e =
-    option_and_then_some (after_token (codes "=")) (after_token name tokens) rest e (λ more first second.
-    after_token-is name tokens more first ∙ ap (λ ts. name ∷ ts) (after_token-is (codes "=") more rest second))
+after_name-is name tokens rest e = grind (arith, option_and_then_some, after_token-is)
 
 -- the tokens are those of ids, with others after them
 record Begins (parts : List (List ℕ) → List (List ℕ)) (tokens : List (List ℕ)) (read : Read) : Type 0 where
@@ -144,9 +137,7 @@ Begins-part before (Some rest) tokens read is e =
 
 auto_leave-is : (tokens : List (List ℕ)) (auto_leave : Bool) → auto_leave_at_end tokens ≡ Some auto_leave → tokens ≡ last_tokens auto_leave
 auto_leave-is [] auto_leave e = let same : auto_leave ≡ false = cc in rw same refl
-auto_leave-is (token ∷ []) auto_leave e =
-    let parts = cond_some (bytes_eq token (codes "autoleave")) true auto_leave e in
-    rw (sym parts.1) (ap (λ t. t ∷ []) ((bytes_eq-Decides token (codes "autoleave")).0 parts.0))
+auto_leave-is (token ∷ []) auto_leave e = grind (arith, cond_some, bytes_eq-Decides)
 auto_leave-is (token ∷ next ∷ tokens) auto_leave e = absurd cc
 
 -- a part that was read, and what was made of it and the tokens after it

@@ -1,5 +1,5 @@
 -- What is printed of a configuration denotes the configuration.
-use Rattle.std.proofs.Common.{◌≡◌, ℕ, ◌<◌, ◌≤◌, ◌^◌, Bool, false, not, List, [], ◌∷◌, ◌++◌, length, map, refl, sym, ap, ap₂, ◌∙◌, append_assoc, arith}
+use Rattle.std.proofs.Common.{◌≡◌, ℕ, ◌<◌, ◌≤◌, ◌^◌, Bool, false, not, List, [], ◌∷◌, ◌++◌, length, map, refl, sym, ap, ◌∙◌, append_assoc, arith}
 use Rattle.std.specs.Prelude.{codes, decimal, flat_map, nat_eq, All, if◌then◌else◌}
 use Rattle.std.proofs.lemmas.Bool.{ne_eqb, lt-ltb}
 use Rattle.std.proofs.lemmas.Bool.Decides.{nat_tests}
@@ -26,11 +26,7 @@ IsU64 n = n < 2 ^ 64
 -- ---- a byte that is a token by itself, and a space
 tokens-at_mark : (text : List ℕ) (mark : ℕ) (more : List ℕ) → spaced_mark mark ≡ 32 ∷ mark ∷ 32 ∷ [] → tokens_in (mark ∷ []) ≡ (mark ∷ []) ∷ [] →
     config_tokens_in (text ++ mark ∷ more) ≡ config_tokens_in text ++ ((mark ∷ []) ∷ config_tokens_in more)
-tokens-at_mark text mark more spaced alone =
-    let after = flat_map spaced_mark more in
-    ap tokens_in (flat_map-append spaced_mark text (mark ∷ more) ∙ ap (λ t. flat_map spaced_mark text ++ (t ++ after)) spaced)
-    ∙ tokens_in-at_space (flat_map spaced_mark text) 32 (mark ∷ 32 ∷ after) refl
-    ∙ ap (λ t. config_tokens_in text ++ t) (tokens_in-at_space (mark ∷ []) 32 after refl ∙ ap (λ t. t ++ tokens_in after) alone)
+tokens-at_mark text mark more spaced alone = grind (arith, flat_map-append, tokens_in-at_space)
 
 tokens-at_space : (text more : List ℕ) → config_tokens_in (text ++ 32 ∷ more) ≡ config_tokens_in text ++ config_tokens_in more
 tokens-at_space text more = ap tokens_in (flat_map-append spaced_mark text (32 ∷ more)) ∙ tokens_in-at_space (flat_map spaced_mark text) 32 (flat_map spaced_mark more) refl
@@ -60,9 +56,7 @@ tokens-number n small =
 tokens-numbers : (numbers : List ℕ) → All IsU64 numbers → config_tokens_in (spaced_numbers numbers) ≡ map decimal numbers
 tokens-numbers [] small = refl
 tokens-numbers (n ∷ []) small = tokens-number n (All-head IsU64 n [] small)
-tokens-numbers (n ∷ next ∷ numbers) small =
-    tokens-at_space (decimal n) (spaced_numbers (next ∷ numbers))
-    ∙ ap₂ (λ a b. a ++ b) (tokens-number n (All-head IsU64 n (next ∷ numbers) small)) (tokens-numbers (next ∷ numbers) (All-tail IsU64 n (next ∷ numbers) small))
+tokens-numbers (n ∷ next ∷ numbers) small = grind (arith, tokens-at_space, tokens-number, All-head, All-tail, tokens-numbers (next ∷ numbers) (All-tail IsU64 n (next ∷ numbers) small))
 
 -- ---- sets
 -- a set as it is printed, by its ids
@@ -71,14 +65,7 @@ list_text ids = codes "(" ++ spaced_numbers ids ++ codes ")"
 
 tokens-set : (text : List ℕ) (ids : List ℕ) (more : List ℕ) → All IsU64 ids →
     config_tokens_in (text ++ (list_text ids ++ more)) ≡ config_tokens_in text ++ (bracketed (map decimal ids) ++ config_tokens_in more)
-tokens-set text ids more small =
-    let numbers = spaced_numbers ids in
-    tokens-at_mark text 40 ((numbers ++ codes ")") ++ more) refl refl
-    ∙ ap (λ t. config_tokens_in text ++ (codes "(" ∷ t)) (
-    ap config_tokens_in (append_assoc numbers (codes ")") more) ∙ tokens-at_mark numbers 41 more refl refl
-    ∙ ap (λ t. t ++ (codes ")" ∷ config_tokens_in more)) (tokens-numbers ids small)
-    ∙ sym (append_assoc (map decimal ids) (codes ")" ∷ []) (config_tokens_in more))
-    )
+tokens-set text ids more small = grind (arith, tokens-at_mark, append_assoc, tokens-numbers)
 
 -- a part that is left out if it is empty, after this text, which has these tokens
 tokens-part : (before : List ℕ) (tokens : List (List ℕ)) → config_tokens_in before ≡ tokens → (ids : List ℕ) → All IsU64 ids → (more : List ℕ) →
@@ -117,14 +104,4 @@ tokens-config c small =
     ∙ sym (config_tokens-grouped (map decimal (ascending c.incoming)) (map decimal (ascending c.outgoing)) (map decimal (ascending c.learners)) (map decimal (ascending c.learners_next)) c.auto_leave)
 
 pub DenotesConfig-printed : (c : Configuration) → HasU64Lists c → DenotesConfig (config_text c) (lists_of c)
-DenotesConfig-printed c small = record {
-  voters = map decimal (ascending c.incoming);
-  voters_outgoing = map decimal (ascending c.outgoing);
-  learners = map decimal (ascending c.learners);
-  learners_next = map decimal (ascending c.learners_next);
-  printed = tokens-config c small;
-  parsed_voters = parsed-decimal (ascending c.incoming) small.incoming;
-  parsed_voters_outgoing = parsed-decimal (ascending c.outgoing) small.outgoing;
-  parsed_learners = parsed-decimal (ascending c.learners) small.learners;
-  parsed_learners_next = parsed-decimal (ascending c.learners_next) small.learners_next;
-}
+DenotesConfig-printed c small = grind (arith, tokens-config, parsed-decimal)

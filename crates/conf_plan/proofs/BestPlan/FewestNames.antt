@@ -1,10 +1,10 @@
 -- The plan names each id no more often than any run.
 use Rattle.std.proofs.Common.{◌≡◌, ℕ, ◌+◌, ◌≤◌, Bool, true, false, cond, List, [], ◌∷◌, ◌++◌, refl, ap, ◌∙◌, arith, eqb-true, is_some}
-use Rattle.std.specs.Prelude.{Option, Some, None, option_map, filter_map, count_by, nat_le}
+use Rattle.std.specs.Prelude.{Option, Some, None, option_map, filter_map, count_by}
 use Rattle.std.specs.List.{cons_option}
 use Rattle.std.proofs.lemmas.Bool.{cond_both}
 use Rattle.std.proofs.lemmas.List.Sums.{sum_by-cons, sum_by-append}
-use Rattle.quorum_sets.specs.Ids.{Ids, ascending, no_ids, has, difference_count, union}
+use Rattle.quorum_sets.specs.Ids.{Ids, ascending, no_ids, has, union}
 use Rattle.quorum_sets.proofs.Offered.{has-no_ids}
 use Rattle.conf_change.specs.Configuration.{Configuration, is_joint}
 use Rattle.conf_change.specs.Change.{names}
@@ -13,7 +13,7 @@ use Rattle.conf_change.specs.Step.{changes_of}
 use Rattle.conf_change.specs.declared.change.Change.{Change}
 use Rattle.conf_change.specs.declared.change.Kind.{Kind}
 use Rattle.conf_change.specs.declared.step.Step.{Step}
-use Rattle.conf_change.specs.declared.step.Step.TheVariants.{Simple, EnterJoint, LeaveJoint}
+use Rattle.conf_change.specs.declared.step.Step.TheVariants.{LeaveJoint}
 use Rattle.conf_change.proofs.Offered.{outgoing-none, ValidByMember-from_is_valid}
 use Rattle.conf_plan.specs.Best.{times_named, is_any_learner}
 use Rattle.conf_plan.specs.Planned.{kind_by, kind_of_move, single_with, moves, single_steps, shared_members, entering_step, planned_from_single, planned}
@@ -65,19 +65,11 @@ needed_once : (v m i l : Bool) (n : ℕ) → (n ≡ 0 → (v ≡ i) × (m ≡ l)
 needed_once v m i l n same = grind arith
 
 named_where_differing : (c d : Configuration) (steps : List Step) (q : ℕ) → IsRun c steps d → differing c d q ≤ times_named q steps
-named_where_differing c d steps q run =
-    needed_once _ _ _ _ (times_named q steps) (λ none. let same = run-same_part c d steps q run none in (same.voter, same.learner))
+named_where_differing c d steps q run = grind (arith, needed_once, run-same_part)
 
 -- ---- what the steps of the plan name
 single_steps-name : (c : Configuration) (voters learners : Ids) (q : ℕ) → IsSingle c → times_named q (single_steps c voters learners) ≤ differing c (single_with voters learners) q
-single_steps-name c voters learners q single =
-    let changes = moves c voters learners in
-    let few = moves-name_once c voters learners q in
-    let is : differing c (single_with voters learners) q ≡ once (kind_by (has voters q) (has learners q) (has c.incoming q) (has c.learners q)) =
-    grind (arith, has-no_ids q, IsSingle-no_next c single q) in
-    cond_both (nat_le (difference_count c.incoming voters) 1) (Simple changes ∷ []) (EnterJoint false changes ∷ LeaveJoint ∷ []) (λ steps. times_named q steps ≤ differing c (single_with voters learners) q)
-    (λ one. let named = named_by q (Simple changes) [] in omega arith)
-    (λ two. let named = named_by q (EnterJoint false changes) (LeaveJoint ∷ []) in omega arith)
+single_steps-name c voters learners q single = grind (arith, moves-name_once, has-no_ids, IsSingle-no_next, cond_both, false, named_by)
 
 entering_step-names : (c target : Configuration) (q : ℕ) → IsSingle c → times_named q (entering_step c target ∷ []) ≤ differing c target q
 entering_step-names c target q single =

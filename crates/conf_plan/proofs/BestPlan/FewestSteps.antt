@@ -1,9 +1,9 @@
 -- No run is shorter than the plan.
-use Rattle.std.proofs.Common.{◌≡◌, ℕ, ◌+◌, ◌≤◌, true, false, not, List, [], ◌∷◌, ◌++◌, length, refl, sym, ap, subst, ◌∙◌, inl, inr, arith, eqb-true}
+use Rattle.std.proofs.Common.{◌≡◌, ℕ, ◌+◌, ◌≤◌, true, false, not, List, [], ◌∷◌, ◌++◌, length, refl, ap, subst, ◌∙◌, arith, eqb-true}
 use Rattle.std.specs.Prelude.{Ok}
 use Rattle.std.proofs.lemmas.Bool.{true≢false}
 use Rattle.std.proofs.lemmas.List.{length-append}
-use Rattle.quorum_sets.specs.Ids.{Ids, no_ids, is_empty, difference_count}
+use Rattle.quorum_sets.specs.Ids.{Ids, no_ids, difference_count}
 use Rattle.conf_change.specs.Configuration.{Configuration, is_joint}
 use Rattle.conf_change.specs.Outcome.{outcome, after_leave}
 use Rattle.conf_change.specs.declared.step.Step.{Step}
@@ -21,23 +21,14 @@ use Rattle.conf_plan.proofs.PlannedSteps.BetweenSingle.{single_steps-one, single
 -- ---- between configurations that are not joint
 -- one step alters one voter at most
 one_step_one_voter : (c d : Configuration) (step : Step) → IsSingle c → is_joint d ≡ false → outcome c step ≡ Ok d → difference_count c.incoming d.incoming ≤ 1
-one_step_one_voter c d step single apart e =
-    elim (outcome-are_neighbours c d step e) [
-      | inl differ ↦ differ.one_at_most
-      | inr (inl goes) ↦ absurd (true≢false (sym single.valid_with_voter.voter ∙ ap (λ s. not (is_empty s)) (sym goes.outgoing) ∙ apart))
-      | inr (inr leaves) ↦
-          let none = eqb-true (difference_count c.incoming c.incoming) 0 (is_same_set-refl c.incoming) in
-          subst (λ s. difference_count c.incoming s ≤ 1) (sym leaves.incoming) (omega arith)
-    ]
+one_step_one_voter c d step single apart e = grind (arith, outcome-are_neighbours, true≢false, not, eqb-true, is_same_set-refl)
 
 -- the steps from as many voters are no more than those of a run
 single_steps-shortest : (start c d : Configuration) (learners : Ids) (other : List Step) → start.incoming ≡ c.incoming → IsSingle c → is_joint d ≡ false → (c ≡ d → ⊥) → IsRun c other d
     → length (single_steps start d.incoming learners) ≤ length other
 single_steps-shortest start c d learners [] alike single apart differs run = absurd (differs run)
-single_steps-shortest start c d learners (step ∷ []) alike single apart differs run =
-    single_steps-one start d.incoming learners (rw alike (one_step_one_voter c d step single apart (run.1 ∙ ap Ok run.2)))
-single_steps-shortest start c d learners (step ∷ next ∷ steps) alike single apart differs run =
-    let two = single_steps-at_most_two start d.incoming learners in omega arith
+single_steps-shortest start c d learners (step ∷ []) alike single apart differs run = grind (arith, single_steps-one, one_step_one_voter)
+single_steps-shortest start c d learners (step ∷ next ∷ steps) alike single apart differs run = grind (arith, single_steps-at_most_two)
 
 -- ---- into a joint configuration
 -- as many steps as it takes to get to its outgoing voters, and the one that enters it

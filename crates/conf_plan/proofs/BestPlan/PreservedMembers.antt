@@ -3,7 +3,7 @@ use Rattle.std.proofs.Common.{◌≡◌, ℕ, Bool, true, false, not, ◌&&◌, 
 use Rattle.std.proofs.lemmas.Bool.{and_parts, and_from, not_from_false}
 use Rattle.std.proofs.lemmas.List.Elements.{All-weaker}
 use Rattle.std.proofs.lemmas.List.Folds.{list_any_none}
-use Rattle.quorum_sets.specs.Ids.{Ids, no_ids, has, union}
+use Rattle.quorum_sets.specs.Ids.{Ids, no_ids, has}
 use Rattle.quorum_sets.proofs.Offered.{has-no_ids}
 use Rattle.conf_change.specs.Configuration.{Configuration, is_member, is_joint}
 use Rattle.conf_change.specs.Change.{is_removal, removes}
@@ -50,8 +50,7 @@ pub preserves-outlasts : (before after : Configuration) (steps : List Step) (q :
 preserves-outlasts before after [] q preserves = refl
 preserves-outlasts before after (Simple changes ∷ steps) q preserves = refl
 preserves-outlasts before after (EnterJoint auto_leave changes ∷ steps) q preserves = refl
-preserves-outlasts before after (LeaveJoint ∷ steps) q preserves =
-    ap (λ c. is_member c q) (LeaveTaken-from_outcome before preserves.1.0 preserves.1.1.0).made ∙ keeps_progress-member q before LeaveJoint preserves.1.0 preserves.1.1.1
+preserves-outlasts before after (LeaveJoint ∷ steps) q preserves = grind (arith, LeaveTaken-from_outcome, keeps_progress-member)
 
 -- ---- the moves remove no id that is wanted
 pub moves-remove_no_wanted : (c : Configuration) (voters learners : Ids) (q : ℕ) → (has voters q || has learners q) ≡ true → removes (moves c voters learners) q ≡ false
@@ -64,9 +63,7 @@ moves-remove_no_wanted c voters learners q wanted =
 -- ---- from a configuration that is not joint
 -- who goes out in the target keeps its progress, and the others are wanted
 pub entering_step-keeps : (c target : Configuration) (q : ℕ) → is_member c q ≡ true → is_member target q ≡ true → keeps_progress c (entering_step c target) target q ≡ true
-entering_step-keeps c target q member stays =
-    let learning = union target.learners target.learners_next in
-    grind (arith, member, stays, moves-remove_no_wanted c target.incoming learning q, has-union target.learners target.learners_next q)
+entering_step-keeps c target q member stays = grind (arith, moves-remove_no_wanted, has-union)
 
 pub planned_from_single-keeps : (c target : Configuration) (q : ℕ) → IsSingle c → IsValidWithVoter target → is_member c q ≡ true → is_member target q ≡ true
     → IsRunWith (Keeps q) c (planned_from_single c target) target

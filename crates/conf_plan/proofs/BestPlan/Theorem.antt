@@ -1,4 +1,5 @@
 -- The plan is the best there is.
+use Rattle.std.proofs.Common.{arith}
 use Rattle.std.proofs.Common.{◌≡◌, List, [], ◌∷◌}
 use Rattle.quorum_sets.specs.Overlap.{Overlap}
 use Rattle.conf_change.specs.Changer.{ChangerState}
@@ -36,6 +37,4 @@ planned-is_best now target now_valid_with_voter valid_with_voter = record {
 -- a changer that took the plan made for it is where the plan leads, and no run there is better
 pub Takes-best : (a b : ChangerState) (steps : List Step) (target : Configuration) → Takes a steps b → steps ≡ planned a.tracker.config target
     → IsValidWithVoter a.tracker.config → IsValidWithVoter target → IsBest a.tracker.config steps b.tracker.config
-Takes-best a b steps target taken made now_valid_with_voter valid_with_voter =
-    let there = Takes-to_target a b steps target taken (rw made (planned-is_run a.tracker.config target now_valid_with_voter valid_with_voter)) in
-    rw (there, made) (planned-is_best a.tracker.config target now_valid_with_voter valid_with_voter)
+Takes-best a b steps target taken made now_valid_with_voter valid_with_voter = grind (arith, Takes-to_target, planned-is_run, planned-is_best)

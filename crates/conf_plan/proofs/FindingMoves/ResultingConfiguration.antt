@@ -1,5 +1,5 @@
 -- What the moves make of a configuration that is not joint.
-use Rattle.std.proofs.Common.{◌≡◌, ℕ, Bool, true, false, not, ◌&&◌, ◌||◌, refl, sym, ◌∙◌, arith}
+use Rattle.std.proofs.Common.{◌≡◌, ℕ, Bool, true, false, not, ◌&&◌, ◌||◌, refl, arith}
 use Rattle.std.specs.Prelude.{None}
 use Rattle.std.proofs.lemmas.Bool.{not-false, not-true}
 use Rattle.quorum_sets.specs.Ids.{Ids, has, is_empty}
@@ -18,15 +18,11 @@ pub record IsSingle (c : Configuration) : Type 0 where
 
 -- no id waits in it
 pub IsSingle-no_next : (c : Configuration) → IsSingle c → (q : ℕ) → has c.learners_next q ≡ false
-IsSingle-no_next c s q =
-    let valid = ValidByMember-from_is_valid c s.valid_with_voter.valid in
-    grind (arith, valid.next_outgoing q, has-none_in_empty c.outgoing (not-false _ s.single) q)
+IsSingle-no_next c s q = grind (arith, ValidByMember-from_is_valid, has-none_in_empty, not-false)
 
 -- it is decided by its voters and learners
 pub single_with-own : (c : Configuration) → IsSingle c → single_with c.incoming c.learners ≡ c
-single_with-own c single =
-    configuration-by_members (single_with c.incoming c.learners) c (λ q. refl) (sym (outgoing-none c single.single)) (λ q. refl)
-    (λ q. has-no_ids q ∙ sym (IsSingle-no_next c single q)) (sym ((ValidByMember-from_is_valid c single.valid_with_voter.valid).auto_leave single.single))
+single_with-own c single = grind (arith, configuration-by_members, outgoing-none, single, has-no_ids, IsSingle-no_next, ValidByMember-from_is_valid)
 
 pub is_member-single_with : (voters learners : Ids) (q : ℕ) → is_member (single_with voters learners) q ≡ (has voters q || has learners q)
 is_member-single_with voters learners q = grind (arith, has-no_ids q)

@@ -51,18 +51,10 @@ in_parts-hold P Q of_part now target (step ∷ steps) parts run =
 -- ---- progress
 kept_as_whole : (before after c d : Configuration) (whole part : Step) (q : ℕ) → MovesAsWhole before whole after c part d q → keeps_progress before whole after q ≡ true
     → keeps_progress c part d q ≡ true
-kept_as_whole before after c d whole part q moved kept =
-    grind (arith, moved.was.incoming, moved.was.outgoing, moved.was.learners, moved.becomes.incoming, moved.becomes.outgoing, moved.becomes.learners, moved.removed, kept)
+kept_as_whole before after c d whole part q moved kept = grind arith
 
 MakesVotersOfReady-part : (before after c d : Configuration) (whole part : Step) → MakesVotersOfReady before whole after → IsPart before whole after c part d → MakesVotersOfReady c part d
-MakesVotersOfReady-part before after c d whole part ready is q votes new =
-    elim (is.each q) [
-      | inl alone ↦ absurd (both_ways (has c.incoming q) (or_parts _ _ new).0 (sym alone.alike.incoming ∙ votes))
-      | inr moved ↦
-          let was_none : (has before.incoming q || has before.outgoing q) ≡ false = sym (votes-alike c before q moved.was) ∙ new in
-          let known = ready q (sym moved.becomes.incoming ∙ votes) was_none in
-          record { learner = moved.was.learners ∙ known.learner; kept = kept_as_whole before after c d whole part q moved known.kept }
-    ]
+MakesVotersOfReady-part before after c d whole part ready is q votes new = grind (arith, both_ways, or_parts, false, votes-alike, kept_as_whole)
 
 has-catching_up : (before after : Configuration) (step : Step) (q : ℕ) → has (catching_up before step after) q ≡ (not (keeps_progress before step after q) && is_member after q)
 has-catching_up before after step q = grind (arith, has-ids_where (λ id. not (keeps_progress before step after id)) (members after) q, any-members after q)
@@ -98,9 +90,7 @@ planned_from_single-adds c target single valid_with_voter =
     })
 
 after_leave-adds : (now target : Configuration) → IsValidWithVoter now → AddsMembersOf target now LeaveJoint (after_leave now)
-after_leave-adds now target valid_with_voter q here =
-    let valid = ValidByMember-from_is_valid now valid_with_voter.valid in
-    grind (arith, has-union now.learners now.learners_next q, has-no_ids q, valid.next_outgoing q, here)
+after_leave-adds now target valid_with_voter q here = grind (arith, ValidByMember-from_is_valid, has-union, has-no_ids)
 
 path_by-adds : (strategy : Strategy) (down : Ids) (now target : Configuration) → IsValidWithVoter now → IsValidWithVoter target → has_path strategy now target ≡ true
     → IsRunWith (AddsMembersOf target) now (path_by strategy down now target) target
@@ -124,11 +114,7 @@ members-along now target c (step ∷ steps) has run =
 
 HasMembersOf-part : (now target before after c d : Configuration) (whole part : Step) → HasMembersOf now target before × HasMembersOf now target after → IsPart before whole after c part d
     → HasMembersOf now target d
-HasMembersOf-part now target before after c d whole part both is q here =
-    elim (is.ends q) [
-      | inl alike ↦ both.0 q (sym (is_member-alike d before q alike) ∙ here)
-      | inr alike ↦ both.1 q (sym (is_member-alike d after q alike) ∙ here)
-    ]
+HasMembersOf-part now target before after c d whole part both is q here = grind (arith, is_member-alike)
 
 -- ---- all of it
 pub one_change_each-leads : (strategy : Strategy) (down : Ids) (now target : Configuration) → IsValidWithVoter now → IsValidWithVoter target → has_path strategy now target ≡ true

@@ -126,15 +126,11 @@ few-in_turn down c target (x ∷ promoted) others (y ∷ retires) rest once prom
 
 -- ---- once no learner is left to be promoted
 pub has-at_first : (down : Ids) (c target : Configuration) (q : ℕ) → has (learners_at_first down c target) q ≡ (has c.learners q || ((has down q && has target.learners q) && has c.incoming q))
-has-at_first down c target q =
-    has-union c.learners (ids_where (λ id. has down id && has target.learners id) (ascending c.incoming)) q
-    ∙ ap (λ b. has c.learners q || b) (has-where (λ id. has down id && has target.learners id) c.incoming q)
+has-at_first down c target q = grind (arith, has-union, has-where)
 
 has-that_stay : (down : Ids) (c target : Configuration) (q : ℕ)
     → has (learners_that_stay down c target) q ≡ (((has c.incoming q || has c.learners q) && has target.learners q) || ((has down q && has target.incoming q) && has c.learners q))
-has-that_stay down c target q =
-    has-union (ids_where (λ id. has c.incoming id || has c.learners id) (ascending target.learners)) (ids_where (λ id. has down id && has target.incoming id) (ascending c.learners)) q
-    ∙ (λ i. has-where (λ id. has c.incoming id || has c.learners id) target.learners q i || has-where (λ id. has down id && has target.incoming id) c.learners q i)
+has-that_stay down c target q = grind (arith, has-union, has-where)
 
 -- new learners come last
 few-new : (down : Ids) (c target : Configuration) → AreOnce (new_learners c target) → AreFew down c target (new_learners c target)
@@ -151,15 +147,11 @@ few-new down c target once =
 All-in_turn : (P : ℕ → Type 0) (joins retires : List ℕ) → All P joins → All P retires → All P (in_turn joins retires)
 All-in_turn P [] retires all_joins all_retires = all_retires
 All-in_turn P (x ∷ joins) [] all_joins all_retires = all_joins
-All-in_turn P (x ∷ joins) (y ∷ retires) all_joins all_retires =
-    All-cons P x (y ∷ in_turn joins retires) (All-head P x joins all_joins)
-    (All-cons P y (in_turn joins retires) (All-head P y retires all_retires) (All-in_turn P joins retires (All-tail P x joins all_joins) (All-tail P y retires all_retires)))
+All-in_turn P (x ∷ joins) (y ∷ retires) all_joins all_retires = grind (arith, All-cons, All-head, All-tail, All-in_turn P joins retires (All-tail P x joins all_joins) (All-tail P y retires all_retires))
 
 retires-no_learner : (c target : Configuration) (q : ℕ) (retires : List ℕ) → All (Retires c target) retires → has c.learners q ≡ true → times q retires ≡ 0
 retires-no_learner c target q [] retire learns = refl
-retires-no_learner c target q (y ∷ retires) retire learns =
-    let one = All-head (Retires c target) y retires retire in
-    grind (arith, times-cons q y retires, retires-no_learner c target q retires (All-tail (Retires c target) y retires retire) learns, eqb-true q y, one.learns, learns)
+retires-no_learner c target q (y ∷ retires) retire learns = grind (arith, All-head, times-cons, All-tail, learns, eqb-true, retires-no_learner c target q retires (All-tail (Retires c target) y retires retire) learns)
 
 -- an id that joins
 joining-fits : (down : Ids) (c target : Configuration) → ValidByMember target → (id : ℕ) → has target.incoming id ≡ true → FitsIn down c target (learners_that_stay down c target) id

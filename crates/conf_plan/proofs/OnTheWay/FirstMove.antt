@@ -1,6 +1,6 @@
 -- The first of the moves to some voters and learners, as a step of its own: one id less has to change after it.
 use Rattle.std.proofs.Common.{◌≡◌, ℕ, ◌+◌, ◌≤◌, Bool, true, false, cond, ◌==◌, ◌⊎◌, inl, inr, List, [], ◌∷◌, length, refl, sym, ap, subst, ◌∙◌, is_some, arith, eqb-true, eq-eqb}
-use Rattle.std.specs.Prelude.{Option, Some, None, IfSome, option_map, filter_map, count_by}
+use Rattle.std.specs.Prelude.{Option, Some, None, option_map, filter_map, count_by}
 use Rattle.std.specs.List.{All, cons_option}
 use Rattle.std.specs.Result.{result_unwrap_or}
 use Rattle.std.proofs.lemmas.Bool.{not-false, not-true}
@@ -44,15 +44,7 @@ abbrev changing : Configuration → Ids → Ids → Ids
 changing c voters learners = ids_where (λ id. is_some (kind_of_move c voters learners id)) (ascending (union (union voters learners) (union c.incoming c.learners)))
 
 has-changing : (c : Configuration) (voters learners : Ids) (q : ℕ) → has (changing c voters learners) q ≡ is_some (kind_of_move c voters learners q)
-has-changing c voters learners q =
-    let all = union (union voters learners) (union c.incoming c.learners) in
-    grind (
-      arith,
-      has-where (λ id. is_some (kind_of_move c voters learners id)) all q,
-      has-union (union voters learners) (union c.incoming c.learners) q,
-      has-union voters learners q,
-      has-union c.incoming c.learners q,
-    )
+has-changing c voters learners q = grind (arith, has-where, is_some, has-union)
 
 length-moves_of : (kind_for : ℕ → Option Kind) (ids : List ℕ) → length (filter_map (λ id. option_map (change_of id) (kind_for id)) ids) ≡ count_by (λ id. is_some (kind_for id)) ids
 length-moves_of kind_for [] = refl
@@ -100,9 +92,7 @@ first_move-made c next voters learners x rest single wanted few is gives = recor
         All-head (IsFor kind_for) x rest (subst (All (IsFor kind_for)) is (filter_map-each kind_for _))
 
     other : (x.id == 0) ≡ false
-    other =
-        let zero = kind_of_move-zero c voters learners (ValidByMember-from_is_valid c single.valid_with_voter.valid) wanted in
-        grind (arith, eqb-true x.id 0, is_for, zero)
+    other = grind (arith, kind_of_move-zero, ValidByMember-from_is_valid, single, eqb-true, is_for)
 
     none : (q : ℕ) → has c.outgoing q ≡ false
     none = has-none_in_empty c.outgoing (not-false (is_empty c.outgoing) single.single)
@@ -111,9 +101,7 @@ first_move-made c next voters learners x rest single wanted few is gives = recor
     after = roles_by (has voters x.id) (has learners x.id) (has c.incoming x.id) (has c.learners x.id) x.kind (wanted.apart x.id) is_for
 
     plain : is_update x.kind ≡ false
-    plain =
-        subst (λ o. IfSome o (λ kind. is_update kind ≡ false)) is_for
-        (kind_by-no_update (has voters x.id) (has learners x.id) (has c.incoming x.id) (has c.learners x.id))
+    plain = grind (arith, false, is_for, kind_by-no_update)
 
     named : names x.id x ≡ true
     named = grind (arith, eq-eqb x.id x.id refl, other, plain)
@@ -134,18 +122,11 @@ first_move-made c next voters learners x rest single wanted few is gives = recor
         ∙ ap (λ o. is_learner_after o (has c.outgoing q) (has c.learners q)) (last_effective-one x q)
 
     in_role : (q : ℕ) (same : Bool) → (q == x.id) ≡ same → has next.incoming q ≡ cond same (has voters q) (has c.incoming q)
-    in_role q true same =
-        subst (λ z. has next.incoming z ≡ has voters z) (sym (eqb-true q x.id same))
-        (next_incoming x.id ∙ ap (λ b. is_incoming_after (cond b (Some x.kind) None) (has c.incoming x.id)) named ∙ after.0)
+    in_role q true same = grind (arith, eqb-true, next_incoming, cond, named, after)
     in_role q false apart = next_incoming q ∙ ap (λ b. is_incoming_after (cond b (Some x.kind) None) (has c.incoming q)) (unnamed q apart)
 
     learner_role : (q : ℕ) (same : Bool) → (q == x.id) ≡ same → has next.learners q ≡ cond same (has learners q) (has c.learners q)
-    learner_role q true same =
-        subst (λ z. has next.learners z ≡ has learners z) (sym (eqb-true q x.id same))
-        (next_learners x.id
-        ∙ ap (λ b. is_learner_after (cond b (Some x.kind) None) (has c.outgoing x.id) (has c.learners x.id)) named
-        ∙ ap (λ b. is_learner_after (Some x.kind) b (has c.learners x.id)) (none x.id)
-        ∙ after.1)
+    learner_role q true same = grind (arith, eqb-true, next_learners, cond, named, none, after)
     learner_role q false apart = next_learners q ∙ ap (λ b. is_learner_after (cond b (Some x.kind) None) (has c.outgoing q) (has c.learners q)) (unnamed q apart)
 
     some_voter : is_empty c.incoming ≡ false

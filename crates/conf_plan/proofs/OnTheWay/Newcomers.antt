@@ -1,6 +1,6 @@
 -- The step that makes newcomers learners.
-use Rattle.std.proofs.Common.{◌≡◌, ℕ, true, not, ◌&&◌, ◌||◌, [], ◌∷◌, ap, subst, ◌∙◌, arith, eqb-true}
-use Rattle.quorum_sets.specs.Ids.{no_ids, has, ascending, is_empty, difference_count, union}
+use Rattle.std.proofs.Common.{◌≡◌, ℕ, true, not, ◌&&◌, ◌||◌, [], ◌∷◌, arith, eqb-true}
+use Rattle.quorum_sets.specs.Ids.{has, ascending, is_empty, union}
 use Rattle.quorum_sets.proofs.Offered.{has-ascending, has-ids_where, has-no_ids, has-same_ids, has-union}
 use Rattle.conf_change.specs.Configuration.{Configuration, is_member}
 use Rattle.conf_change.specs.declared.step.Step.TheVariants.{Simple}
@@ -26,30 +26,15 @@ HasNoNewcomer-empty c target none q here = grind (arith, has-newcomers c target 
 
 -- a configuration has no newcomer in itself
 pub newcomers-own : (c target : Configuration) → c ≡ target → is_empty (newcomers c target) ≡ true
-newcomers-own c target same =
-    let P : Configuration → Type 0 = λ d. is_empty (newcomers c d) ≡ true in
-    subst P same (ap is_empty (has-same_ids (newcomers c c) no_ids (λ q. grind (arith, has-newcomers c c q, has-no_ids q))) ∙ is_empty-no_ids)
+newcomers-own c target same = grind (arith, true, has-same_ids, has-newcomers, has-no_ids, is_empty-no_ids)
 
 -- ---- the step
 pub newcomers-are_wanted : (c target : Configuration) → IsSingle c → IsValidWithVoter target → AreWanted c.incoming (union c.learners (newcomers c target))
-newcomers-are_wanted c target single valid_with_voter =
-    let own = own-are_wanted c single.valid_with_voter in
-    let new = newcomers c target in
-    let valid = ValidByMember-from_is_valid target valid_with_voter.valid in
-    record {
-      voter = own.voter;
-      zero_voters = own.zero_voters;
-      zero_learners = grind (arith, has-union c.learners new 0, own.zero_learners, has-newcomers c target 0, valid.zero_incoming, valid.zero_outgoing);
-      apart = λ q votes. grind (arith, has-union c.learners new q, own.apart q votes, has-newcomers c target q, votes);
-    }
+newcomers-are_wanted c target single valid_with_voter = grind (arith, own-are_wanted, ValidByMember-from_is_valid, has-union, has-newcomers)
 
 pub newcomers-learn : (c target : Configuration) → IsSingle c → IsValidWithVoter target
     → Gives c (Simple (learner_changes c (newcomers c target))) (with_learners c (newcomers c target))
-newcomers-learn c target single valid_with_voter =
-    let new = newcomers c target in
-    let none = eqb-true (difference_count c.incoming c.incoming) 0 (is_same_set-refl c.incoming) in
-    let P : Configuration → Type 0 = λ d. Gives c (Simple (learner_changes c new)) (with_learners d new) in
-    subst P (single_with-own c single) (simple_moves-accepted c c.incoming (union c.learners new) single (newcomers-are_wanted c target single valid_with_voter) (omega arith))
+newcomers-learn c target single valid_with_voter = grind (arith, eqb-true, is_same_set-refl, single_with-own, simple_moves-accepted, newcomers-are_wanted)
 
 pub with_newcomers-is_single : (c target : Configuration) → IsSingle c → IsValidWithVoter target → IsSingle (with_learners c (newcomers c target))
 with_newcomers-is_single c target single valid_with_voter =

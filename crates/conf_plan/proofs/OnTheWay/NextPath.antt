@@ -44,11 +44,7 @@ pub has_path-next : (strategy : Strategy) (down : Ids) (now next target : Config
     → one_change_each (path_by strategy down now target) ≡ step ∷ rest → has_path strategy next target ≡ true
 has_path-next Shortest down now next target step rest way is = refl
 has_path-next LearnersFirst down now next target step rest way is = refl
-has_path-next OneAtATime down now next target step rest way is =
-    elim (or_cases (is_same now target) _ way) [
-      | inl same ↦ none_is_first step rest (sym (ap one_change_each (cond-true (is_same now target) _ _ same)) ∙ is)
-      | inr apart ↦ or_right (is_same next target) _ apart
-    ]
+has_path-next OneAtATime down now next target step rest way is = grind (arith, or_cases, none_is_first, cond-true, or_right)
 
 -- ---- one member at a time
 -- steps of one change are proposed as they are
@@ -93,8 +89,7 @@ path_by-own : (strategy : Strategy) (down : Ids) (c target : Configuration) → 
 path_by-own strategy down c target same = cond-true (is_same c target) _ _ ((is_same-is_equality c target).1 same)
 
 path_by-at_most : (strategy : Strategy) (down : Ids) (c target : Configuration) (n : ℕ) → IsSingle c → proposals (from_single_by strategy down c target) ≤ n → proposals (path_by strategy down c target) ≤ n
-path_by-at_most strategy down c target n single few =
-    path_by-of_shapes strategy down c target (λ steps. proposals steps ≤ n) single.valid_with_voter (λ same. omega arith) (λ differs joint left. absurd (both_ways _ single.single joint)) (λ differs same. few)
+path_by-at_most strategy down c target n single few = grind (arith, path_by-of_shapes, both_ways, few)
 
 -- where one voter differs, as many as there are moves, and one more into a joint configuration
 planned-at_most_apart : (c target : Configuration) → IsSingle c → IsValidWithVoter target → is_joint target ≡ false → difference_count c.incoming target.incoming ≤ 1
@@ -182,13 +177,7 @@ falls-simple : (strategy : Strategy) (down : Ids) (now target : Configuration) (
     → ((x : Change) (xs : List Change) (next : Configuration) → changes ≡ x ∷ xs → Gives now (Simple (x ∷ [])) next → proposals (path_by strategy down next target) ≤ length xs + proposals steps)
     → Falls strategy down now target (Simple changes ∷ steps)
 falls-simple strategy down now target [] steps none some next step rest is gives = none refl next step rest (sym (flat_map-cons each_change (Simple []) steps) ∙ is) gives
-falls-simple strategy down now target (x ∷ xs) steps none some next step rest is gives =
-    let others = map (λ change. Simple (change ∷ [])) xs in
-    let whole : Simple (x ∷ []) ∷ (others ++ one_change_each steps) ≡ step ∷ rest = sym (flat_map-cons each_change (Simple (x ∷ xs)) steps) ∙ is in
-    let same_step : step ≡ Simple (x ∷ []) = cc in
-    let same_rest : others ++ one_change_each steps ≡ rest = cc in
-    let few = some x xs next refl (subst (λ s. Gives now s next) same_step gives) in
-    omega (arith, few, ap length same_rest, length-append others (one_change_each steps), length-map xs (λ change. Simple (change ∷ [])))
+falls-simple strategy down now target (x ∷ xs) steps none some next step rest is gives = grind (arith, map, flat_map-cons, length, length-append, length-map)
 
 -- two steps through a joint configuration
 falls-through_joint : (strategy : Strategy) (down : Ids) (c target : Configuration) (voters learners : Ids) (steps : List Step) → IsSingle c → AreWanted voters learners
@@ -210,13 +199,7 @@ falls-through_joint strategy down c target voters learners steps single wanted f
 
 -- ---- after the first move
 few-after : (c next : Configuration) (voters learners : Ids) (id : ℕ) → IsAfterMove c next voters learners id → difference_count c.incoming voters ≤ 1 → difference_count next.incoming voters ≤ 1
-few-after c next voters learners id after few =
-    elim after.either [
-      | inl same ↦ subst (λ ids. difference_count ids voters ≤ 1) (sym same) few
-      | inr same ↦
-          let none = eqb-true (difference_count voters voters) 0 (is_same_set-refl voters) in
-          subst (λ ids. difference_count ids voters ≤ 1) (sym same) (omega arith)
-    ]
+few-after c next voters learners id after few = grind (arith, voters, few, eqb-true, is_same_set-refl)
 
 -- a member that is wanted stays
 stays-after : (c next : Configuration) (voters learners : Ids) (id : ℕ) → IsSingle c → IsAfterMove c next voters learners id → (q : ℕ) → is_member c q ≡ true

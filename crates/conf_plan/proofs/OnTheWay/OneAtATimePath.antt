@@ -1,11 +1,10 @@
 -- What the path that changes one member at a time promises.
-use Rattle.std.proofs.Common.{◌≡◌, ℕ, true, false, ◌&&◌, inl, inr, List, [], ◌∷◌, refl, sym, ap, subst, ◌∙◌, arith}
+use Rattle.std.proofs.Common.{◌≡◌, ℕ, true, false, inl, List, [], ◌∷◌, refl, sym, ap, subst, ◌∙◌, arith}
 use Rattle.std.specs.Prelude.{flat_map}
 use Rattle.std.proofs.lemmas.Bool.{and_from, both_ways, cond_both, cond-true, cond-false, not-true, or_cases, or_left, or_parts}
 use Rattle.quorum_sets.specs.Ids.{Ids, no_ids, has}
-use Rattle.quorum_sets.specs.Tolerance.{commits_without}
 use Rattle.quorum_sets.proofs.Offered.{has-no_ids, has-union}
-use Rattle.conf_change.specs.Configuration.{Configuration, voters_of, is_member, is_joint, is_same}
+use Rattle.conf_change.specs.Configuration.{Configuration, is_member, is_joint}
 use Rattle.conf_change.specs.Outcome.{after_leave}
 use Rattle.conf_change.specs.declared.step.Step.{Step}
 use Rattle.conf_change.specs.declared.step.Step.TheVariants.{LeaveJoint}
@@ -48,9 +47,7 @@ ready-from down c target (id ∷ left) fine calm few = (
 
 -- the ids that are down in the order are down
 down_in_order-within : (down : Ids) (c target : Configuration) (q : ℕ) → has (down_in_order down c target) q ≡ true → has down q ≡ true
-down_in_order-within down c target q =
-    cond_both (commits_without (voters_of c) down && commits_without (voters_of target) down) down no_ids (λ ids. has ids q ≡ true → has down q ≡ true) (λ commit here. here)
-    (λ stalls here. absurd (both_ways (has no_ids q) (has-no_ids q) here))
+down_in_order-within down c target q = grind (arith, cond_both, true, both_ways, has-no_ids)
 
 from_single-has_turns : (down : Ids) (c target : Configuration) → IsSingle c → IsSingle target → IsRunWith (IsTurnFrom down c target) c (one_at_a_time_from_single down c target) target
 from_single-has_turns down c target single_c single =
@@ -111,10 +108,7 @@ leaving-is_one_change down now target valid_with_voter =
     }
 
 target-is_single : (now target : Configuration) → IsValidWithVoter target → has_path OneAtATime now target ≡ true → (now ≡ target → ⊥) → IsSingle target
-target-is_single now target valid_with_voter way differs = record {
-  valid_with_voter = valid_with_voter;
-  single = elim (or_cases (is_same now target) _ way) [ inl same ↦ absurd (differs (is_same-equal now target same)) | inr single ↦ not-true (is_joint target) single ];
-}
+target-is_single now target valid_with_voter way differs = grind (arith, or_cases, is_same-equal, not-true)
 
 one_at_a_time-changes : (down : Ids) (now target : Configuration) → IsValidWithVoter now → IsValidWithVoter target → has_path OneAtATime now target ≡ true
     → IsRunWith (IsOneChange down now (left_first now) target) now (path_by OneAtATime down now target) target

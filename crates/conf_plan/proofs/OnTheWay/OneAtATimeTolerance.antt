@@ -68,10 +68,7 @@ is_down down voters id = cond (has down id && has voters id) 1 0
 lead-done : (down had gets : Ids) (id : ℕ) (left : List ℕ) → times id left ≡ 0
     → up_of down (mixed had gets (id ∷ left)) + down_of down (mixed had gets left) + is_up down gets id + is_down down had id
     ≡ up_of down (mixed had gets left) + down_of down (mixed had gets (id ∷ left)) + is_up down had id + is_down down gets id
-lead-done down had gets id left once =
-    let of_up = count_of-done (λ id. not (has down id)) had gets id left once in
-    let of_down = count_of-done (has down) had gets id left once in
-    omega arith
+lead-done down had gets id left once = grind (arith, count_of-done, not)
 
 -- where the votes of an id change from these to those, it does not grow
 abbrev Loses : Ids → Ids → Ids → ℕ → Type 0
@@ -92,9 +89,7 @@ AreFine down had gets left = EachRest (λ left. IsNoWorseThanOne down had gets (
 
 -- where the rest only loses, all is no worse than at the end
 fine-at_end : (down had gets : Ids) (left : List ℕ) → AreOnce left → All (Loses down had gets) left → AreFine down had gets left × IsNoWorse down gets (mixed had gets left)
-fine-at_end down had gets [] once loses =
-    let same : IsNoWorse down gets (mixed had gets []) = subst (IsNoWorse down gets) (sym (mixed-none_left had gets)) (omega arith) in
-    (inr same, same)
+fine-at_end down had gets [] once loses = grind (arith, mixed, mixed-none_left)
 fine-at_end down had gets (id ∷ left) once loses =
     let lead = lead-done down had gets id left (AreOnce-first id left once) in
     let one = All-head (Loses down had gets) id left loses in

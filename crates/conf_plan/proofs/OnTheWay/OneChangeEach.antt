@@ -1,5 +1,5 @@
 -- The changes of a simple step of a path are accepted one by one, too, and each has the voters before or after the step.
-use Rattle.std.proofs.Common.{◌≡◌, ℕ, ◌+◌, ◌*◌, ◌≤◌, Bool, true, false, cond, not, ◌==◌, ◌⊎◌, inl, inr, List, [], ◌∷◌, ◌++◌, map, refl, sym, ap, subst, ◌∙◌, arith, eq-eqb, eqb-true}
+use Rattle.std.proofs.Common.{◌≡◌, ℕ, ◌+◌, ◌≤◌, Bool, true, false, cond, not, ◌==◌, ◌⊎◌, inl, inr, List, [], ◌∷◌, ◌++◌, map, refl, sym, ap, subst, ◌∙◌, arith, eq-eqb, eqb-true}
 use Rattle.std.specs.Prelude.{Option, Some, None, count_by, ⊤}
 use Rattle.std.specs.Option.{option_or}
 use Rattle.std.specs.Result.{result_unwrap_or}
@@ -7,7 +7,7 @@ use Rattle.std.proofs.lemmas.Bool.{and_from, both_ways, false_from_ne_true, lt-l
 use Rattle.std.proofs.lemmas.List.{append_assoc, append-nil}
 use Rattle.std.proofs.lemmas.List.Concat.{flat_map-cons}
 use Rattle.std.proofs.lemmas.List.Sums.{sum_by-append, sum_by-cons}
-use Rattle.quorum_sets.specs.Ids.{Ids, has, ascending, size, count_of, is_empty, difference_count, union}
+use Rattle.quorum_sets.specs.Ids.{Ids, has, ascending, is_empty, difference_count, union}
 use Rattle.quorum_sets.specs.Voters.{Voters, is_quorum}
 use Rattle.quorum_sets.proofs.Offered.{count_by-none, count_of-rest, has-ascending, has-same_ids}
 use Rattle.conf_change.specs.Change.{names, last_effective, is_incoming_after, result_of}
@@ -250,12 +250,7 @@ Splits-one before after step gives = (after, (gives, inr (λ i. voters_of after)
 
 -- the voters of a configuration that is not joint are a quorum
 own_quorum : (c : Configuration) → is_empty c.incoming ≡ false → is_empty c.outgoing ≡ true → is_quorum (voters_of c) c.incoming ≡ true
-own_quorum c some single =
-    let ids = c.incoming in
-    let all = count_of-rest ids ids in
-    let none = count_by-none (λ id. not (has ids id)) (ascending ids) (λ x here. ap not (has-ascending ids x ∙ here)) in
-    let size_some : size ids ≡ 0 → ⊥ = λ zero. both_ways (is_empty ids) some (eq-eqb (size ids) 0 zero) in
-    and_from _ _ (lt-ltb (size ids) (2 * count_of (has ids) ids) (omega (arith, size_some))) (or_left _ _ single)
+own_quorum c some single = grind (arith, count_of-rest, count_by-none, not, has-ascending, both_ways, eq-eqb, and_from, lt-ltb, or_left, single)
 
 pub once-few : (o : Option Kind) → once o ≤ 1
 once-few None = grind arith
@@ -370,6 +365,4 @@ each-of_voters Holds now target steps others holds run alike =
 
 pub path_by-keeps_voters : (strategy : Strategy) (down : Ids) (now target : Configuration) → IsValidWithVoter now → IsValidWithVoter target → has_path strategy now target ≡ true
     → EachOnTheWay (HasVotersOnTheWay now (path_by strategy down now target)) now (one_change_each (path_by strategy down now target)) target
-path_by-keeps_voters strategy down now target now_valid_with_voter valid_with_voter way =
-    one_change_each-keeps_voters now target (path_by strategy down now target)
-    (path_by-of_proposals Splits strategy down now target now_valid_with_voter valid_with_voter way Splits-of_proposals)
+path_by-keeps_voters strategy down now target now_valid_with_voter valid_with_voter way = grind (arith, one_change_each-keeps_voters, path_by-of_proposals, Splits-of_proposals)

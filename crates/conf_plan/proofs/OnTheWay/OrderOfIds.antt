@@ -41,10 +41,7 @@ filter-both p q (x ∷ xs) = grind (arith, filter-both p q xs)
 pub joining-filtered : (passes : ℕ → Bool) (c target : Configuration)
     → let joins : ℕ → Bool = λ id. not (has c.incoming id) && passes id in
     joining passes c target ≡ filter (λ id. has c.learners id && joins id) (ascending target.incoming) ++ filter (λ id. not (has c.learners id) && joins id) (ascending target.incoming)
-joining-filtered passes c target =
-    let joins : ℕ → Bool = λ id. not (has c.incoming id) && passes id in
-    let part = λ (test : ℕ → Bool). ascending-where test (ids_where joins (ascending target.incoming)) ∙ ap (filter test) (ascending-where joins target.incoming) ∙ filter-both test joins (ascending target.incoming) in
-    λ i. part (has c.learners) i ++ part (λ id. not (has c.learners id)) i
+joining-filtered passes c target = grind (arith, not, ascending-where, filter-both)
 
 -- what holds of each id of a set that passes a test holds of the list
 pub All-where : (P : ℕ → Type 0) (test : ℕ → Bool) (ids : Ids) → ((q : ℕ) → (test q && has ids q) ≡ true → P q) → All P (ascending (ids_where test (ascending ids)))

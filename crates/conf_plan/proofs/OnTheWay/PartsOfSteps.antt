@@ -84,9 +84,7 @@ record NamesOnce (changes : List Change) : Type 0 where
   not_zero : removes changes 0 ≡ false
 
 removes-among : (xs ys : List Change) (y : Change) (q : ℕ) → removes (y ∷ []) q ≡ true → removes ((xs ++ y ∷ []) ++ ys) q ≡ true
-removes-among xs ys y q here =
-    let removes_it : Change → Bool = λ change. (change.id == q) && is_removal change.kind in
-    grind (arith, list_any-append removes_it (xs ++ y ∷ []) ys, list_any-append removes_it xs (y ∷ []), here)
+removes-among xs ys y q here = grind (arith, Bool, list_any-append)
 
 IsPart-one : (c : Configuration) (xs ys : List Change) (y : Change) → NamesOnce ((xs ++ y ∷ []) ++ ys)
     → IsPart c (Simple ((xs ++ y ∷ []) ++ ys)) (result_of c ((xs ++ y ∷ []) ++ ys)) (result_of c xs) (Simple (y ∷ [])) (result_of c (xs ++ y ∷ []))
@@ -113,10 +111,7 @@ IsPart-one c xs ys y given = record { ends = λ q. at_end q (zero_or_more (count
     at_end q (inr some) = inr (last q (omega (arith, given.once q, all q)))
 
     unremoved : (q : ℕ) → names q y ≡ false → removes (y ∷ []) q ≡ false
-    unremoved q unnamed =
-        false_from_ne_true (removes (y ∷ []) q) (λ here.
-        let zero : q ≡ 0 = eqb-true q 0 (grind (arith, unnamed, here)) in
-        both_ways (removes whole 0) given.not_zero (subst (λ z. removes whole z ≡ true) zero (removes-among xs ys y q here)))
+    unremoved q unnamed = grind (arith, false_from_ne_true, eqb-true, both_ways, whole, true, removes-among)
 
     by_named : (q : ℕ) (named : Bool) → names q y ≡ named
         → LeavesAlone (result_of c xs) (Simple (y ∷ [])) (result_of c (xs ++ y ∷ [])) q

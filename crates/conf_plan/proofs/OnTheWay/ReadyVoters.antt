@@ -27,9 +27,7 @@ NoVoterCatchesUp-from_kept before after step keeps q catches = grind (arith, has
 
 -- and a new one was a learner that keeps its progress
 pub MakesVotersOfReady-from_kept : (before after : Configuration) (step : Step) → KeepsVoters before step after → MakesVotersOfReady before step after
-MakesVotersOfReady-from_kept before after step keeps q votes new =
-    let kept = keeps q (or_left (has after.incoming q) _ votes) in
-    record { learner = grind (arith, kept, new); kept = kept }
+MakesVotersOfReady-from_kept before after step keeps q votes new = grind (arith, or_left)
 
 pub KeepsVoters-leaving : (now : Configuration) → KeepsVoters now LeaveJoint (after_leave now)
 KeepsVoters-leaving now q votes = grind (arith, has-no_ids q, votes)

@@ -1,6 +1,6 @@
 -- The functions that read the lines of a path and of a plan, against the relations.
 use Rattle.std.proofs.Common.{◌≡◌, ℕ, zero, suc, ◌+◌, ◌<◌, ◌≤◌, true, ◌⊎◌, inl, inr, List, [], ◌∷◌, ◌++◌, length, take, Option, Some, None, Result, Ok, Err, leb, refl, sym, ap, ◌∙◌, subst, arith}
-use Rattle.std.specs.Prelude.{IfOk, IfErr, MatchResult}
+use Rattle.std.specs.Prelude.{MatchResult}
 use Rattle.std.specs.List.{AllZip}
 use Rattle.std.proofs.lemmas.Bool.{leb-true, leb-false, cond-false, cond_both, true≢false, false_from_ne_true}
 use Rattle.std.proofs.lemmas.List.{length-append, take-append-le}
@@ -97,10 +97,7 @@ path_in-ok text steps (inl nothing) = rw (is_nothing_to_do-true text nothing.1) 
 path_in-ok text steps (inr lines) = path_in-steps text (steps_are_something text steps lines) ∙ steps_in-ok (plan_lines text) steps lines
 
 path_in-fault : (text : List ℕ) (fault : PlanTextFault) → HasPathFault text fault → path_in text ≡ Err fault
-path_in-fault text (BadLine number) h =
-    let first = h.1 in
-    path_in-steps text h.0 ∙ ap steps_in first.position ∙ steps_in-bad first.before first.steps first.line first.after first.parsed first.bad
-    ∙ ap (λ n. Err (BadLine n)) (sym first.counted)
+path_in-fault text (BadLine number) h = grind (arith, path_in-steps, steps_in-bad, Err)
 path_in-fault text TooManySteps h = absurd h
 path_in-fault text NoMemory h = absurd h
 
@@ -167,10 +164,7 @@ long-from_bad text number h late = record {
 
 of_path : (text : List ℕ) (answer : Result (List Step) PlanTextFault) → MatchResult answer (ParsesToPath text) (HasPathFault text)
     → MatchResult (at_most_four answer) (ParsesToPlan text) (HasPlanFault text)
-of_path text (Ok steps) h =
-    cond_both (leb (length steps) 4) _ _ (λ read. MatchResult read (ParsesToPlan text) (HasPlanFault text))
-    (λ few. record { at_most_four = leb-true (length steps) 4 few; path = h })
-    (λ many. long-from_steps text steps h (leb-false (length steps) 4 many))
+of_path text (Ok steps) h = grind (arith, cond_both, leb, length, leb-true, long-from_steps, leb-false)
 of_path text (Err (BadLine number)) h =
     cond_both (leb number 4) _ _ (λ read. MatchResult read (ParsesToPlan text) (HasPlanFault text))
     (λ early. (leb-true number 4 early, h)) (λ late. long-from_bad text number h.1 (leb-false number 4 late))

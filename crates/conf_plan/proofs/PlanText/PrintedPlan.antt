@@ -1,5 +1,5 @@
 -- The printed lines of a path denote its steps.
-use Rattle.std.proofs.Common.{◌≡◌, ℕ, ◌<◌, ◌≤◌, ◌^◌, ◌==◌, Bool, true, false, not, List, [], ◌∷◌, ◌++◌, length, get_or, map, Ok, refl, ap, ◌∙◌, arith, inl, inr}
+use Rattle.std.proofs.Common.{◌≡◌, ℕ, ◌<◌, ◌≤◌, ◌^◌, ◌==◌, Bool, true, false, not, List, [], ◌∷◌, ◌++◌, length, get_or, map, Ok, refl, ◌∙◌, arith, inl, inr}
 use Rattle.std.specs.Prelude.{codes, decimal, flat_map}
 use Rattle.std.specs.List.{All, AllByRecursion, AllZip, list_all, join_with_byte}
 use Rattle.std.specs.Str.Parse.{AllDigits}
@@ -41,9 +41,7 @@ abbrev IsToken : List ℕ → Type 0
 IsToken token = (has_bytes token ≡ true) × IsAll is_black token
 
 tokens_in-one : (token : List ℕ) → IsToken token → tokens_in token ≡ token ∷ []
-tokens_in-one token is =
-    let black = All-weaker (λ byte. is_black byte ≡ true) (λ byte. is_space byte ≡ false) (λ byte. not-true (is_space byte)) token (AllPass-from_list_all is_black token is.1) in
-    rw (slice_split_none is_space token black, is.0) refl
+tokens_in-one token is = grind (arith, All-weaker, true, false, not-true, AllPass-from_list_all, slice_split_none)
 
 -- the tokens of tokens with one space between
 tokens_in-join : (tokens : List (List ℕ)) → AllByRecursion IsToken tokens → tokens_in (join_with_byte 32 tokens) ≡ tokens
@@ -63,8 +61,7 @@ no_newline-black (byte ∷ bytes) h = grind (arith, nat_tests, no_newline-black 
 no_newline-join : (tokens : List (List ℕ)) → AllByRecursion IsToken tokens → IsAll is_no_newline (join_with_byte 32 tokens)
 no_newline-join [] h = refl
 no_newline-join (token ∷ []) h = no_newline-black token h.0.1
-no_newline-join (token ∷ next ∷ more) h =
-    list_all-append is_no_newline token (32 ∷ join_with_byte 32 (next ∷ more)) ∙ and_from _ _ (no_newline-black token h.0.1) (no_newline-join (next ∷ more) h.1)
+no_newline-join (token ∷ next ∷ more) h = grind (arith, list_all-append, and_from, no_newline-black, no_newline-join (next ∷ more) h.1)
 
 -- ---- the tokens of a step
 abbrev IsU64 : Change → Type 0
@@ -95,9 +92,7 @@ parsed-printed (change ∷ changes) h =
 
 -- so are read the changes of a step
 pub Denotes-printed : (changes : List Change) → All IsU64 changes → Denotes (join_with_byte 32 (map change_text changes)) changes
-Denotes-printed changes h =
-    let small = recursion_from_All IsU64 changes h in
-    rw (tokens_in-join (map change_text changes) (changes_are_tokens changes small)) (parsed-printed changes small)
+Denotes-printed changes h = grind (arith, recursion_from_All, tokens_in-join, map, changes_are_tokens, parsed-printed)
 
 -- the tokens of a line are its command and its changes
 abbrev all_tokens : Step → List (List ℕ)
@@ -113,11 +108,7 @@ step_tokens : (step : Step) → HasU64Ids step → AllByRecursion IsToken (all_t
 step_tokens step h = all_are_tokens step (recursion_from_All IsU64 (changes_of step) h)
 
 IsLineOf-printed : (step : Step) → HasU64Ids step → IsLineOf (line_and_newline step) step
-IsLineOf-printed step h = record {
-  tokens = map change_text (changes_of step);
-  line_tokens = tokens_in-at_space (line_text step) 10 [] refl ∙ append-nil (tokens_in (line_text step)) ∙ tokens_in-join (all_tokens step) (step_tokens step h);
-  parsed = parsed-printed (changes_of step) (recursion_from_All IsU64 (changes_of step) h);
-}
+IsLineOf-printed step h = grind (arith, map, tokens_in-at_space, append-nil, tokens_in-join, step_tokens, parsed-printed, recursion_from_All)
 
 -- ---- the lines
 full_lines-line : (line rest : List ℕ) → IsAll is_no_newline line → full_lines (line ++ 10 ∷ rest) ≡ (line ++ 10 ∷ []) ∷ full_lines rest
@@ -126,10 +117,7 @@ full_lines-line (byte ∷ line) rest h = grind (arith, full_lines-line line rest
 
 full_lines-printed : (steps : List Step) → AllByRecursion HasU64Ids steps → full_lines (flat_map line_and_newline steps) ≡ map line_and_newline steps
 full_lines-printed [] h = refl
-full_lines-printed (step ∷ steps) h =
-    ap full_lines (append_assoc (line_text step) (codes "\n") (flat_map line_and_newline steps))
-    ∙ full_lines-line (line_text step) (flat_map line_and_newline steps) (no_newline-join (all_tokens step) (step_tokens step h.0))
-    ∙ ap (λ lines. line_and_newline step ∷ lines) (full_lines-printed steps h.1)
+full_lines-printed (step ∷ steps) h = grind (arith, append_assoc, full_lines-line, no_newline-join, step_tokens, full_lines-printed steps h.1)
 
 lines-printed : (steps : List Step) → AllByRecursion HasU64Ids steps → AllZip IsLineOf (map line_and_newline steps) steps
 lines-printed [] h = tt

@@ -1,5 +1,6 @@
 -- The line of a step, in the parts in which it is appended.
-use Rattle.std.proofs.Common.{◌≡◌, ℕ, List, [], ◌∷◌, ◌++◌, map, sym, ap, ◌∙◌}
+use Rattle.std.proofs.Common.{arith}
+use Rattle.std.proofs.Common.{◌≡◌, ℕ, List, [], ◌∷◌, ◌++◌, map, sym, ap}
 use Rattle.std.specs.Prelude.{codes, decimal, flat_map}
 use Rattle.std.specs.List.{join_with_byte}
 use Rattle.std.proofs.lemmas.List.{append_assoc, append-nil}
@@ -8,7 +9,7 @@ use Rattle.conf_change.specs.declared.change.Change.{Change}
 use Rattle.conf_change.specs.declared.step.Step.{Step}
 use Rattle.conf_change.specs.declared.step.Step.TheVariants.{Simple, EnterJoint, LeaveJoint}
 use Rattle.conf_change.specs.Step.{changes_of}
-use Rattle.conf_plan.specs.PlanText.{flag_token, command_tokens, spaced_change, line_and_newline}
+use Rattle.conf_plan.specs.PlanText.{command_tokens, spaced_change, line_and_newline}
 
 -- a change, with any names for ids
 abbrev named : (ℕ → List ℕ) → Change → List ℕ
@@ -23,8 +24,7 @@ join-changes name token (change ∷ changes) = ap (λ rest. token ++ 32 ∷ rest
 
 pub line-parts : (name : ℕ → List ℕ) (step : Step) → join_with_byte 32 (command_tokens step ++ map (named name) (changes_of step)) ≡ join_with_byte 32 (command_tokens step) ++ spaced name (changes_of step)
 line-parts name (Simple changes) = join-changes name (codes "simple") changes
-line-parts name (EnterJoint auto_leave changes) =
-    ap (λ rest. codes "enter-joint" ++ 32 ∷ rest) (join-changes name (flag_token auto_leave) changes) ∙ sym (append_assoc (codes "enter-joint") (32 ∷ flag_token auto_leave) (spaced name changes))
+line-parts name (EnterJoint auto_leave changes) = grind (arith, join-changes, append_assoc)
 line-parts name LeaveJoint = sym (append-nil (codes "leave-joint"))
 
 pub line_and_newline-appended : (old : List ℕ) (step : Step) → old ++ join_with_byte 32 (command_tokens step) ++ flat_map spaced_change (changes_of step) ++ 10 ∷ [] ≡ old ++ line_and_newline step

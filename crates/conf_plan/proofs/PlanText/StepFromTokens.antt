@@ -12,7 +12,7 @@ use Rattle.conf_change.specs.declared.step.Step.TheVariants.{Simple, EnterJoint,
 use Rattle.conf_change.proofs.Offered.{changes_in_tokens-ok, AllZip-from_ok}
 use Rattle.conf_change.specs.Step.{changes_of}
 use Rattle.conf_plan.specs.PlanSteps.{HasU64Ids}
-use Rattle.conf_plan.specs.PlanText.{flag_token, command_tokens, IsLineOf}
+use Rattle.conf_plan.specs.PlanText.{command_tokens, IsLineOf}
 use Rattle.conf_plan.specs.PlanCode.{list_in, flag_of_token, step_in}
 
 step_in-tokens_in : (step : Step) (tokens : List (List ℕ)) → AllZip ParsesTo tokens (changes_of step) → step_in (command_tokens step ++ tokens) ≡ Some step
@@ -38,21 +38,12 @@ found : (read : List (List ℕ) → Option (List Change)) (command flag : List �
     else (if bytes_eq command (codes "enter-joint") then option_and_then (λ auto_leave. option_map (EnterJoint auto_leave) (read rest)) (flag_of_token flag)
     else (if bytes_eq command (codes "leave-joint") then None else None))) ≡ Some step
     → (command ∷ flag ∷ rest ≡ command_tokens step ++ rest_of step (command ∷ flag ∷ rest)) × (read (rest_of step (command ∷ flag ∷ rest)) ≡ Some (changes_of step))
-found read command flag rest step e =
-    grind (
-      arith,
-      bytes_eq-Decides command (codes "simple"),
-      bytes_eq-Decides command (codes "enter-joint"),
-      bytes_eq-Decides command (codes "leave-joint"),
-      bytes_eq-Decides flag (flag_token true),
-      bytes_eq-Decides flag (flag_token false),
-    )
+found read command flag rest step e = grind (arith, bytes_eq-Decides, true, false)
 
 tokens-from_some : (tokens : List (List ℕ)) (step : Step) → step_in tokens ≡ Some step
     → (tokens ≡ command_tokens step ++ rest_of step tokens) × (list_in (rest_of step tokens) ≡ Some (changes_of step))
 tokens-from_some [] step e = absurd cc
-tokens-from_some (command ∷ []) step e =
-    grind (arith, bytes_eq-Decides command (codes "simple"), bytes_eq-Decides command (codes "enter-joint"), bytes_eq-Decides command (codes "leave-joint"))
+tokens-from_some (command ∷ []) step e = grind (arith, bytes_eq-Decides)
 tokens-from_some (command ∷ flag ∷ rest) step e = found list_in command flag rest step e
 
 pub IsLineOf-from_some : (line : List ℕ) (step : Step) → step_in (tokens_in line) ≡ Some step → IsLineOf line step

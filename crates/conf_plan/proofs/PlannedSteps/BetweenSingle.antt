@@ -2,7 +2,7 @@
 use Rattle.std.proofs.Common.{◌≡◌, ◌≤◌, false, not, List, length, refl, sym, ap, subst, ◌∙◌, arith}
 use Rattle.std.specs.Prelude.{Ok, nat_le}
 use Rattle.std.proofs.lemmas.Bool.{cond_both, cond-true, leb-true, le-leb, not_from_false}
-use Rattle.quorum_sets.specs.Ids.{Ids, has, is_empty, difference_count}
+use Rattle.quorum_sets.specs.Ids.{Ids, has, difference_count}
 use Rattle.quorum_sets.proofs.Offered.{has-no_ids}
 use Rattle.conf_change.specs.Configuration.{Configuration}
 use Rattle.conf_change.specs.Change.{result_of}
@@ -32,14 +32,11 @@ abbrev pub entered_by : Configuration → Ids → Ids → Configuration
 entered_by c voters learners = result_of (with_outgoing c false) (moves c voters learners)
 
 pub entered_by-has_wanted : (c : Configuration) (voters learners : Ids) → IsSingle c → AreWanted voters learners → HasWanted (entered_by c voters learners) voters learners
-entered_by-has_wanted c voters learners single wanted =
-    moves-has_wanted c c.incoming voters learners false single wanted (ValidByMember-from_is_valid c single.valid_with_voter.valid).learner_incoming
+entered_by-has_wanted c voters learners single wanted = grind (arith, moves-has_wanted, false, ValidByMember-from_is_valid)
 
 pub enter_moves-accepted : (c : Configuration) (voters learners : Ids) → IsSingle c → AreWanted voters learners
     → Gives c (EnterJoint false (moves c voters learners)) (entered_by c voters learners)
-enter_moves-accepted c voters learners single wanted =
-    outcome-enter_accepted c (entered_by c voters learners) false (moves c voters learners) single.single single.valid_with_voter.voter refl
-    (ap (λ s. not (is_empty s)) (entered_by-has_wanted c voters learners single wanted).incoming ∙ not_from_false _ wanted.voter)
+enter_moves-accepted c voters learners single wanted = grind (arith, outcome-enter_accepted, false, not, entered_by-has_wanted, not_from_false)
 
 pub leave_moves-accepted : (c : Configuration) (voters learners : Ids) → IsSingle c → AreWanted voters learners
     → Gives (entered_by c voters learners) LeaveJoint (single_with voters learners)
@@ -74,5 +71,4 @@ single_steps-one c voters learners few =
     subst P (sym (cond-true (nat_le (difference_count c.incoming voters) 1) _ _ (le-leb _ 1 few))) (omega arith)
 
 pub single_steps-at_most_two : (c : Configuration) (voters learners : Ids) → length (single_steps c voters learners) ≤ 2
-single_steps-at_most_two c voters learners =
-    cond_both (nat_le (difference_count c.incoming voters) 1) _ _ (λ steps. length steps ≤ 2) (λ few. omega arith) (λ many. omega arith)
+single_steps-at_most_two c voters learners = grind (arith, cond_both, length)

@@ -27,9 +27,7 @@ single_with-is_single voters learners valid_with_voter = record { valid_with_vot
 -- ---- the plan
 pub path_by-single : (strategy : Strategy) (down : Ids) (now target : Configuration) → IsSingle now → is_same now target ≡ false
     → path_by strategy down now target ≡ from_single_by strategy down (single_with now.incoming now.learners) target
-path_by-single strategy down now target single other =
-    cond-false (is_same now target) _ _ other ∙ cond-false (is_joint now) _ _ single.single
-    ∙ ap (λ c. from_single_by strategy down c target) (sym (single_with-own now single))
+path_by-single strategy down now target single other = grind (arith, cond-false, single_with-own)
 
 pub path_by-leaving : (strategy : Strategy) (down : Ids) (now target : Configuration) → is_joint now ≡ true → is_same now target ≡ false
     → path_by strategy down now target ≡ LeaveJoint ∷ from_single_by strategy down (single_with now.incoming (union now.learners now.learners_next)) target

@@ -1,10 +1,10 @@
 -- The steps from a configuration that is not joint to a joint one.
-use Rattle.std.proofs.Common.{◌≡◌, ℕ, true, not, ◌&&◌, refl, ap, ◌∙◌, arith}
+use Rattle.std.proofs.Common.{◌≡◌, ℕ, true, not, ◌&&◌, refl, ap, arith}
 use Rattle.std.specs.Prelude.{Ok}
 use Rattle.std.proofs.lemmas.Bool.{not-true}
-use Rattle.quorum_sets.specs.Ids.{has, is_empty, union}
+use Rattle.quorum_sets.specs.Ids.{has, union}
 use Rattle.quorum_sets.proofs.Offered.{has-ids_where}
-use Rattle.conf_change.specs.Configuration.{Configuration, is_joint, is_member, members}
+use Rattle.conf_change.specs.Configuration.{Configuration, is_joint, is_member}
 use Rattle.conf_change.specs.Change.{result_of}
 use Rattle.conf_change.specs.Outcome.{outcome, with_outgoing}
 use Rattle.conf_change.proofs.Offered.{outcome-enter_accepted, any-members, configuration-by_members, ValidByMember-from_is_valid, is_empty-no_ids}
@@ -17,19 +17,10 @@ use Rattle.conf_plan.proofs.PlannedSteps.BetweenSingle.{single_steps-is_run}
 
 -- ---- up to the target's outgoing voters
 pub has-shared_members : (c target : Configuration) (q : ℕ) → has (shared_members c target) q ≡ (is_member target q && not (has target.outgoing q) && is_member c q)
-has-shared_members c target q =
-    has-ids_where (λ id. is_member target id && not (has target.outgoing id)) (members c) q
-    ∙ ap (λ b. is_member target q && not (has target.outgoing q) && b) (any-members c q)
+has-shared_members c target q = grind (arith, has-ids_where, not, any-members)
 
 pub outgoing-are_wanted : (c target : Configuration) → IsValidWithVoter target → is_joint target ≡ true → AreWanted target.outgoing (shared_members c target)
-outgoing-are_wanted c target valid_with_voter joint =
-    let valid = ValidByMember-from_is_valid target valid_with_voter.valid in
-    record {
-      voter = not-true (is_empty target.outgoing) joint;
-      zero_voters = valid.zero_outgoing;
-      zero_learners = grind (arith, has-shared_members c target 0, valid.zero_incoming, valid.zero_learners);
-      apart = λ q here. grind (arith, has-shared_members c target q, here);
-    }
+outgoing-are_wanted c target valid_with_voter joint = grind (arith, ValidByMember-from_is_valid, not-true, has-shared_members)
 
 -- the configuration that is reached there
 pub at_outgoing-is_single : (c target : Configuration) → IsSingle c → IsValidWithVoter target → is_joint target ≡ true
@@ -45,14 +36,7 @@ at_outgoing-has_members c target q member stays = grind (arith, has-shared_membe
 
 -- ---- into the joint configuration
 pub incoming-are_wanted : (target : Configuration) → IsValidWithVoter target → AreWanted target.incoming (union target.learners target.learners_next)
-incoming-are_wanted target valid_with_voter =
-    let valid = ValidByMember-from_is_valid target valid_with_voter.valid in
-    record {
-      voter = not-true (is_empty target.incoming) valid_with_voter.voter;
-      zero_voters = valid.zero_incoming;
-      zero_learners = grind (arith, has-union target.learners target.learners_next 0, valid.zero_learners, valid.zero_next);
-      apart = λ q here. grind (arith, has-union target.learners target.learners_next q, valid.learner_incoming q, valid.next_incoming q, here);
-    }
+incoming-are_wanted target valid_with_voter = grind (arith, ValidByMember-from_is_valid, not-true, has-union)
 
 pub entering-reaches : (c target : Configuration) → IsSingle c → IsValidWithVoter target → c.incoming ≡ target.outgoing → outcome c (entering_step c target) ≡ Ok target
 entering-reaches c target single valid_with_voter same =

@@ -1,5 +1,5 @@
 -- The plan is a run, of at most four steps.
-use Rattle.std.proofs.Common.{◌≡◌, ◌+◌, ◌≤◌, Bool, false, cond, ◌&&◌, List, [], ◌∷◌, ◌++◌, length, ap, ◌∙◌, inl, inr, arith}
+use Rattle.std.proofs.Common.{◌≡◌, ◌+◌, ◌≤◌, Bool, false, cond, ◌&&◌, List, [], ◌∷◌, ◌++◌, length, arith}
 use Rattle.std.specs.Prelude.{Ok, nat_le}
 use Rattle.std.proofs.lemmas.Bool.{and_left, and_right}
 use Rattle.quorum_sets.specs.Ids.{difference_count}
@@ -8,7 +8,6 @@ use Rattle.conf_change.specs.Outcome.{outcome, after_leave}
 use Rattle.conf_change.specs.declared.step.Step.{Step}
 use Rattle.conf_change.specs.declared.step.Step.TheVariants.{LeaveJoint}
 use Rattle.conf_change.proofs.Offered.{outcome-are_neighbours}
-use Rattle.conf_plan.specs.OnTheWay.{HasQuorumsOf}
 use Rattle.conf_plan.specs.Run.{IsValidWithVoter, IsRun}
 use Rattle.conf_plan.specs.Planned.{planned_from_single, planned}
 use Rattle.conf_plan.proofs.OnTheWay.Quorums.{planned-keeps_quorums}
@@ -16,8 +15,7 @@ use Rattle.conf_plan.proofs.Runs.Chains.{IsRun-from_IsRunWith}
 use Rattle.conf_plan.proofs.Runs.JointEnds.{is_joint-from_no_outgoing}
 
 pub planned-is_run : (now target : Configuration) → IsValidWithVoter now → IsValidWithVoter target → IsRun now (planned now target) target
-planned-is_run now target now_valid_with_voter valid_with_voter =
-    IsRun-from_IsRunWith (λ before step after. HasQuorumsOf now target after) now target (planned now target) (planned-keeps_quorums now target now_valid_with_voter valid_with_voter)
+planned-is_run now target now_valid_with_voter valid_with_voter = grind (arith, IsRun-from_IsRunWith, planned-keeps_quorums)
 
 -- ---- how long it is
 -- at most two steps, and one more into a joint configuration
@@ -47,15 +45,9 @@ planned-at_most_three now target one = rw one at (planned-length now target)
 -- ---- back over one step
 -- which does not lead from one joint configuration to another
 one_is_single : (before after : Configuration) (step : Step) → outcome before step ≡ Ok after → (is_joint after && is_joint before) ≡ false
-one_is_single before after step e =
-    elim (outcome-are_neighbours before after step e) [
-      | inl differ ↦ and_right (is_joint after) (is_joint before) (is_joint-from_no_outgoing before differ.before_single)
-      | inr (inl goes) ↦ and_right (is_joint after) (is_joint before) (is_joint-from_no_outgoing before goes.before_single)
-      | inr (inr leaves) ↦ and_left (is_joint after) (is_joint before) (is_joint-from_no_outgoing after leaves.after_single)
-    ]
+one_is_single before after step e = grind (arith, outcome-are_neighbours, and_right, is_joint-from_no_outgoing, and_left)
 
 pub undo_of_one-at_most_three : (before after : Configuration) (steps : List Step) → IsRun before steps after → length steps ≡ 1 → length (planned after before) ≤ 3
 undo_of_one-at_most_three before after [] run one = cc
-undo_of_one-at_most_three before after (step ∷ []) run one =
-    planned-at_most_three after before (one_is_single before after step (run.1 ∙ ap Ok run.2))
+undo_of_one-at_most_three before after (step ∷ []) run one = grind (arith, planned-at_most_three, one_is_single)
 undo_of_one-at_most_three before after (step ∷ next ∷ steps) run one = absurd (omega arith)

@@ -1,4 +1,5 @@
 -- The shapes of a path: what holds of each holds of the path.
+use Rattle.std.proofs.Common.{arith}
 use Rattle.std.proofs.Common.{◌≡◌, true, false, not, List, [], ◌∷◌, ◌++◌, refl, sym, ap, subst, ◌∙◌}
 use Rattle.std.proofs.lemmas.Bool.{cond_both, true≢false}
 use Rattle.quorum_sets.specs.Ids.{Ids}
@@ -27,8 +28,7 @@ other_set a b differs same = true≢false (sym (is_same_set-refl a) ∙ ap (is_s
 -- into a joint one, by its outgoing voters
 outgoing-reached : (c target : Configuration) → IsSingle c → IsValidWithVoter target → is_joint target ≡ true
     → configuration_after c (single_steps c target.outgoing (shared_members c target)) ≡ single_with target.outgoing (shared_members c target)
-outgoing-reached c target single valid_with_voter joint =
-    configuration_after-run c _ _ (single_steps-is_run c target.outgoing (shared_members c target) single (outgoing-are_wanted c target valid_with_voter joint))
+outgoing-reached c target single valid_with_voter joint = grind (arith, configuration_after-run, single_steps-is_run, outgoing-are_wanted)
 
 pub joint_steps-inserted : (c target : Configuration) → IsSingle c → IsValidWithVoter target → is_joint target ≡ true → is_same_set c.incoming target.outgoing ≡ false
     → joint_steps c target

@@ -1,7 +1,7 @@
 -- What holds along a run, and of runs one after another.
-use Rattle.std.proofs.Common.{◌≡◌, true, List, [], ◌∷◌, ◌++◌, refl, sym, ap, subst, ◌∙◌}
+use Rattle.std.proofs.Common.{arith}
+use Rattle.std.proofs.Common.{◌≡◌, true, List, [], ◌∷◌, ◌++◌, refl, sym, subst}
 use Rattle.std.specs.Prelude.{Ok}
-use Rattle.std.specs.Result.{result_unwrap_or}
 use Rattle.std.proofs.lemmas.Bool.{and_parts, and_from, or_left}
 use Rattle.conf_change.specs.Configuration.{Configuration, is_valid, has_voter, is_restorable}
 use Rattle.conf_change.specs.Outcome.{outcome}
@@ -50,5 +50,4 @@ IsRun-one a b step e = (b, e, λ i. b)
 -- the steps of a run lead to its end
 pub configuration_after-run : (before after : Configuration) (steps : List Step) → IsRun before steps after → configuration_after before steps ≡ after
 configuration_after-run before after [] run = run
-configuration_after-run before after (step ∷ steps) run =
-    ap (λ o. configuration_after (result_unwrap_or o before) steps) run.1 ∙ configuration_after-run run.0 after steps run.2
+configuration_after-run before after (step ∷ steps) run = grind (arith, configuration_after-run run.0 after steps run.2)

@@ -1,4 +1,5 @@
 -- The ends of a run: how it begins in a joint configuration, and how it ends in one.
+use Rattle.std.proofs.Common.{arith}
 use Rattle.std.proofs.Common.{◌≡◌, not, true, false, List, [], ◌∷◌, ◌++◌, refl, sym, ap, subst, ◌∙◌, inl, inr}
 use Rattle.std.specs.Prelude.{Ok}
 use Rattle.std.proofs.lemmas.Bool.{true≢false}
@@ -26,8 +27,7 @@ pub record LeavesFirst (Leads : Configuration → Step → Configuration → Typ
 pub LeavesFirst-from_chain : (Leads : Configuration → Step → Configuration → Type 0) → ((a b : Configuration) (step : Step) → Leads a step b → Gives a step b)
     → (now target : Configuration) (steps : List Step) → is_joint now ≡ true → (now ≡ target → ⊥) → IsChain Leads now steps target → LeavesFirst Leads now target steps
 LeavesFirst-from_chain Leads gives now target [] joint differs run = absurd (differs run)
-LeavesFirst-from_chain Leads gives now target (Simple changes ∷ steps) joint differs run =
-    is_joint-not_both now joint (SimpleTaken-from_outcome now run.0 changes (gives _ _ _ run.1)).single
+LeavesFirst-from_chain Leads gives now target (Simple changes ∷ steps) joint differs run = grind (arith, is_joint-not_both, SimpleTaken-from_outcome, run)
 LeavesFirst-from_chain Leads gives now target (EnterJoint auto_leave changes ∷ steps) joint differs run =
     is_joint-not_both now joint (EnterTaken-from_outcome now run.0 auto_leave changes (gives _ _ _ run.1)).single
 LeavesFirst-from_chain Leads gives now target (LeaveJoint ∷ steps) joint differs run =

@@ -5,7 +5,7 @@ use Rattle.std.specs.FinMap as finite
 use Rattle.std.proofs.lemmas.Bool.{true≢false, and_parts}
 use Rattle.quorum_sets.specs.Ids.{has}
 use Rattle.conf_change.specs.Changer.{ChangerState, IsSound, Accepts}
-use Rattle.conf_change.specs.Configuration.{Configuration, is_member, is_valid, is_restorable}
+use Rattle.conf_change.specs.Configuration.{Configuration, is_member, is_restorable}
 use Rattle.conf_change.specs.Progress.{fresh_next_of, fresh_progress, with_mark, is_replaced, keeps_progress}
 use Rattle.conf_change.specs.declared.progress.Progress.{Progress}
 use Rattle.conf_change.specs.declared.step.Step.{Step}
@@ -55,21 +55,10 @@ same_entry : (a b : Progress) → ◌≡◌ {A = Option Progress} (Some a) (Some
 same_entry a b e = cc
 
 kept_on : (a b c : ChangerState) (q : ℕ) → HasKeptProgress a b q → HasKeptProgress b c q → HasKeptProgress a c q
-kept_on a b c q first rest =
-    let same = same_entry rest.had first.kept (sym rest.entry_before ∙ first.entry_after) in
-    record {
-      had = first.had;
-      kept = rest.kept;
-      entry_before = first.entry_before;
-      entry_after = rest.entry_after;
-      same_match = rest.same_match ∙ ap (λ (p : Progress). p.matched) same ∙ first.same_match;
-      same_next = rest.same_next ∙ ap (λ (p : Progress). p.next) same ∙ first.same_next;
-    }
+kept_on a b c q first rest = grind (arith, same_entry)
 
 kept_at_once : (a : ChangerState) (q : ℕ) → IsSound a.tracker → is_member a.tracker.config q ≡ true → HasKeptProgress a a q
-kept_at_once a q sound member =
-    let had = entry a q sound member in
-    record { had = had.0; kept = had.0; entry_before = had.1; entry_after = had.1; same_match = refl; same_next = refl }
+kept_at_once a q sound member = grind (arith, entry)
 
 pub takes-is_sound : (a b : ChangerState) (steps : List Step) → IsSound a.tracker → Takes a steps b → IsSound b.tracker
 takes-is_sound a b [] sound taken = let P : ChangerState → Type 0 = λ s. IsSound s.tracker in subst P taken sound
@@ -77,9 +66,7 @@ takes-is_sound a b (step ∷ steps) sound taken = takes-is_sound taken.0 b steps
 
 pub takes-keep : (a b : ChangerState) (steps : List Step) (target : Configuration) (q : ℕ) → IsSound a.tracker → Takes a steps b
     → Preserves a.tracker.config steps target q → HasKeptProgress a b q
-takes-keep a b [] target q sound taken preserves =
-    let P : ChangerState → Type 0 = λ s. HasKeptProgress a s q in
-    subst P taken (kept_at_once a q sound preserves.0)
+takes-keep a b [] target q sound taken preserves = grind (arith, kept_at_once)
 takes-keep a b (step ∷ steps) target q sound taken preserves =
     let same : preserves.1.0 ≡ taken.0.tracker.config = Ok-same _ _ (sym preserves.1.1.0 ∙ taken.1.configuration) in
     let K : Configuration → Type 0 = λ c. keeps_progress a.tracker.config step c q ≡ true in
@@ -91,17 +78,8 @@ takes-keep a b (step ∷ steps) target q sound taken preserves =
 -- ---- a plan that was made for the changer
 -- where there is a member there is a voter
 member-is_valid : (c : Configuration) (q : ℕ) → is_restorable c ≡ true → is_member c q ≡ true → IsValidWithVoter c
-member-is_valid c q ok member =
-    let both = and_parts (is_valid c) _ ok in
-    record {
-      valid = both.0;
-      voter = grind (arith, both.1, member, has-none_in_empty c.incoming, has-none_in_empty c.outgoing, has-none_in_empty c.learners);
-    }
+member-is_valid c q ok member = grind (arith, and_parts, has-none_in_empty)
 
 pub takes-keep_planned : (a b : ChangerState) (steps other : List Step) (target : Configuration) (q : ℕ) → IsSound a.tracker → Takes a steps b
     → steps ≡ planned a.tracker.config target → Preserves a.tracker.config other target q → HasKeptProgress a b q
-takes-keep_planned a b steps other target q sound taken made preserves =
-    let now = a.tracker.config in
-    let now_valid_with_voter = member-is_valid now q sound.restorable preserves.0 in
-    let valid_with_voter = run-is_valid now target other now_valid_with_voter (IsRun-from_IsRunWith _ now target other preserves.1) in
-    takes-keep a b steps target q sound taken (rw made (planned-preserving now target now_valid_with_voter valid_with_voter other q preserves))
+takes-keep_planned a b steps other target q sound taken made preserves = grind (arith, member-is_valid, run-is_valid, IsRun-from_IsRunWith, takes-keep, planned-preserving)

@@ -56,17 +56,12 @@ run-same_part before after (step ∷ steps) q run none =
 
 -- ---- an id that comes in
 outgoing_from : (c after : Configuration) (step : Step) (q : ℕ) → outcome c step ≡ Ok after → has after.outgoing q ≡ true → (has c.incoming q || has c.outgoing q) ≡ true
-outgoing_from c after (Simple changes) q e is =
-    or_right (has c.incoming q) _ (ap (λ (d : Configuration). has d.outgoing q) (SimpleTaken-from_outcome c after changes e).made ∙ is)
-outgoing_from c after (EnterJoint auto_leave changes) q e is =
-    or_left _ (has c.outgoing q) (ap (λ (d : Configuration). has d.outgoing q) (EnterTaken-from_outcome c after auto_leave changes e).made ∙ is)
-outgoing_from c after LeaveJoint q e is =
-    absurd (true≢false (sym is ∙ ap (λ (d : Configuration). has d.outgoing q) (sym (LeaveTaken-from_outcome c after e).made) ∙ has-no_ids q))
+outgoing_from c after (Simple changes) q e is = grind (arith, or_right, SimpleTaken-from_outcome)
+outgoing_from c after (EnterJoint auto_leave changes) q e is = grind (arith, or_left, EnterTaken-from_outcome)
+outgoing_from c after LeaveJoint q e is = grind (arith, true≢false, LeaveTaken-from_outcome, has-no_ids)
 
 outcome-is_in : (c after : Configuration) (step : Step) (q : ℕ) → outcome c step ≡ Ok after → count_by (names q) (changes_of step) ≡ 0 → is_in after q ≡ true → is_in c q ≡ true
-outcome-is_in c after step q e none is =
-    let same = outcome-same_part c after step q e none in
-    grind (arith, same.voter, same.learner, outgoing_from c after step q e, is)
+outcome-is_in c after step q e none is = grind (arith, outcome-same_part, outgoing_from)
 
 pub run-is_in : (before after : Configuration) (steps : List Step) (q : ℕ) → IsRun before steps after → is_in after q ≡ true → (is_in before q ≡ true) ⊎ (0 < times_named q steps)
 run-is_in before after [] q run is = inl (ap (λ c. is_in c q) run ∙ is)

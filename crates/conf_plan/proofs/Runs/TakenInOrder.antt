@@ -4,7 +4,7 @@ use Rattle.std.specs.Prelude.{Ok}
 use Rattle.std.proofs.lemmas.List.{take-append-le}
 use Rattle.std.proofs.lemmas.Option.{slice_get_within}
 use Rattle.conf_change.specs.Configuration.{Configuration}
-use Rattle.conf_change.specs.Outcome.{Outcome, outcome}
+use Rattle.conf_change.specs.Outcome.{Outcome}
 use Rattle.conf_change.specs.Changer.{ChangerState, Accepts, Refuses}
 use Rattle.conf_change.specs.declared.refused.Refused.{Refused}
 use Rattle.conf_change.specs.declared.refused.Refused.TheVariants.{NoMemory}
@@ -30,9 +30,7 @@ Takes-to_target a b (x ∷ xs) target t run =
 -- along a run nothing is refused but for want of memory
 pub Refuses-for_memory : (a b : ChangerState) (xs ys : List Step) (x : Step) (why : Refused) (target : Configuration)
     → Takes a xs b → Refuses b x why → IsRun a.tracker.config (xs ++ x ∷ ys) target → why ≡ NoMemory
-Refuses-for_memory a b [] ys x why target t refuses run =
-    let accepted = sym (ap (λ s. outcome s.tracker.config x) t) ∙ run.1 in
-    grind (arith, accepted, refuses)
+Refuses-for_memory a b [] ys x why target t refuses run = grind arith
 Refuses-for_memory a b (y ∷ xs) ys x why target t refuses run =
     let same : run.0 ≡ t.0.tracker.config = Ok-same _ _ (sym run.1 ∙ t.1.configuration) in
     let P : Configuration → Type 0 = λ c. IsRun c (xs ++ x ∷ ys) target in
@@ -56,9 +54,7 @@ stops_after before next after step steps number why accepts stop = go number sto
 
 pub StopsAt-rest : (before between after : ChangerState) (first rest : List Step) (number : ℕ) (why : Refused) → Takes before first between → StopsAt between rest number why after
     → StopsAt before (first ++ rest) (length first + number) why after
-StopsAt-rest before between after [] rest number why taken stop =
-    let same : number ≡ length {A = Step} [] + number = omega arith in
-    subst (λ n. StopsAt before rest n why after) same (subst (λ s. StopsAt s rest number why after) (sym taken) stop)
+StopsAt-rest before between after [] rest number why taken stop = grind (arith, length)
 StopsAt-rest before between after (step ∷ first) rest number why taken stop =
     let same : length first + number + 1 ≡ length (step ∷ first) + number = omega arith in
     subst (λ n. StopsAt before (step ∷ first ++ rest) n why after) same

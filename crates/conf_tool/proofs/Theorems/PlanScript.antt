@@ -119,13 +119,10 @@ note-read (Some down) now steps = by (stalls now steps down)
     by false = record { given = tt; keys = refl; short = refl }
 
 script-read : DirectiveIsWellFormed → (down : Option Ids) (now : Configuration) (steps : List Step) → CanBeRead (script_items (stall_note down now steps) now steps)
-script-read given down now steps =
-    read-append (note_items (stall_note down now steps)) (restore_directive now ∷ step_items steps) (note-read down now steps)
-    (read-append (restore_directive now ∷ []) (step_items steps) (restore-read given now) (steps-read given steps))
+script-read given down now steps = grind (arith, read-append, note-read, restore-read, steps-read)
 
 pair-read : DirectiveIsWellFormed → (options : PlanOptions) (pair : Pair) → CanBeRead (pair_items options pair)
-pair-read given options pair =
-    path_between-cases options pair (λ path. CanBeRead (items_with options.down pair.current path)) (script-read given options.down pair.current) (comment-read _ refl) (comment-read _ refl) (comment-read _ refl)
+pair-read given options pair = grind (arith, path_between-cases, script-read, comment-read)
 
 blank-read : CanBeRead (Blank ([] ∷ []) ∷ [])
 blank-read = record { given = (record { number = 1; lines = [] ∷ []; are_lines = refl; first = Blank ([] ∷ []); is_first = refl; is = refl }, tt); keys = refl; short = refl }
@@ -138,9 +135,7 @@ gap-read (Ok (step ∷ steps)) = record { given = tt; keys = refl; short = refl 
 pub all-read : DirectiveIsWellFormed → (options : PlanOptions) (pairs : List Pair) → CanBeRead (all_items options pairs)
 all-read given options [] = record { given = tt; keys = refl; short = refl }
 all-read given options (pair ∷ []) = pair-read given options pair
-all-read given options (pair ∷ next ∷ pairs) =
-    read-append (pair_items options pair ++ gap options pair) (all_items options (next ∷ pairs))
-    (read-append (pair_items options pair) (gap options pair) (pair-read given options pair) (gap-read (path_between options pair))) (all-read given options (next ∷ pairs))
+all-read given options (pair ∷ next ∷ pairs) = grind (arith, read-append, pair-read, gap-read, all-read given options (next ∷ pairs))
 
 -- ---- what is written of a pair
 -- the text of the items of a pair, as a script of its own
@@ -240,9 +235,7 @@ last-step holds session items step = after-directive holds session items _ (step
 steps-then : ActualIsValid → (session : SessionState) (items : List Item) (step : Step) (steps : List Step) →
     own_text session (items ++ map step_directive (step ∷ steps)) ++ newline ≡ answered_text session (items ++ map step_directive (step ∷ steps))
 steps-then holds session items step [] = last-step holds session items step
-steps-then holds session items step (next ∷ steps) =
-    subst (λ all. own_text session all ++ newline ≡ answered_text session all) (append_assoc items (step_directive step ∷ []) (map step_directive (next ∷ steps)))
-    (steps-then holds session (items ++ step_directive step ∷ []) next steps)
+steps-then holds session items step (next ∷ steps) = grind (arith, append_assoc, steps-then holds session (items ++ step_directive step ∷ []) next steps)
 
 -- so the empty line after the script of a pair is that after its items
 pair-then : ActualIsValid → (options : PlanOptions) (session : SessionState) (pair : Pair) → own_text session (pair_items options pair) ++ newline ≡ answered_text session (pair_items options pair ++ gap options pair)
@@ -281,9 +274,7 @@ script-long session None now steps more = tt
 script-long session (Some note) now steps more = tt
 
 pair-long : (options : PlanOptions) (session : SessionState) (pair : Pair) (more : List Item) → IsLong (answered_text session (pair_items options pair ++ more))
-pair-long options session pair more =
-    path_between-cases options pair (λ path. IsLong (answered_text session (items_with options.down pair.current path ++ more)))
-    (λ steps. script-long session (stall_note options.down pair.current steps) pair.current steps more) tt tt tt
+pair-long options session pair more = grind (arith, path_between-cases, script-long)
 
 all-long : (options : PlanOptions) (session : SessionState) (pair : Pair) (pairs : List Pair) → IsLong (answered_text session (all_items options (pair ∷ pairs)))
 all-long options session pair [] = subst (λ items. IsLong (answered_text session items)) (append-nil (pair_items options pair)) (pair-long options session pair [])
@@ -333,5 +324,4 @@ texts_of_pair-script options from to script = by (pair_of_texts options from to)
 pub script-clean : WrittenScript → DirectiveIsWellFormed → ActualIsValid → (options : PlanOptions) (pairs : List Pair) (text : List ℕ) →
     text ≡ rewritten_text (answered_entries default_session (all_items options pairs)) → length text ≤ longest_input → (checked text 100 One).outcome ≡ Ok Clean
 unfolding default_session
-script-clean written given holds options pairs text is fits =
-    subst (λ t. length t ≤ longest_input → (checked t 100 One).outcome ≡ Ok Clean) (sym is) (written-clean written holds 100 One (all_items options pairs) (all-read given options pairs)) fits
+script-clean written given holds options pairs text is fits = grind (arith, written-clean, all-read)

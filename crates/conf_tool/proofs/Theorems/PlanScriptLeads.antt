@@ -5,8 +5,8 @@ use Rattle.std.specs.List.{All}
 use Rattle.std.proofs.lemmas.List.{append-nil}
 use Rattle.std.proofs.lemmas.List.Elements.{All-head, All-tail}
 use Rattle.quorum_sets.specs.Ids.{Ids}
-use Rattle.ascii_text.specs.Lines.{newline, text_of}
-use Rattle.ascii_text.specs.WhiteSpace.{trimmed, without_leading_space}
+use Rattle.ascii_text.specs.Lines.{text_of}
+use Rattle.ascii_text.specs.WhiteSpace.{trimmed}
 use Rattle.ascii_text.proofs.Offered.{ends-before_blank}
 use Rattle.dd_file.specs.DirectiveText.{DirectiveText}
 use Rattle.dd_file.specs.Position.{longest_input}
@@ -36,7 +36,7 @@ use Rattle.conf_tool.specs.Outputs.{planned_output, planned_texts}
 use Rattle.conf_tool.specs.PlanAnswer.{path_between}
 use Rattle.conf_tool.specs.PlanScript.{note_items, restore_directive, script_items, default_session}
 use Rattle.conf_tool.specs.Reports.{answered_entries}
-use Rattle.conf_tool.specs.UndoScript.{step_items, TakesSteps}
+use Rattle.conf_tool.specs.UndoScript.{TakesSteps}
 use Rattle.conf_tool.specs.Pairs.{Pair}
 use Rattle.conf_tool.specs.declared.plan_options.PlanOptions.{PlanOptions}
 use Rattle.conf_tool.proofs.Theorems.PairByPair.{AreValid, HoldsOfPairs, all-pairs, pair-read, pair-valid, texts-pairs}
@@ -67,8 +67,7 @@ trimmed-line : (saved : ConfStateLists) → trimmed (conf_state_text saved) ≡ 
 trimmed-line saved = trimmed-bracketed_line (spaced_numbers saved.voters) (spaced_numbers saved.voters_outgoing) (spaced_numbers saved.learners) (spaced_numbers saved.learners_next) saved.auto_leave
 
 input-line : (saved : ConfStateLists) → trimmed (text_of (conf_state_text saved ∷ [])) ≡ conf_state_text saved
-input-line saved =
-    ap trimmed (append-nil (conf_state_text saved ++ newline)) ∙ ap without_leading_space (ends-before_blank (conf_state_text saved) newline refl) ∙ trimmed-line saved
+input-line saved = grind (arith, append-nil, ends-before_blank, trimmed-line)
 
 line-read : (c : Configuration) → HasU64Lists c → conf_state_in (trimmed (text_of (conf_state_text (lists_of c) ∷ []))) ≡ Some (lists_of c)
 line-read c small =
@@ -116,11 +115,7 @@ directives-note : (note : Option (List ℕ)) → directives_of (note_items note)
 directives-note note = grind arith
 
 directives-script : (note : Option (List ℕ)) (now : Configuration) (steps : List Step) → directives_of (script_items note now steps) ≡ restore_for now ∷ map directive_for steps
-directives-script note now steps =
-    directives-append (note_items note) (restore_directive now ∷ step_items steps)
-    ∙ ap (λ ds. ds ++ directives_of (restore_directive now ∷ step_items steps)) (directives-note note)
-    ∙ ap (λ item. directives_of (item ∷ step_items steps)) (restore-is now)
-    ∙ ap (λ ds. restore_for now ∷ ds) (directives-items steps)
+directives-script _ now steps = grind (arith, directives-append, directives-note, restore-is, directives-items)
 
 directives-pair : (down : Option Ids) (now : Configuration) (path : Answered) → directives_of (items_with down now path) ≡ directives_with now path
 directives-pair down now (Err why) = refl
@@ -132,13 +127,7 @@ directives-gap path = grind arith
 directives-all : (options : PlanOptions) (pairs : List Pair) → directives_of (all_items options pairs) ≡ own_directives options pairs
 directives-all options [] = refl
 directives-all options (pair ∷ []) = directives-pair options.down pair.current (path_between options pair) ∙ sym (append-nil (directives_with pair.current (path_between options pair)))
-directives-all options (pair ∷ next ∷ pairs) =
-    let path = path_between options pair in
-    let items = items_with options.down pair.current path in
-    directives-append (items ++ gap_with path) (all_items options (next ∷ pairs))
-    ∙ ap (λ ds. ds ++ directives_of (all_items options (next ∷ pairs)))
-    (directives-append items (gap_with path) ∙ ap (λ ds. directives_of items ++ ds) (directives-gap path) ∙ append-nil (directives_of items) ∙ directives-pair options.down pair.current path)
-    ∙ ap (λ ds. directives_with pair.current path ++ ds) (directives-all options (next ∷ pairs))
+directives-all options (pair ∷ next ∷ pairs) = grind (arith, directives-append, directives-gap, append-nil, directives-pair, directives-all options (next ∷ pairs))
 
 -- ---- they lead through the pairs
 -- what is known of a pair that was read

@@ -15,6 +15,7 @@ use super::handler::{Handler, Outcome};
 use crate::line_reply::answer_line;
 use crate::options::Options;
 use crate::tool_fault::ToolFault;
+use ascii_text::append::append;
 use conf_change::Config;
 use conf_session::SessionIds;
 use dd_file::fault::FileFault;
@@ -56,6 +57,7 @@ impl Handler<Line> for LineByLine {
     #[inline(always)]
     fn answer(&mut self, line: &Line, text: &mut Vec<u8>) -> Result<(), ToolFault> {
         answer_line(&mut self.config, &mut self.spare, line.as_slice(), text)?;
+        append(text, b"\n")?;
         Ok(())
     }
 

@@ -13,12 +13,11 @@
 //! Blank lines and comments are skipped, and still counted in the line numbers of errors. Between the replies to two
 //! pairs comes an empty line, but none in JSON. If the replies are scripts, one session runs all of them, so that
 //! together they are one script. The first line with an error ends the run. The form of the input is own.
-ghost use Rattle.std.specs.Prelude.{◌≡◌, ℕ, ◌+◌, ◌<◌, ◌^◌, ◌||◌, ◌++◌, [], None, Ok, true, false, nat_lt, IfOk, IfErr, OnOk, IsOkUnless, if◌then◌else◌};
+ghost use Rattle.std.specs.Prelude.{◌≡◌, ℕ, ◌+◌, ◌<◌, ◌^◌, ◌||◌, ◌++◌, None, Ok, true, false, IfOk, IfErr, OnOk, IsOkUnless};
 ghost use Rattle.conf_change.specs.Configuration.{is_valid};
 ghost use Rattle.conf_tool.specs.Outputs.{planned_texts, pair_text, separator, worse_of};
 ghost use Rattle.conf_tool.specs.Pairs.{pair_between, pair_of_texts, IsFaultOf};
 ghost use Rattle.conf_tool.specs.PlanAnswer.{plan_status, session_between};
-ghost use Rattle.conf_tool.specs.PlanScript.{default_session};
 ghost use Rattle.conf_tool.specs.Run.{Means, is_read_failure, is_write_failure};
 ghost use Rattle.conf_tool.specs.declared.tool_fault.ToolFault.TheVariants.{NoMemory as OutOfMemory};
 
@@ -93,15 +92,10 @@ fn pair_answer(
         (λ status. status ≡ plan_status options.now (pair_between current.now target.now)) }
     ensures memory { IsOkUnless result OutOfMemory }
 {
-    append(text, separator_before(number, options.output))?;
+    if number > 1 {
+        append(text, separator(options.output))?;
+    }
     plan_answer(alloc, text, options, session, number, current, target)
-}
-
-// The text before the reply to the pair with this number: nothing before the first.
-fn separator_before(number: u64, output: PlanOutput) -> &'static [u8]
-    ensures { result.now ≡ (if nat_lt 1 number then separator output else []) }
-{
-    if number > 1 { separator(output) } else { b"" }
 }
 
 // The text between the replies to two pairs: an empty line, but none in JSON, where each object is a line.
@@ -224,26 +218,6 @@ fn texts_answer(
 {
     let current = current_of(alloc, options, Origin::From, texts.from.as_bytes())?;
     let target = target_of(alloc, options, &current, Origin::To, texts.to.as_bytes())?;
-    first_answer(alloc, text, options, &current, &target)
-}
-
-// Appends the reply to the first pair of a run, and returns its status.
-fn first_answer(
-    alloc: Global,
-    text: &mut Vec<u8>,
-    options: &PlanOptions,
-    current: &Current,
-    target: &Config<SessionIds>,
-) -> Result<Status, ToolFault>
-    requires valid_now { is_valid current.now.config ≡ true }
-    requires valid_target { is_valid target.now ≡ true }
-    ensures text { OnOk result (text.new.items
-        ≡ text.old.items ++ pair_text options.now default_session 1
-        (pair_between current.now target.now)) }
-    ensures status { IfOk result
-        (λ status. status ≡ plan_status options.now (pair_between current.now target.now)) }
-    ensures memory { IsOkUnless result OutOfMemory }
-{
     let mut session = default_session(alloc)?;
-    pair_answer(alloc, text, options, &mut session, 1, current, target)
+    pair_answer(alloc, text, options, &mut session, 1, &current, &target)
 }

@@ -20,9 +20,7 @@ use crate::tool_fault::ToolFault;
 use conf_session::Session;
 use dd_file::fault::FileFault;
 use dd_file::item::Item;
-use dd_file::rewriter::{
-    append_entry, count_newlines, hold_newline, last_newline, pending_newline,
-};
+use dd_file::rewriter::{append_entry, count_newlines, hold_newline, last_newline};
 use quorum_sets::NoMemory;
 use std::alloc::Global;
 
@@ -80,7 +78,9 @@ impl Handler<Item> for Rewriting {
     // there, so it is left to the next reply.
     #[inline(always)]
     fn answer(&mut self, item: &Item, text: &mut Vec<u8>) -> Result<(), ToolFault> {
-        text.extend_from_slice(pending_newline(self.newlines))?;
+        if self.newlines > 0 {
+            text.extend_from_slice(b"\n")?;
+        }
         let start = text.len();
         rewrite_item(&mut self.session, item, text)?;
         self.newlines = count_newlines(self.newlines, &text.as_slice()[start..]);

@@ -27,25 +27,10 @@ pub(super) fn append_steps(
         return append_comment(alloc, session, b"nothing to do", text);
     }
     for step in steps {
-        append_step(alloc, session, step, text)?;
+        let directive = step_directive(alloc, step)?;
+        rewrite_item(session, &directive, text)?;
     }
     Ok(())
-}
-
-// Runs and appends the directive of a step.
-fn append_step(
-    alloc: Global,
-    session: &mut Session,
-    step: &Step,
-    text: &mut Vec<u8>,
-) -> Result<(), NoMemory>
-    ensures session { OnOk result (session.new
-        ≡ session_after_all session.old (spec.step_directive step.now ∷ [])) }
-    ensures text { OnOk result (text.new.items
-        ≡ text.old.items ++ answered_text session.old (spec.step_directive step.now ∷ [])) }
-{
-    let directive = step_directive(alloc, step)?;
-    rewrite_item(session, &directive, text)
 }
 
 /// Appends a comment with a text.

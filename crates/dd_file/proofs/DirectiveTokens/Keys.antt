@@ -59,9 +59,7 @@ command_of-keys text command is = at (is_name name) (arguments_of name.rest) ref
 
   at : (c : Bool) (found : Option (List ArgumentText)) → arguments_of name.rest ≡ found →
       cond c (option_map (λ arguments. record { name = name.value; arguments = arguments }) found) None ≡ Some command → has_keys command.arguments ≡ true
-  at true (Some arguments) e k =
-      let same : record { name = name.value; arguments = arguments } ≡ command = cc in
-      ap (λ (c : CommandText). has_keys c.arguments) (sym same) ∙ arguments_of-keys name.rest arguments e
+  at true (Some arguments) e k = grind (arith, name, arguments_of-keys)
   at true None e k = cc
   at false found e k = cc
 

@@ -84,26 +84,6 @@ module _ {R : Type 0} {remaining : R → Option (List ℕ)} {has_failed : R → 
     at None a consumed agrees = absurd agrees
 
   module _ {A : Type 0} {next : Position → List ℕ → Next A} {IsFault : Position → FileFault → Type 0} (grammar : IsGrammar next IsFault) (old : ReaderState) (faultless : old.fault ≡ None) where
-    -- the end was reached before
-    pub over-stays : (before : R) → old.is_ended ≡ true → old.buffered ≡ [] → old.position.lines ≤ longest_input → old.position.bytes ≤ longest_input → ReadsOn remaining has_failed next IsFault old old before before (Ok None)
-    over-stays before was buffered counted limit = record {
-      answers = λ _ input more agrees. inr (ap (next old.position) (at (remaining before) input more agrees) ∙ grammar.over old.position limit);
-      moves = record { consumed = ([], keeps (remaining before)); met = inl; stays = λ e. (refl, e) };
-      forward = tt;
-      counted = counted;
-      lookahead = rw buffered (omega arith);
-      finished = λ _. (record { fault = faultless; buffered = buffered; ended = was }, refl);
-      over = λ _. (refl, refl, refl);
-      open_end = faultless;
-      fault = tt;
-      again = rw faultless tt;
-      kind = λ _. tt;
-      read = λ _. sym (or-false (has_failed before));
-    } where
-      at : (known : Option (List ℕ)) (input more : List ℕ) → Agrees old known known input more → input ≡ []
-      at (Some bytes) input more agrees = agrees.whole ∙ ap (λ bytes. (bytes ++ agrees.bytes_read) ++ more) buffered ∙ agrees.met was
-      at None input more agrees = absurd agrees
-
     module _ (unended : old.is_ended ≡ false) (now : ReaderState) (before : R) where
       -- the answer is what comes next after what is buffered, whatever more comes
       answered : (after : R) (new : ReaderState) (result : Result (Option A) FileFault) → Filled remaining has_failed old now before after → (new.is_ended ≡ true → IsAtEnd (remaining after)) →

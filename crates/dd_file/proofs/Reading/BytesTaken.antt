@@ -3,7 +3,7 @@ use Rattle.std.proofs.Common.{◌≡◌, ℕ, zero, suc, ◌+◌, ◌-◌, ◌<�
 use Rattle.std.specs.Prelude.{Option, Some, None, Result, Ok, Err}
 use Rattle.std.specs.List.{concat}
 use Rattle.std.proofs.lemmas.List.{length-append, length-drop}
-use Rattle.ascii_text.specs.Lines.{first_len, full_lines, line_of}
+use Rattle.ascii_text.specs.Lines.{full_lines, line_of}
 use Rattle.dd_file.specs.Script.{FirstItem, NoItem, Ended, Open, result_of, first_of, first_line_of, at_line}
 use Rattle.dd_file.specs.Position.{Position, longest_input}
 use Rattle.dd_file.specs.Grammar.{next_line, next_item, from_first_item, with_count, at_end, is_too_long, full_lines_within}
@@ -22,11 +22,7 @@ use Rattle.dd_file.proofs.ScriptGrammar.MoreLines.{fewest, first_of-left, first_
 -- this many full lines, at least one, have a byte
 full_lines-some : (count : ℕ) (bytes : List ℕ) → 0 < count → 0 < length bytes → 0 < length (concat (take count (full_lines bytes)))
 full_lines-some zero bytes some has = absurd (omega (arith, some))
-full_lines-some (suc count) bytes some has =
-    let first = first_len-some bytes has in
-    let len = length-first bytes in
-    let parts = length-append (take (first_len bytes) bytes) (concat (take count (full_lines (drop (first_len bytes) bytes)))) in
-    rw (full_lines-first bytes has) (omega (arith, first, len, parts))
+full_lines-some (suc count) bytes some has = grind (arith, first_len-some, length-first, length-append, full_lines-first)
 
 drop-shorter : (consumed : ℕ) (bytes : List ℕ) → 0 < consumed → 0 < length bytes → length (drop consumed bytes) < length bytes
 drop-shorter consumed bytes some has = simp length-drop (omega (arith, some, has))

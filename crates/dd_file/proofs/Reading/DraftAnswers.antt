@@ -58,12 +58,12 @@ module _ {A D : Type 0} {first : List (List ℕ) → FirstItem A} {begun : D →
   draft-first scan bytes d open_end = ap first (sym (append-nil (lines_of d.whole))) ∙ sym (d.first_item []) ∙ (known draft d.fits).open_end open_end
 
   -- no item ends in what is buffered
-  pub open-buffered : (scan : Scan) (state : ReaderState) → DraftOf first begun Fits draft scan (within_limit state) → (begun draft).is_done ≡ false → scan.bytes + scan.searched ≡ length (within_limit state) → IsFirstBuffered first state → ⊥
-  open-buffered scan state d open_end searched buffered =
-      let bytes : within_limit state ≡ state.buffered = take_all (longest_input - state.position.bytes) state.buffered (omega (arith, buffered.limit)) in
-      let lines : whole_lines (within_limit state) ≡ lines_of d.whole = ap whole_lines d.is ∙ ap (map line_of) (whole-lines d.whole d.rest d.ends (none-in d.rest (draft-clear d searched))) in
-      let none : is_first_buffered first (within_limit state) ≡ false = ap (λ ls. is_ended (first ls)) lines ∙ ap is_ended (draft-first scan (within_limit state) d open_end) ∙ at (begun draft).result in
-      let enough : is_first_buffered first (within_limit state) ≡ true = ap (is_first_buffered first) bytes ∙ buffered.enough in
+  pub open-buffered : (scan : Scan) (state : ReaderState) (bytes : List ℕ) → bytes ≡ within_limit state → DraftOf first begun Fits draft scan bytes → (begun draft).is_done ≡ false → scan.bytes + scan.searched ≡ length bytes → IsFirstBuffered first state → ⊥
+  open-buffered scan state bytes same d open_end searched buffered =
+      let all : bytes ≡ state.buffered = same ∙ take_all (longest_input - state.position.bytes) state.buffered (omega (arith, buffered.limit)) in
+      let lines : whole_lines bytes ≡ lines_of d.whole = ap whole_lines d.is ∙ ap (map line_of) (whole-lines d.whole d.rest d.ends (none-in d.rest (draft-clear d searched))) in
+      let none : is_first_buffered first bytes ≡ false = ap (λ ls. is_ended (first ls)) lines ∙ ap is_ended (draft-first scan bytes d open_end) ∙ at (begun draft).result in
+      let enough : is_first_buffered first bytes ≡ true = ap (is_first_buffered first) all ∙ buffered.enough in
       let bad = sym none ∙ enough in cc where
         at : (r : Option (Result A SyntaxFault)) → is_ended (opened r) ≡ false
         at r = grind arith

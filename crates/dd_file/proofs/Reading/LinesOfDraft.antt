@@ -1,5 +1,5 @@
 -- A draft that gets the lines of buffered bytes one after another.
-use Rattle.std.proofs.Common.{◌≡◌, ℕ, ◌+◌, ◌-◌, ◌≤◌, ◌<◌, true, List, [], ◌∷◌, ◌++◌, length, take, drop, map, sym, ◌∙◌, ap, subst, arith}
+use Rattle.std.proofs.Common.{◌≡◌, ℕ, ◌+◌, ◌-◌, ◌≤◌, ◌<◌, true, List, [], ◌∷◌, ◌++◌, length, take, drop, sym, ◌∙◌, ap, subst, arith}
 use Rattle.std.proofs.lemmas.List.{append_assoc, append-nil, length-append, map-append, take-append-drop, nil_from_length}
 use Rattle.std.proofs.Math.Seq.{take-append-add, drop-append_seam}
 use Rattle.ascii_text.specs.Lines.{first_len, full_lines, line_of, lines_of, ends_in_newline}
@@ -18,13 +18,7 @@ whole-append xs (y ∷ ys) h = whole-after xs y ys ∙ whole-text (y ∷ ys) h
 module _ {A D : Type 0} {first : List (List ℕ) → FirstItem A} {begun : D → BegunItem A} {Fits : D → Type 0} {draft : D} {scan : Scan} {bytes : List ℕ} (d : DraftOf first begun Fits draft scan bytes) where
   -- the lines and the bytes that were searched are there
   pub draft-bound : (scan.lines ≤ scan.bytes) × (scan.bytes + scan.searched ≤ length bytes)
-  draft-bound =
-      let few = full_lines-length d.whole in
-      let count = d.count in
-      let consumed = d.consumed in
-      let within = d.searched.within in
-      let len : length bytes ≡ length d.whole + length d.rest = ap length d.is ∙ length-append d.whole d.rest in
-      (omega (arith, few, count, consumed), omega (arith, consumed, within, len))
+  draft-bound = grind (arith, full_lines-length, length-append)
 
   pub draft-rest : drop scan.bytes bytes ≡ d.rest
   draft-rest = ap (λ n. drop n bytes) d.consumed ∙ ap (drop (length d.whole)) d.is ∙ drop-append_seam d.whole d.rest
@@ -52,9 +46,7 @@ module _ {A D : Type 0} {first : List (List ℕ) → FirstItem A} {begun : D →
 
   first-more : (next : D) (full_line : List ℕ) → first_len full_line ≡ length full_line → 0 < length full_line → Adds (begun draft) (line_of full_line) (begun next) → (more : List (List ℕ)) →
       (begun next).first_with more ≡ first (lines_of (d.whole ++ full_line) ++ more)
-  first-more next full_line one some adds more =
-      adds more ∙ d.first_item (line_of full_line ∷ more) ∙ ap first (sym (append_assoc (lines_of d.whole) (line_of full_line ∷ []) more))
-      ∙ ap (λ ls. first (ls ++ more)) (sym (ap (map line_of) (lines-more full_line one some) ∙ map-append line_of (full_lines d.whole) (full_line ∷ [])))
+  first-more next full_line one some adds more = grind (arith, append_assoc, lines-more, map-append)
 
   count-more : (full_line : List ℕ) → first_len full_line ≡ length full_line → 0 < length full_line → scan.lines + 1 ≡ length (full_lines (d.whole ++ full_line))
   count-more full_line one some = ap (λ n. n + 1) d.count ∙ sym (ap length (lines-more full_line one some) ∙ length-append (full_lines d.whole) (full_line ∷ []))
@@ -78,21 +70,11 @@ module _ {A D : Type 0} {first : List (List ℕ) → FirstItem A} {begun : D →
 
   module _ (searched : scan.bytes + scan.searched ≡ length bytes) where
     length-rest : length d.rest ≡ scan.searched
-    length-rest =
-        let consumed = d.consumed in
-        let len : length bytes ≡ length d.whole + length d.rest = ap length d.is ∙ length-append d.whole d.rest in
-        omega (arith, searched, consumed, len)
+    length-rest = grind (arith, length-append)
 
     -- no line is left
     pub draft-whole : scan.searched ≡ 0 → DraftOfAll first begun Fits draft scan.lines bytes
-    draft-whole none =
-        let nothing : d.rest ≡ [] = nil_from_length d.rest (length-rest ∙ none) in
-        let is : bytes ≡ d.whole = d.is ∙ ap (λ t. d.whole ++ t) nothing ∙ append-nil d.whole in
-        record {
-          count = d.count ∙ ap (λ t. length (full_lines t)) (sym is);
-          fits = d.fits;
-          first_item = d.first_item [] ∙ ap first (append-nil (lines_of d.whole)) ∙ ap (λ t. first (lines_of t)) (sym is);
-        }
+    draft-whole none = grind (arith, nil_from_length, length-rest, append-nil)
 
     pub draft-clear : HasNoNewline (length d.rest) d.rest
     draft-clear = subst (λ n. HasNoNewline n d.rest) (sym length-rest) d.searched

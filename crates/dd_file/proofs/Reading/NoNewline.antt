@@ -79,16 +79,11 @@ pub none-cut : (count n : ℕ) (bytes : List ℕ) → HasNoNewline count bytes �
 none-cut count n bytes clear le = let within = clear.within in record { within = simp length-take (omega (arith, within, le)); none = ap has_newline (take-take count n bytes le) ∙ clear.none }
 
 pub none-more : (count : ℕ) (bytes more : List ℕ) → HasNoNewline count bytes → HasNoNewline count (bytes ++ more)
-none-more count bytes more clear =
-    let within = clear.within in
-    let len = length-append bytes more in
-    record { within = omega (arith, within, len); none = ap has_newline (take-append-le count bytes more within) ∙ clear.none }
+none-more count bytes more clear = grind (arith, length-append, take-append-le)
 
 -- one full line alone
 pub full_lines-one : (full_line : List ℕ) → first_len full_line ≡ length full_line → 0 < length full_line → full_lines full_line ≡ full_line ∷ []
-full_lines-one full_line one some =
-    full_lines-first full_line some ∙ ap (λ n. take n full_line ∷ full_lines (drop n full_line)) one
-    ∙ ap (λ t. t ∷ full_lines (drop (length full_line) full_line)) (take_all (length full_line) full_line (omega arith)) ∙ ap (λ t. full_line ∷ full_lines t) (drop-length full_line)
+full_lines-one full_line one some = grind (arith, full_lines-first, take_all, drop-length)
 
 -- the whole full lines are those before them
 pub no-whole_line : (rest : List ℕ) → has_newline rest ≡ false → filter ends_in_newline (full_lines rest) ≡ []
@@ -96,7 +91,4 @@ no-whole_line [] none = refl
 no-whole_line (b ∷ bytes) none = ap (filter ends_in_newline) (full_lines-one (b ∷ bytes) (first_len-none (b ∷ bytes) none) (omega arith)) ∙ rw (none-ends (b ∷ bytes) none) refl
 
 pub whole-lines : (whole rest : List ℕ) → is_whole_text whole ≡ true → has_newline rest ≡ false → filter ends_in_newline (full_lines (whole ++ rest)) ≡ full_lines whole
-whole-lines whole rest ends none =
-    ap (filter ends_in_newline) (full_lines-append whole rest ends) ∙ filter-append ends_in_newline (full_lines whole) (full_lines rest)
-    ∙ ap (λ ps. filter ends_in_newline (full_lines whole) ++ ps) (no-whole_line rest none) ∙ append-nil (filter ends_in_newline (full_lines whole))
-    ∙ filter-all ends_in_newline (full_lines whole) (full_lines-whole whole ends)
+whole-lines whole rest ends none = grind (arith, full_lines-append, filter-append, no-whole_line, append-nil, filter-all, full_lines-whole)

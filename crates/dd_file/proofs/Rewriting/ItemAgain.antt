@@ -9,7 +9,7 @@ use Rattle.ascii_text.specs.Lines.{newline, lines_of, text_of}
 use Rattle.ascii_text.specs.WhiteSpace.{is_blank, without_trailing_space}
 use Rattle.dd_file.specs.Cut.{cut}
 use Rattle.dd_file.specs.DirectiveLine.{CommandText, command_of}
-use Rattle.dd_file.specs.Script.{FirstItem, Ended, Open, first_of, joined, is_comment, is_separator, is_dashes, cut_at_pair, directive, in_double, in_single, after_separator, body, at_line}
+use Rattle.dd_file.specs.Script.{FirstItem, Ended, Open, first_of, joined, is_comment, is_separator, is_dashes, directive, in_single, after_separator, body, at_line}
 use Rattle.dd_file.specs.ItemDraft.{dashes_line, has_pair}
 use Rattle.dd_file.specs.Rewritten.{entry_text, output_text, opening, closing, has_blank_line, is_output, is_output_line}
 use Rattle.dd_file.specs.Laws.{is_line, IsSameItem}
@@ -39,23 +39,17 @@ lines_of_written is_ended raw double lines = raw ++ dashes_line ∷ output_after
 
 output_text-lines : (double : Bool) (lines : List (List ℕ)) → (opening double ++ text_of lines) ++ closing double ≡ text_of (dashes_line ∷ output_after true double lines)
 output_text-lines false lines = append_assoc (opening false) (text_of lines) newline ∙ ap (λ t. opening false ++ t) (sym (text_of-append lines ([] ∷ [])))
-output_text-lines true lines =
-    append_assoc (opening true) (text_of lines) (closing true) ∙ ap (λ t. opening true ++ t) (sym (text_of-append lines (dashes_line ∷ dashes_line ∷ [] ∷ [])))
+output_text-lines true lines = grind (arith, append_assoc, text_of-append)
 
 -- a directive is written as those lines
 pub directive-text : (raw lines : List (List ℕ)) (found : List ℕ) → IsOutputOf lines found → text_of raw ++ output_text found ≡ text_of (lines_of_written true raw (has_blank_line found) lines)
-directive-text raw lines found is =
-    let double = has_blank_line found in
-    ap (λ t. text_of raw ++ ((opening double ++ t) ++ closing double)) is.text ∙ ap (λ t. text_of raw ++ t) (output_text-lines double lines)
-    ∙ sym (text_of-append raw (dashes_line ∷ output_after true double lines))
+directive-text raw lines found is = grind (arith, output_text-lines, text_of-append)
 
 output_after-returns : (is_ended double : Bool) (lines : List (List ℕ)) → list_all is_output_line lines ≡ true → without_returns (output_after is_ended double lines) ≡ output_after is_ended double lines
 output_after-returns true false lines h = map-append without_return lines ([] ∷ []) ∙ ap (λ t. t ++ [] ∷ []) (output-returns lines h)
-output_after-returns true true lines h =
-    ap (λ t. dashes_line ∷ t) (map-append without_return lines (dashes_line ∷ dashes_line ∷ [] ∷ []) ∙ ap (λ t. t ++ dashes_line ∷ dashes_line ∷ [] ∷ []) (output-returns lines h))
+output_after-returns true true lines h = grind (arith, map-append, without_return, output-returns)
 output_after-returns false false lines h = output-returns lines h
-output_after-returns false true lines h =
-    ap (λ t. dashes_line ∷ t) (map-append without_return lines (dashes_line ∷ dashes_line ∷ []) ∙ ap (λ t. t ++ dashes_line ∷ dashes_line ∷ []) (output-returns lines h))
+output_after-returns false true lines h = grind (arith, map-append, without_return, output-returns)
 
 output_after-lines : (is_ended double : Bool) (lines : List (List ℕ)) → list_all is_line lines ≡ true → list_all is_line (output_after is_ended double lines) ≡ true
 output_after-lines true false lines h = list_all-append is_line lines ([] ∷ []) ∙ ap (λ b. b && true) h
@@ -64,15 +58,12 @@ output_after-lines false false lines h = h
 output_after-lines false true lines h = list_all-append is_line lines (dashes_line ∷ dashes_line ∷ []) ∙ ap (λ b. b && true) h
 
 pub lines_of_written-are : (is_ended double : Bool) (raw lines : List (List ℕ)) → list_all is_line raw ≡ true → list_all is_line lines ≡ true → list_all is_line (lines_of_written is_ended raw double lines) ≡ true
-lines_of_written-are is_ended double raw lines h k =
-    list_all-append is_line raw (dashes_line ∷ output_after is_ended double lines) ∙ ap (λ b. b && list_all is_line (output_after is_ended double lines)) h ∙ output_after-lines is_ended double lines k
+lines_of_written-are is_ended double raw lines h k = grind (arith, list_all-append, output_after-lines)
 
 -- those lines, written and cut again
 written_lines : (is_ended double : Bool) (raw lines : List (List ℕ)) → list_all is_line raw ≡ true → list_all is_line lines ≡ true → list_all is_output_line lines ≡ true →
     lines_of (text_of (lines_of_written is_ended raw double lines)) ≡ without_returns raw ++ dashes_line ∷ output_after is_ended double lines
-written_lines is_ended double raw lines h k output =
-    lines_of-text_of (lines_of_written is_ended raw double lines) (lines_of_written-are is_ended double raw lines h k) ∙ map-append without_return raw (dashes_line ∷ output_after is_ended double lines)
-    ∙ ap (λ t. without_returns raw ++ dashes_line ∷ t) (output_after-returns is_ended double lines output)
+written_lines is_ended double raw lines h k output = grind (arith, lines_of-text_of, lines_of_written-are, map-append, without_return, without_returns, output_after-returns)
 
 -- what is read of an item, ended by these lines or open at the end
 abbrev pub found_as : Bool → Item → List (List ℕ) → FirstItem Item
@@ -99,15 +90,10 @@ module _ (command : CommandText) (directive_lines input lines : List (List ℕ))
 
   output-again : (is_ended double : Bool) (more : List (List ℕ)) → list_any is_blank lines ≡ double →
       after_separator command directive_lines input (output_after is_ended double lines ++ lines_after is_ended more) ≡ found_as is_ended (directive 1 command directive_lines input lines) more
-  output-again true false more blank =
-      ap (after_separator command directive_lines input) (append_assoc lines ([] ∷ []) more) ∙ single-again ([] ∷ more) refl ∙ ap (in_single command directive_lines input) (cut-parted is_blank lines [] more blank refl)
+  output-again true false more blank = grind (arith, append_assoc, single-again, cut-parted)
   output-again false false more blank = single-again [] refl ∙ ap (in_single command directive_lines input) (ap (cut is_blank) (append-nil lines) ∙ cut-whole is_blank lines blank)
-  output-again true true more blank =
-      ap (λ ls. in_double command directive_lines input (cut_at_pair ls)) (append_assoc lines (dashes_line ∷ dashes_line ∷ [] ∷ []) more)
-      ∙ ap (in_double command directive_lines input) (pair-parted lines dashes_line dashes_line ([] ∷ more) (no-pair lines output) refl refl)
-  output-again false true more blank =
-      ap (λ ls. in_double command directive_lines input (cut_at_pair ls)) (append-nil (lines ++ dashes_line ∷ dashes_line ∷ []))
-      ∙ ap (in_double command directive_lines input) (pair-parted lines dashes_line dashes_line [] (no-pair lines output) refl refl)
+  output-again true true more blank = grind (arith, append_assoc, pair-parted, no-pair)
+  output-again false true more blank = grind (arith, append-nil, pair-parted, no-pair)
 
 -- The lines of this text are read as the item again, ended by the last of them whatever lines follow, or by the end.
 abbrev pub IsReadAs : Bool → ℕ → List (List ℕ) → List ℕ → List ℕ → Item → Type 0
@@ -169,8 +155,7 @@ directive-again is_ended n m command line rest input expected more lines found i
 -- a comment, a blank line and blank directive lines, which are written as they are
 lines-again : (m : ℕ) (kind : List (List ℕ) → Item) (lines more : List (List ℕ)) (found : List ℕ) → list_all is_line lines ≡ true → entry_text (kind lines) found ≡ text_of lines ++ [] →
     first_of (without_returns lines ++ more) ≡ Ended (Ok (kind (without_returns lines))) more → IsSameItem m found (kind lines) (at_line m (kind (without_returns lines))) → IsReadAgain m more found (kind lines)
-lines-again m kind lines more found are text read same =
-    (kind (without_returns lines), ap (λ t. first_of (t ++ more)) (ap lines_of (text ∙ append-nil (text_of lines)) ∙ lines_of-text_of lines are) ∙ read, same)
+lines-again m kind lines more found are text read same = grind (arith, without_returns, append-nil, lines_of-text_of)
 
 -- an item that was read is read again where it is written
 pub read-again : (m : ℕ) (more : List (List ℕ)) (item : Item) (found : List ℕ) → is_output found ≡ true → ReadItem item → IsReadAgain m more found item

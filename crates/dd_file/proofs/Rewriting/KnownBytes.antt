@@ -1,13 +1,11 @@
 -- Known bytes that grow part by part.
-use Rattle.std.proofs.Common.{◌≡◌, ℕ, List, [], ◌++◌, length, take, drop, refl, sym, ◌∙◌, ap, subst}
+use Rattle.std.proofs.Common.{◌≡◌, ℕ, zero, suc, List, [], ◌++◌, length, take, drop, refl, sym, ◌∙◌, ap, subst, ◌≤◌, ◌-◌, ◌+◌, arith}
+use Rattle.std.proofs.Math.Bool.{or-false}
 use Rattle.std.proofs.Math.Seq.{take-add}
-use Rattle.std.specs.Prelude.{Option, Some, None}
-use Rattle.std.proofs.Common.{◌≤◌, ◌-◌, ◌+◌, arith, rules}
-use Rattle.std.proofs.lemmas.Grind.{common_steps}
+use Rattle.std.specs.Prelude.{Option, Some, None, Bool, ◌||◌, Ok}
 use Rattle.std.proofs.lemmas.List.{append-nil, append_assoc, take-append-drop, take_all, length-drop, drop-drop}
 use Rattle.std.specs.Io.KnownBytes.{Appends, Keeps, append_known}
-use Rattle.std.specs.Prelude.{Bool, ◌||◌, ◌==◌}
-use Rattle.dd_file.specs.Device.{AppendsPart}
+use Rattle.dd_file.specs.Device.{AppendsPart, is_failed_write}
 
 -- one part after another
 pub appends-append : (old mid new : Option (List ℕ)) (xs ys : List ℕ) → Appends old mid xs → Appends mid new ys → Appends old new (xs ++ ys)
@@ -33,12 +31,12 @@ pub append-part : (old mid new : Option (List ℕ)) (xs ys : List ℕ) → Appen
 append-part None mid new xs ys a b = tt
 append-part (Some o) None new xs ys a b = absurd a
 append-part (Some o) (Some m) None xs ys a b = absurd b
-append-part (Some o) (Some m) (Some n) xs ys a b =
-    (xs ++ b.0, b.1, ap (λ t. xs ++ t) b.2 ∙ sym (append_assoc xs b.0 b.1), b.3 ∙ ap (λ t. t ++ b.0) a ∙ append_assoc o xs b.0)
+append-part (Some o) (Some m) (Some n) xs ys a b = grind (arith, append_assoc)
 
 -- a write that took some bytes did not fail
-pub not-failed : (before : Bool) (count : ℕ) → (count ≡ 0 → ⊥) → (before || (count == 0)) ≡ before
-not-failed before count h = search (rules, common_steps)
+pub not-failed : (before : Bool) (count : ℕ) (bytes : List ℕ) → (count ≡ 0 → ⊥) → (before || is_failed_write (Ok count) bytes) ≡ before
+not-failed before zero bytes h = absurd (h refl)
+not-failed before (suc count) bytes h = or-false before
 
 -- all bytes from a position on
 pub rest-whole : (n : ℕ) (bytes : List ℕ) → take (length bytes - n) (drop n bytes) ≡ drop n bytes
@@ -47,8 +45,7 @@ rest-whole n bytes = take_all _ _ (subst (λ m. m ≤ length bytes - n) (sym (le
 -- a prefix of some bytes, and a prefix of the rest
 pub prefix-more : (old mid new : Option (List ℕ)) (n k : ℕ) (bytes : List ℕ) → n ≤ length bytes →
     Appends old mid (take n bytes) → Appends mid new (take k (take (length bytes - n) (drop n bytes))) → Appends old new (take (n + k) bytes)
-prefix-more old mid new n k bytes le a b =
-    subst (λ t. Appends old new t) (sym (take-add n k bytes)) (appends-append old mid new _ _ a (subst (λ t. Appends mid new (take k t)) (rest-whole n bytes) b))
+prefix-more old mid new n k bytes le a b = grind (arith, take-add, appends-append, rest-whole)
 
 -- a prefix of some bytes is a part of them
 pub prefix-part : (old new : Option (List ℕ)) (n : ℕ) (bytes : List ℕ) → Appends old new (take n bytes) → AppendsPart old new bytes
@@ -57,8 +54,7 @@ prefix-part old new n bytes a = subst (λ t. AppendsPart old new t) (take-append
 -- a prefix of the gathered bytes that is written is a part of them
 pub gathered-part : (old new : Option (List ℕ)) (n k : ℕ) (bytes block : List ℕ) → bytes ≡ block →
     Appends old new (take k (take (length bytes - n) (drop n bytes))) → AppendsPart old new (drop n block)
-gathered-part old new n k bytes block e a =
-    subst (λ t. AppendsPart old new (drop n t)) e (prefix-part old new k (drop n bytes) (subst (λ t. Appends old new (take k t)) (rest-whole n bytes) a))
+gathered-part old new n k bytes block e a = grind (arith, prefix-part, rest-whole)
 
 -- after a prefix of the gathered bytes was written, all bytes so far are the same
 pub gathered-more : (old new : Option (List ℕ)) (n k : ℕ) (bytes block : List ℕ) → bytes ≡ block →

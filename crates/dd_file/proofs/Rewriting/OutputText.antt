@@ -1,5 +1,5 @@
 -- What is written of an output: the newline that is buffered with the dashes, the output, and what is after it.
-use Rattle.std.proofs.Common.{◌≡◌, ℕ, Bool, true, false, List, [], ◌∷◌, ◌++◌, length, sym, ◌∙◌, ap, subst, rules}
+use Rattle.std.proofs.Common.{◌≡◌, ℕ, Bool, true, false, List, [], ◌∷◌, ◌++◌, length, sym, ◌∙◌, ap, subst, rules, arith}
 use Rattle.std.specs.Prelude.{◌==◌, Option}
 use Rattle.std.specs.Io.KnownBytes.{Appends}
 use Rattle.std.proofs.lemmas.List.{append_assoc}
@@ -7,8 +7,8 @@ use Rattle.ascii_text.specs.Lines.{without_last}
 use Rattle.ascii_text.proofs.Offered.{without_last-append}
 use Rattle.dd_file.specs.Device.{AppendsPart}
 use Rattle.dd_file.specs.RewriterState.{Continues, BreaksOff}
-use Rattle.dd_file.specs.Rewritten.{opening, closing, newlines_at_end}
-use Rattle.dd_file.proofs.Rewriting.PartByPart.{buffered, continues-bytes, breaks-bytes}
+use Rattle.dd_file.specs.Rewritten.{opening, closing, newlines_at_end, pending_newline}
+use Rattle.dd_file.proofs.Rewriting.PartByPart.{continues-bytes, breaks-bytes}
 use Rattle.dd_file.proofs.TextLines.LastNewlines.{newlines_at_end-last}
 
 -- it is some text
@@ -22,9 +22,8 @@ closing_buffered false xs = sym (without_last-append 10 xs _ _)
 
 -- the parts that are written are its text without the newline at its end
 found_parts : (newlines : ℕ) (double : Bool) (text : List ℕ) →
-    (buffered newlines ++ opening double) ++ (text ++ without_last 10 (closing double)) ≡ buffered newlines ++ without_last 10 ((opening double ++ text) ++ closing double)
-found_parts newlines double text =
-    append_assoc (buffered newlines) (opening double) _ ∙ ap (λ t. buffered newlines ++ t) (sym (append_assoc (opening double) text _) ∙ closing_buffered double (opening double ++ text))
+    (pending_newline newlines ++ opening double) ++ (text ++ without_last 10 (closing double)) ≡ pending_newline newlines ++ without_last 10 ((opening double ++ text) ++ closing double)
+found_parts newlines double text = grind (arith, append_assoc, closing_buffered)
 
 dashes_end : (xs prefix : List ℕ) → newlines_at_end (xs ++ (prefix ++ 45 ∷ 10 ∷ [])) ≡ 1
 dashes_end xs prefix =
@@ -46,7 +45,7 @@ found_counted double text inside suffix counts_text counts_closing before =
 
 -- the parts are written: what is buffered and the dashes, the output, and what is after it without its last newline
 abbrev pub parts : ℕ → Bool → List ℕ → List ℕ
-parts newlines double text = (buffered newlines ++ opening double) ++ (text ++ without_last 10 (closing double))
+parts newlines double text = (pending_newline newlines ++ opening double) ++ (text ++ without_last 10 (closing double))
 
 pub continues-found : (newlines inside suffix : ℕ) (double : Bool) (old new : Option (List ℕ)) (text : List ℕ) → Appends old new (parts newlines double text)
     → ((xs : List ℕ) → 1 ≡ newlines_at_end xs → inside ≡ newlines_at_end (xs ++ text))
@@ -58,5 +57,4 @@ continues-found newlines inside suffix double old new text written counts_text c
 
 pub breaks-found : (newlines : ℕ) (double : Bool) (old new : Option (List ℕ)) (text : List ℕ) → AppendsPart old new (parts newlines double text)
     → BreaksOff newlines old new ((opening double ++ text) ++ closing double)
-breaks-found newlines double old new text part =
-    breaks-bytes newlines old new _ (found_some double text) (subst (λ t. AppendsPart old new t) (found_parts newlines double text) part)
+breaks-found newlines double old new text part = grind (arith, breaks-bytes, found_some, found_parts)

@@ -110,8 +110,7 @@ one-line : (line : List ℕ) → (((line ++ newline) ++ []) ++ []) ++ [] ≡ lin
 one-line line = append-nil _ ∙ append-nil _ ∙ append-nil (line ++ newline)
 
 line-left : (before line : List ℕ) (e : Entry) → ReadItem e.item → is_output e.output ≡ true → texts_of (e ∷ []) ≡ line ++ newline → is_line line ≡ true → (line ≡ [] → ⊥) → IsRest before (e ∷ [])
-line-left before line e read output text are some =
-    all-left before e read output (ap (λ t. without_double_end (before ++ t)) text ∙ line-kept before line are some ∙ ap (λ t. before ++ t) (sym text))
+line-left before line e read output text are some = grind (arith, all-left, line-kept)
 
 -- a line that is empty is dropped after others, and stays where it is alone
 blank-left : (before line : List ℕ) (lines : List (List ℕ)) (found : List ℕ) → before ≡ text_of lines → is_output found ≡ true → is_line line ≡ true → is_comment line ≡ false → is_blank line ≡ true →
@@ -160,8 +159,7 @@ last-left before lines item found is (ReadBlank line are comment blank) output s
 last-left before lines item found is (ReadBlankHead line [] directive_lines are blank) output short =
     line-left before line (entry (Blank (line ∷ [])) found) (ReadBlankHead line [] directive_lines are blank) output (one-line line) (and_parts (is_line line) true are).0 (λ e. let bad : true ≡ false = ap is_blank (sym e) ∙ directive_lines.blank in cc)
 last-left before lines item found is (ReadBlankHead line (next ∷ rest) directive_lines are blank) output short = absurd (search (rules, arith))
-last-left before lines item found is (ReadDirective n command line rest input expected directive_lines parses command_is none are) output short =
-    directive-left before n command line rest input expected found output directive_lines parses command_is none are
+last-left before lines item found is (ReadDirective n command line rest input expected directive_lines parses command_is none are) output short = grind (arith, directive-left)
 
 -- the end of a script is decided by its last item
 ends-next : (item next : Item) (items : List Item) → ends_in_long_blank (item ∷ next ∷ items) ≡ ends_in_long_blank (next ∷ items)

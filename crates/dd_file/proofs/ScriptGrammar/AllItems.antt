@@ -4,9 +4,9 @@ use Rattle.std.specs.Prelude.{Option, Some, None, option_map, Result, Ok, Err}
 use Rattle.std.specs.List.{concat}
 use Rattle.std.proofs.lemmas.Bool.Decides.{nat_tests}
 use Rattle.std.proofs.lemmas.List.{drop-drop, drop-map, length-map, drop_all}
-use Rattle.ascii_text.specs.Lines.{first_len, full_lines, line_of, lines_of}
+use Rattle.ascii_text.specs.Lines.{first_len, full_lines, lines_of}
 use Rattle.dd_file.specs.Script.{FirstItem, NoItem, Ended, Open, result_of, lines_left, first_of, at_line}
-use Rattle.dd_file.specs.Position.{Position, start, longest_input}
+use Rattle.dd_file.specs.Position.{Position, longest_input}
 use Rattle.dd_file.specs.Grammar.{Script, with_first, followed, first_items, next_item, script_of, is_too_long, from_first_item, with_count, fault_between}
 use Rattle.dd_file.specs.Laws.{moved, moved_fault}
 use Rattle.dd_file.specs.Items.{Item, Directive}
@@ -121,13 +121,7 @@ first_items-lines (suc fuel) position bytes fits =
 
       result : (count : ℕ) (r : Result Item SyntaxFault) (left : List (List ℕ)) → drop count lines ≡ left → AreOfLines fuel →
           followed (first_items (next_item longest_input) fuel) (with_count at_line count r position bytes) ≡ from_result (Some r) position.lines count (items_at fuel (position.lines + count) left)
-      result count (Ok item) left same ih =
-          let consumed = length (concat (take count (full_lines bytes))) in
-          let bound = concat-take count (full_lines bytes) in
-          let all = ap length (concat-full_lines bytes) in
-          let rest = length-drop consumed bytes in
-          ap (with_first (at_line (position.lines + 1) item)) (ih (record { lines = position.lines + count; bytes = position.bytes + consumed }) (drop consumed bytes) (omega (arith, fits, bound, all, rest))
-          ∙ ap (items_at fuel (position.lines + count)) (ap (map line_of) (full_lines-drop count bytes) ∙ sym (drop-map line_of count (full_lines bytes)) ∙ same))
+      result count (Ok item) left same ih = grind (arith, concat-take, concat-full_lines, length-drop, lines, full_lines-drop, drop-map)
       result count (Err fault) left same ih = refl
 
       at : (first : FirstItem Item) → first_of lines ≡ first → AreOfLines fuel → followed (first_items (next_item longest_input) fuel) (from_first_item at_line false (length lines) first position bytes)
@@ -137,7 +131,4 @@ first_items-lines (suc fuel) position bytes fits =
       at (Open r) e ih = let all : length lines - 0 ≡ length lines = omega arith in rw all (result (length lines) r [] (drop_all (length lines) lines (omega arith)) ih)
 
 pub script_of-lines : (input : List ℕ) → length input ≤ longest_input → script_of input ≡ items_of 0 (lines_of input)
-script_of-lines input fits =
-    let few = full_lines-length input in
-    let count = length-map (full_lines input) line_of in
-    first_items-lines (length input + 1) start input (omega (arith, fits)) ∙ items_at-enough (length input + 1) (length (lines_of input)) 0 (lines_of input) (omega (arith, few, count)) (omega arith)
+script_of-lines input fits = grind (arith, full_lines-length, length-map, first_items-lines, items_at-enough)

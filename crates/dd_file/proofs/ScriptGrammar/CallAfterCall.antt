@@ -1,5 +1,5 @@
 -- What calls that read on one after another say of the whole input.
-use Rattle.std.proofs.Common.{◌≡◌, ℕ, zero, suc, ◌+◌, ◌<◌, true, List, [], ◌∷◌, ◌++◌, length, refl, sym, ◌∙◌, ap, arith, inl, inr}
+use Rattle.std.proofs.Common.{◌≡◌, ℕ, zero, suc, ◌<◌, true, List, [], ◌∷◌, ◌++◌, length, refl, sym, ◌∙◌, ap, arith, inl, inr}
 use Rattle.std.specs.Prelude.{◌⊎◌, Option, Some, None}
 use Rattle.std.specs.Io.KnownBytes.{Consumes, IsAtEnd}
 use Rattle.std.proofs.lemmas.List.{append_assoc, append_cancel_right}
@@ -29,10 +29,7 @@ first_items-fuel next takes (suc n) (suc m) position bytes hn hm =
 -- what is read from a position on is what comes next, and then what is read after it
 pub script_from-followed : {A : Type 0} (next : Position → List ℕ → Next A) → TakesBytes next → (position : Position) (bytes : List ℕ) →
     script_from next position bytes ≡ followed (script_from next) (next position bytes)
-script_from-followed next takes position bytes =
-    let one : length bytes + 1 ≡ suc (length bytes) = omega arith in
-    ap (λ n. first_items next n position bytes) one ∙ followed-same (first_items next (length bytes)) (script_from next) (next position bytes) (λ item suffix left e.
-    first_items-fuel next takes (length bytes) (length left + 1) suffix left (takes position suffix bytes left item e) (omega arith))
+script_from-followed next takes position bytes = grind (arith, followed-same, first_items-fuel)
 
 -- what is consumed in two steps
 pub consumes-append : (old mid new : Option (List ℕ)) (xs ys : List ℕ) → Consumes old mid xs → Consumes mid new ys → Consumes old new (xs ++ ys)
@@ -79,8 +76,7 @@ in-turn old mid before between after input more one two first second met agrees 
 
 pub agrees-in_turn : (old mid : ReaderState) (before between after : Option (List ℕ)) (input more : List ℕ) → LosesPrefix before between → LosesPrefix between after →
     (mid.is_ended ≡ true → (old.is_ended ≡ true) ⊎ IsAtEnd between) → Agrees old before after input more → AgreesInTurn old mid before between after input more
-agrees-in_turn old mid (Some before) (Some between) (Some after) input more first second met agrees =
-    in-turn old mid before between after input more first.0 second.0 first.1 second.1 met agrees
+agrees-in_turn old mid (Some before) (Some between) (Some after) input more first second met agrees = grind (arith, in-turn, first, second)
 agrees-in_turn old mid (Some before) (Some between) None input more first second met agrees = absurd agrees
 agrees-in_turn old mid (Some before) None after input more first second met agrees = absurd first.1
 agrees-in_turn old mid None between after input more first second met agrees = absurd agrees

@@ -1,5 +1,5 @@
 -- Lines that are cut at the first line of a kind, or at the first pair of dashes.
-use Rattle.std.proofs.Common.{◌≡◌, Bool, true, false, cond, ◌&&◌, ℕ, List, [], ◌∷◌, ◌++◌, refl, ◌∙◌, ap}
+use Rattle.std.proofs.Common.{◌≡◌, Bool, true, false, cond, ◌&&◌, ℕ, List, [], ◌∷◌, ◌++◌, refl, ◌∙◌, ap, arith}
 use Rattle.std.proofs.Math.Bool.{and-false}
 use Rattle.std.proofs.lemmas.Bool.{or_parts}
 use Rattle.std.specs.List.{list_any}
@@ -21,8 +21,7 @@ cut-whole test (z ∷ xs) none = let parts = or_parts (test z) (list_any test xs
 -- a pair of dashes after lines without one
 pub pair-parted : (xs : List (List ℕ)) (x y : List ℕ) (more : List (List ℕ)) → has_pair (xs ++ x ∷ []) ≡ false → is_dashes x ≡ true → is_dashes y ≡ true → cut_at_pair (xs ++ x ∷ y ∷ more) ≡ Parted xs x more
 pair-parted [] x y more none hx hy = rw (hx, hy) refl
-pair-parted (w ∷ []) x y more none hx hy =
-    let parts = or_parts (is_dashes w && is_dashes x) false none in rw (parts.0) (ap (prepend w) (pair-parted [] x y more refl hx hy))
+pair-parted (w ∷ []) x y more none hx hy = grind (arith, or_parts, pair-parted [] x y more refl hx hy)
 pair-parted (w ∷ v ∷ xs) x y more none hx hy =
     let parts = or_parts (is_dashes w && is_dashes v) (has_pair (v ∷ xs ++ x ∷ [])) none in rw (parts.0) (ap (prepend w) (pair-parted (v ∷ xs) x y more parts.1 hx hy))
 

@@ -53,8 +53,7 @@ joined-first joined before suffix joined' before' item ej eb are = record {
 
 -- the items of complete lines, an empty line and any lines
 items_of-joined : (before : ℕ) (lines more : List (List ℕ)) → IsComplete lines → AreJoined (items_of before (lines ++ [] ∷ more)) (items_of before lines) (items_of (before + length lines + 1) more)
-items_of-joined before lines more Done =
-    let sum : before + 1 ≡ before + 0 + 1 = omega arith in subst (λ (k : ℕ). AreJoined (items_of before ([] ∷ more)) no_items (items_of k more)) sum (items_of-blank before more)
+items_of-joined before lines more Done = grind (arith, items_of, more, no_items, items_of-blank)
 items_of-joined before lines more (More ls item first separated rest) = at (first_of ls) refl first separated (λ m. items_of-joined m (lines_left (first_of ls)) more rest) where
   at : (f : FirstItem Item) → first_of ls ≡ f → result_of f ≡ Some (Ok item) → has_separator item (length (lines_left f)) (length ls) ≡ true →
       ((m : ℕ) → AreJoined (items_of m (lines_left f ++ [] ∷ more)) (items_of m (lines_left f)) (items_of (m + length (lines_left f) + 1) more)) →

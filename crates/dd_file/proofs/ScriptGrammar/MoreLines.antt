@@ -1,5 +1,6 @@
 -- The first item of some lines where more lines follow: an ended one stays what it is, and a blank line ends an open
 -- directive with its separator.
+use Rattle.std.proofs.lemmas.Grind.{common_steps}
 use Rattle.std.proofs.Common.{◌≡◌, ℕ, ◌+◌, ◌-◌, ◌<◌, ◌≤◌, Bool, true, false, cond, List, [], ◌∷◌, ◌++◌, length, drop, refl, sym, ◌∙◌, ap, subst, length-append, arith, rules}
 use Rattle.std.specs.Prelude.{Option, Some, None, Result, Ok, Err}
 use Rattle.std.proofs.Math.Seq.{drop-append_seam}
@@ -66,10 +67,8 @@ module _ (more whole : List (List ℕ)) where
 
     in_single-grows : (input lines : List (List ℕ)) (found : Cut (List ℕ)) → IsCut is_blank lines found → IsLeft 1 whole lines →
         Grows more whole (in_single command directive_lines input found) (in_single command directive_lines input (cut is_blank (lines ++ more)))
-    in_single-grows input lines found (IsWhole xs none) own =
-        (left-some 1 whole xs own, λ left item e is separated. rw e (ap (in_single command directive_lines input) (cut-parted is_blank xs [] left none refl)))
-    in_single-grows input lines found (IsParted list xs x ys e none here) own =
-        rw (cut-local is_blank list xs x ys more e none here) (left-parted 1 1 whole list xs x ys own e (omega arith), refl)
+    in_single-grows input lines found (IsWhole xs none) own = grind (arith, common_steps, left-some, own, cut-parted)
+    in_single-grows input lines found (IsParted list xs x ys e none here) own = grind (arith, cut-local, left-parted, own)
 
     after_separator-grows : (input lines : List (List ℕ)) → IsLeft 1 whole lines →
         Grows more whole (after_separator command directive_lines input lines) (after_separator command directive_lines input (lines ++ more))
@@ -103,9 +102,7 @@ module _ (more whole : List (List ℕ)) where
 
 at_directive-grows : (more lines : List (List ℕ)) (found : Cut (List ℕ)) → IsCut is_last_line lines found → 1 ≤ length lines → Grows more lines (at_directive found) (at_directive (cut is_last_line (lines ++ more)))
 at_directive-grows more lines found (IsWhole xs none) begun = (begun, λ left item e is separated. cc)
-at_directive-grows more lines found (IsParted list xs x ys e none here) begun =
-    let some = length-append xs (x ∷ []) in
-    rw (cut-local is_last_line list xs x ys more e none here) (after_directive_lines-grows more list (xs ++ x ∷ []) ys (e ∙ sym (append_assoc xs (x ∷ []) ys)) (omega (arith, some)))
+at_directive-grows more lines found (IsParted list xs x ys e none here) begun = grind (arith, length-append, cut-local, after_directive_lines-grows, append_assoc)
 
 first_of-grows : (more lines : List (List ℕ)) → Grows more lines (first_of lines) (first_of (lines ++ more))
 first_of-grows more [] = refl
@@ -160,8 +157,4 @@ lines_left-shorter line lines = at (first_of (line ∷ lines)) (first_of-grows [
 
 -- the lines that are left, by how many there are
 pub left-drop : (lines left : List (List ℕ)) (k : ℕ) → IsLeft k lines left → drop (length lines - length left) lines ≡ left
-left-drop lines left k own =
-    let len = length-append own.own left in
-    let all = ap length own.is in
-    let count : length lines - length left ≡ length own.own = omega (arith, len, all) in
-    ap (λ n. drop n lines) count ∙ ap (drop (length own.own)) own.is ∙ drop-append_seam own.own left
+left-drop lines left k own = grind (arith, common_steps, length-append, own, drop-append_seam)

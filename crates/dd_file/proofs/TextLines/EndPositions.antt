@@ -67,8 +67,7 @@ length-ends_of start (line ∷ lines) = ap suc (length-ends_of (start + length l
 end-at : (start : ℕ) (lines : List (List ℕ)) (i d : ℕ) → i < length lines → get_or (ends_of start lines) i d ≡ start + length (text_of (take i lines)) + length (get_or lines i [])
 end-at start [] i d lt = absurd (omega arith)
 end-at start (line ∷ lines) zero d lt = omega arith
-end-at start (line ∷ lines) (suc i) d lt =
-    end-at (start + length line + 1) lines i d (omega (arith, lt)) ∙ (omega (arith, length-append (line ++ newline) (text_of (take i lines)), length-append line newline))
+end-at start (line ∷ lines) (suc i) d lt = grind (arith, length-append, end-at (start + length line + 1) lines i d (omega (arith, lt)))
 
 pub position-within : (text ends seen : List ℕ) (lines : List (List ℕ)) (i : ℕ) → LieIn text ends lines → seen ≡ ends → i < length lines → i < length seen
 position-within text ends seen lines i lie is lt = omega (arith, lt, ap length is, ap length lie.positions, length-ends_of 0 lines)

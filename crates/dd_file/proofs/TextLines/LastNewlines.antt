@@ -1,5 +1,6 @@
 -- The newlines at the end of a text, and what is left without the last.
-use Rattle.std.proofs.Common.{◌≡◌, ℕ, suc, ◌-◌, ◌≤◌, Bool, true, false, cond, ◌&&◌, List, [], ◌∷◌, ◌++◌, length, drop, refl, sym, ◌∙◌, ap, length-append, arith}
+use Rattle.std.proofs.lemmas.Grind.{common_steps}
+use Rattle.std.proofs.Common.{◌≡◌, ℕ, ◌≤◌, Bool, true, false, cond, ◌&&◌, List, [], ◌∷◌, ◌++◌, length, refl, sym, ◌∙◌, ap, length-append, arith}
 use Rattle.std.specs.Prelude.{◌==◌, nat_eq, if◌then◌else◌}
 use Rattle.std.specs.List.{ends_with}
 use Rattle.std.proofs.Math.Seq.{drop-append_seam}
@@ -12,15 +13,11 @@ use Rattle.ascii_text.proofs.Offered.{without_last-append}
 
 -- what a text ends in is decided by its last bytes
 pub ends_with-append : (xs ys needle : List ℕ) → length ys ≡ length needle → ends_with nat_eq (xs ++ ys) needle ≡ pointwise nat_eq needle ys
-ends_with-append xs ys needle e =
-    let k : length (xs ++ ys) - length needle ≡ length xs = rw (length-append xs ys) (omega arith) in
-    ap (λ n. pointwise nat_eq needle (drop n (xs ++ ys))) k ∙ ap (pointwise nat_eq needle) (drop-append_seam xs ys)
+ends_with-append xs ys needle e = grind (arith, common_steps, length-append, drop-append_seam)
 
 -- .. so bytes before that many do not matter
 ends_with-longer : (x : ℕ) (text needle : List ℕ) → length needle ≤ length text → ends_with nat_eq (x ∷ text) needle ≡ ends_with nat_eq text needle
-ends_with-longer x text needle le =
-    let k : suc (length text) - length needle ≡ suc (length text - length needle) = omega (arith, le) in
-    ap (λ n. pointwise nat_eq needle (drop n (x ∷ text))) k
+ends_with-longer x text needle le = grind arith
 
 newlines_at_end-longer : (x : ℕ) (text : List ℕ) → 2 ≤ length text → newlines_at_end (x ∷ text) ≡ newlines_at_end text
 newlines_at_end-longer x text long = rw (ends_with-longer x text (newline ++ newline) long, ends_with-longer x text newline (omega (arith, long))) refl
@@ -45,8 +42,7 @@ pub text-buffered : (text : List ℕ) → without_last 10 text ++ (if newlines_a
 text-buffered [] = refl
 text-buffered (x ∷ []) = grind (arith, nat_tests)
 text-buffered (x ∷ y ∷ []) = grind (arith, nat_tests)
-text-buffered (x ∷ y ∷ z ∷ text) =
-    ap (λ n. x ∷ (without_last 10 (y ∷ z ∷ text) ++ (if n == 0 then [] else newline))) (newlines_at_end-longer x (y ∷ z ∷ text) (omega arith)) ∙ ap (λ t. x ∷ t) (text-buffered (y ∷ z ∷ text))
+text-buffered (x ∷ y ∷ z ∷ text) = grind (arith, newlines_at_end-longer, text-buffered (y ∷ z ∷ text))
 
 -- the script that ends here is what is left without a newline at its end, and that newline where it is the only one
 pub text-ended : (text : List ℕ) → without_last 10 text ++ (if newlines_at_end text == 1 then newline else []) ≡ without_double_end text
@@ -106,8 +102,7 @@ script-parted text (byte ∷ rest) = at (newlines_at_end text == 0) (none (newli
   at : (c : Bool) → (c ≡ true → newlines_at_end text ≡ 0) → (prefix : List ℕ) → prefix ++ (if c then [] else newline) ≡ text →
       without_double_end (text ++ byte ∷ rest) ≡ prefix ++ without_double_end ((if c then [] else newline) ++ byte ∷ rest)
   at true none prefix is = after-bytes text byte rest (none refl) ∙ ap (λ t. t ++ without_double_end (byte ∷ rest)) (sym is ∙ append-nil prefix)
-  at false some prefix is =
-      ap (λ t. without_double_end (t ++ byte ∷ rest)) (sym is) ∙ ap without_double_end (append_assoc prefix newline (byte ∷ rest)) ∙ double_end-after prefix (newline ++ byte ∷ rest) (omega arith)
+  at false some prefix is = grind (arith, append_assoc, double_end-after)
 
 nothing-pending : (c : Bool) → without_last 10 ((if c then [] else newline) ++ []) ≡ []
 nothing-pending true = refl

@@ -64,8 +64,7 @@ ids_of-same_items xs ys there back = has-same_ids _ _ (λ q.
 
 -- the order of the list is no matter
 pub ids_of-permuted : (xs ys : List ℕ) → IsPermutation xs ys → ids_of ys ≡ ids_of xs
-ids_of-permuted xs ys moved =
-    has-same_ids _ _ (λ q. has-ids_of ys q ∙ sym (list_any-IsPermutation (λ x. q == x) xs ys moved) ∙ sym (has-ids_of xs q))
+ids_of-permuted xs ys moved = grind (arith, has-same_ids, has-ids_of, list_any-IsPermutation)
 
 -- one more id of the list
 pub ids_of-one_more : (xs : List ℕ) (k : ℕ) (s : Ids) → k < length xs → s ≡ ids_of (take k xs) → with_id s (get_or xs k 0) ≡ ids_of (take (k + 1) xs)

@@ -51,8 +51,7 @@ item_of-option key id q (Some x) h = ap (λ n. cond (n == q) (Some x) None) h
 
 find-above : {E : Type 0} (es : List (ℕ × E)) (id q : ℕ) → AllByRecursion (λ e. id < e.0) es → q ≤ id → finite.find nat_cmp q es ≡ None
 find-above [] id q above le = refl
-find-above (e ∷ es) id q above le =
-    ap (λ b. cond b (Some e.1) (finite.find nat_cmp q es)) (unsigned_tied q e.0 ∙ ne_eqb q e.0 (λ same. let lt = above.0 in omega arith)) ∙ find-above es id q above.1 le
+find-above (e ∷ es) id q above le = grind (arith, ne_eqb, above, find-above es id q above.1 le)
 
 -- the three parts together, where the id is below that of the first edit, is that id, and is above it
 abbrev Together : {T E : Type 0} → (E → Option T → Option T) → E → Option E → Option T → Option T → Bool → Bool → Bool → Type 0
@@ -61,8 +60,7 @@ Together f e edit first had lt eq gt =
 
 together : {T E : Type 0} (f : E → Option T → Option T) (e : E) (edit : Option E) (first had : Option T) (lt eq gt lt' eq' gt' : Bool) → lt ≡ lt' → eq ≡ eq' → gt ≡ gt'
     → Together f e edit first had lt' eq' gt' → Together f e edit first had lt eq gt
-together f e edit first had lt eq gt lt' eq' gt' a b c h =
-    (λ i. option_or (cond (a i) had None) (option_or (cond (b i) first None) (edited_by f edit (cond (c i) had None)))) ∙ h ∙ (λ i. edited_by f (cond (sym b i) (Some e) edit) had)
+together f e edit first had lt eq gt lt' eq' gt' a b c h = grind arith
 
 or_none : {T : Type 0} (o : Option T) → option_or o None ≡ o
 or_none None = refl
@@ -135,10 +133,7 @@ if_some-weaker P Q (Some x) f h = f x h
 
 rises-append : {T : Type 0} (key : T → ℕ) (id : ℕ) (xs ys : List T) → RisesBy key xs → AllByRecursion (λ x. key x < id) xs → RisesBy key ys → AllByRecursion (λ y. id ≤ key y) ys → RisesBy key (xs ++ ys)
 rises-append key id [] ys up below up_then above = up_then
-rises-append key id (x ∷ xs) ys up below up_then above = (
-  all-append (λ y. key x < key y) xs ys up.0 (all-weaker (λ y. id ≤ key y) (λ y. key x < key y) ys (λ y le. let lt = below.0 in omega arith) above),
-  rises-append key id xs ys up.1 below.1 up_then above,
-)
+rises-append key id (x ∷ xs) ys up below up_then above = grind (arith, all-append, all-weaker, below, above, rises-append key id xs ys up.1 below.1 up_then above)
 
 rises-cond : {T : Type 0} (key : T → ℕ) (b : Bool) (x : T) (xs : List T) → AllByRecursion (λ y. key x < key y) xs → RisesBy key xs → RisesBy key (cond b (x ∷ xs) xs)
 rises-cond key true x xs above up = (above, up)
@@ -208,18 +203,11 @@ ascending-from_rises key (x ∷ xs) up (suc i) (suc j) lt within = ascending-fro
 
 pub ascends-merged : {T E : Type 0} (key : T → ℕ) (after : E → ℕ → Option T → Option T) → KeepsIds key after → (items : List T) (es : List (ℕ × E)) → IsAscending (map key items) → IsAscending (map (λ e. e.0) es)
     → IsAscending (map key (merged key after items es))
-ascends-merged key after keeps items es up edits_up =
-    ascending-from_rises key _ (rises-merged key after keeps items es (rises-from_ascending key items up) (rises-from_ascending (λ e. e.0) es edits_up))
+ascends-merged key after keeps items es up edits_up = grind (arith, ascending-from_rises, rises-merged, rises-from_ascending)
 
 -- what is there of it so far ascends too
 ascends-part : {T : Type 0} (key : T → ℕ) (part rest all : List T) → part ++ rest ≡ all → IsAscending (map key all) → IsAscending (map key part)
-ascends-part key part rest all e up i j lt within =
-    let parts : map key all ≡ map key part ++ map key rest = ap (map key) (sym e) ∙ map-append key part rest in
-    let low = ap (λ ks. get_or ks i 0) parts ∙ get_or_append_left (map key part) (map key rest) 0 i (omega arith) in
-    let high = ap (λ ks. get_or ks j 0) parts ∙ get_or_append_left (map key part) (map key rest) 0 j within in
-    let long : length (map key all) ≡ length (map key part) + length (map key rest) = ap length parts ∙ length-append (map key part) (map key rest) in
-    let less = up i j lt (omega arith) in
-    omega arith
+ascends-part key part rest all e up i j lt within = grind (arith, map-append, get_or_append_left, length-append)
 
 pub ascends-so_far : {T E : Type 0} (key : T → ℕ) (after : E → ℕ → Option T → Option T) → KeepsIds key after → (others : List T) (edits : List (ℕ × E)) → IsAscending (map key others) → IsAscending (map (λ e. e.0) edits)
     → (part rest now : List T) → part ++ rest ≡ merged key after others edits → now ≡ part → IsAscending (map key now)
@@ -231,15 +219,11 @@ pub merged-copied : {T E : Type 0} (key : T → ℕ) (after : E → ℕ → Opti
     → i < length edits → e ≡ get_or edits i e → below ≡ filter (λ x. nat_lt (key x) e.0) rest → found ≡ item_of key e.0 rest → above ≡ filter (λ x. nat_lt e.0 (key x)) rest
     → item ≡ after e.1 e.0 found → done ++ merged key after rest (drop i edits) ≡ all → copied ≡ done ++ below
     → copied ++ (option_to_list item ++ merged key after above (drop (i + 1) edits)) ≡ all
-merged-copied key after done below above rest all copied edits i e item found within is below_is found_is above_is item_is so_far copied_is =
-    ap (λ xs. xs ++ (option_to_list item ++ merged key after above (drop (i + 1) edits))) copied_is ∙ append_assoc done below _
-    ∙ (λ j. done ++ (below_is j ++ (option_to_list ((item_is ∙ ap (after e.1 e.0) found_is) j) ++ merged key after (above_is j) (drop (i + 1) edits))))
-    ∙ sym (ap (λ es. done ++ merged key after rest es) (drop_more edits i e within ∙ ap (λ x. x ∷ drop (i + 1) edits) (sym is))) ∙ so_far
+merged-copied key after done below above rest all copied edits i e item found within is below_is found_is above_is item_is so_far copied_is = grind (arith, item, above, append_assoc, below, drop_more)
 
 pub merged-pushed : {T E : Type 0} (key : T → ℕ) (after : E → ℕ → Option T → Option T) (above copied all now : List T) (edits : List (ℕ × E)) (item : Option T)
     → copied ++ (option_to_list item ++ merged key after above edits) ≡ all → now ≡ copied ++ option_to_list item → now ++ merged key after above edits ≡ all
-merged-pushed key after above copied all now edits item so_far is =
-    ap (λ xs. xs ++ merged key after above edits) is ∙ append_assoc copied (option_to_list item) _ ∙ so_far
+merged-pushed key after above copied all now edits item so_far is = grind (arith, above, append_assoc, item)
 
 -- after the last edit
 pub merged-end : {T E : Type 0} (key : T → ℕ) (after : E → ℕ → Option T → Option T) (done rest all now : List T) (edits : List (ℕ × E)) (i : ℕ) → length edits ≤ i
@@ -388,14 +372,12 @@ IsEditedList is_in xs ys edits = (q : ℕ) → item_of (λ x. x) q ys ≡ edited
 -- a set as an ascending list has what the edits leave it
 pub has-edited_list : {E : Type 0} (is_in : E → Bool) (xs ys : List ℕ) (edits : List (ℕ × E)) (q : ℕ) → item_of (λ x. x) q ys ≡ edited (λ e _. cond (is_in e) (Some q) None) edits q (item_of (λ x. x) q xs)
     → has (ids_of ys) q ≡ edited (λ e _. is_in e) edits q (has (ids_of xs) q)
-has-edited_list is_in xs ys edits q is =
-    has-item_of ys q ∙ ap is_some is ∙ some-edited is_in (finite.find nat_cmp q edits) q (item_of (λ x. x) q xs) ∙ ap (edited_by (λ e _. is_in e) (finite.find nat_cmp q edits)) (sym (has-item_of xs q))
+has-edited_list is_in xs ys edits q is = grind (arith, has-item_of, some-edited)
 
 -- one more edit, of an id that is above the others
 find-below : {E : Type 0} (es : List (ℕ × E)) (id : ℕ) → AllByRecursion (λ e. e.0 < id) es → finite.find nat_cmp id es ≡ None
 find-below [] id below = refl
-find-below (e ∷ es) id below =
-    ap (λ b. cond b (Some e.1) (finite.find nat_cmp id es)) (unsigned_tied id e.0 ∙ ne_eqb id e.0 (λ same. let lt = below.0 in omega arith)) ∙ find-below es id below.1
+find-below (e ∷ es) id below = grind (arith, ne_eqb, below, find-below es id below.1)
 
 pub find-one_more : {E : Type 0} (edits : List (ℕ × E)) (i : ℕ) (e : ℕ × E) → IsAscending (map (λ x. x.0) edits) → i < length edits → e ≡ get_or edits i e
     → (q : ℕ) → finite.find nat_cmp q (take (i + 1) edits) ≡ cond (q == e.0) (Some e.1) (finite.find nat_cmp q (take i edits))

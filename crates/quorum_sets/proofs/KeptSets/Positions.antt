@@ -29,8 +29,7 @@ pub ascending-below_rest : (s : Ids) (id position found : ℕ) → slice_get (as
 ascending-below_rest s id position found here lt k later within = omega (arith, get_or_from_slice_get (ascending s) position found 0 here, ascends s position k later within)
 
 pub ascending-above_last : (s : Ids) (id position last : ℕ) → slice_get (ascending s) (position - 1) ≡ Some last → last < id → (k : ℕ) → k < position → get_or (ascending s) k 0 < id
-ascending-above_last s id position last here lt k before =
-    omega (arith, get_or_from_slice_get (ascending s) (position - 1) last 0 here, ascends s k (position - 1) (omega arith) (slice_get_within (ascending s) (position - 1) last here))
+ascending-above_last s id position last here lt k before = grind (arith, get_or_from_slice_get, ascends, slice_get_within)
 
 -- ---- the first id that another set has
 -- the other set has no id from before the position

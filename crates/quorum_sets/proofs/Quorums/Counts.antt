@@ -1,6 +1,6 @@
 -- Counts of the items of a list that pass a test: as far as a list is read, by what passes, and whether they are more
 -- than half. `count_by-le` gives all inequalities between counts.
-use Rattle.std.proofs.Common.{◌≡◌, ℕ, ◌+◌, ◌*◌, ◌≤◌, ◌<◌, Bool, true, false, cond, not, ◌&&◌, ◌||◌, ◌==◌, List, [], ◌∷◌, length, map, refl, arith, take, drop, sym, ap, ◌∙◌, slice_get, length-take, length-drop, eq-eqb, inl, inr}
+use Rattle.std.proofs.Common.{◌≡◌, ℕ, ◌+◌, ◌*◌, ◌≤◌, ◌<◌, Bool, true, false, cond, not, ◌&&◌, ◌||◌, ◌==◌, List, [], ◌∷◌, length, map, refl, arith, take, drop, ap, ◌∙◌, slice_get, length-take, length-drop, eq-eqb, inl, inr}
 use Rattle.std.specs.Prelude.{Some, nat_lt, count_by, filter}
 use Rattle.std.specs.List.{list_any, All, AllWithin}
 use Rattle.std.specs.List.Sorted.{IsPermutation, IsPartitionPoint}
@@ -90,8 +90,7 @@ most-permuted p xs ys moved = λ i. nat_lt (length_permutation xs ys moved i) (2
 
 -- a count over ids is one over their values
 pub majority_passes-values : {X : Type 0} (p : X → Bool) (value : ℕ → X) (ids : Ids) → majority_passes (λ id. p (value id)) ids ≡ most p (map value (ascending ids))
-majority_passes-values p value ids =
-    λ i. nat_lt (sym (length-map (ascending ids) value) i) (2 * sym (fold-map (λ a x. a + cond (p x) 1 0) value 0 (ascending ids)) i)
+majority_passes-values p value ids = grind (arith, length-map, fold-map)
 
 -- ---- of a pair of sets
 -- more than half of the incoming voters pass and, if there are outgoing voters, more than half of these

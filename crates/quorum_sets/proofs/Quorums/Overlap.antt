@@ -1,5 +1,5 @@
 -- More than half and more than half have something in common: in one set, and across two sets that differ in one id.
-use Rattle.std.proofs.Common.{◌≡◌, ℕ, ◌≤◌, Bool, true, false, not, ◌&&◌, ◌||◌, sym, ap, ◌∙◌, arith, inl, inr}
+use Rattle.std.proofs.Common.{◌≡◌, ℕ, ◌≤◌, Bool, true, false, not, ◌&&◌, sym, ap, ◌∙◌, arith, inl, inr}
 use Rattle.std.specs.Prelude.{count_by, nat_le}
 use Rattle.std.proofs.lemmas.Bool.{cases_lt, and_parts, ltb-true, leb-true}
 use Rattle.std.proofs.lemmas.Bool.Decides.{nat_tests}
@@ -40,23 +40,15 @@ some_id p ids passes = grind (arith, nat_tests, passes, count_by-le-length p (as
 
 neighbours_meet : (before after : Voters) → AreNeighbours before after → (p q : ℕ → Bool) → passes_in before p ≡ true → passes_in after q ≡ true → Shared p q
 neighbours_meet before after (inl differ) p q first second = meet p q before.incoming after.incoming differ.one_at_most (and_parts _ _ first).0 (and_parts _ _ second).0
-neighbours_meet before after (inr (inl joint)) p q first second =
-    let most_p = (and_parts _ _ first).0 in
-    let in_outgoing = ap (λ ids. is_empty ids || majority_passes q ids) (sym joint.outgoing) ∙ (and_parts _ _ second).1 in
-    meet_in_one p q before.incoming most_p (ap (λ b. b || majority_passes q before.incoming) (sym (some_id p before.incoming most_p)) ∙ in_outgoing)
-neighbours_meet before after (inr (inr left)) p q first second =
-    meet_in_one p q before.incoming (and_parts _ _ first).0 (ap (majority_passes q) (sym left.incoming) ∙ (and_parts _ _ second).0)
+neighbours_meet before after (inr (inl joint)) p q first second = grind (arith, and_parts, meet_in_one, some_id)
+neighbours_meet before after (inr (inr left)) p q first second = grind (arith, meet_in_one, and_parts)
 
 -- ---- the laws
 pub QuorumsMeet-from_neighbours_back : (before after : Voters) → AreNeighbours before after → QuorumsMeet after before
-QuorumsMeet-from_neighbours_back before after neighbours first second quorums =
-    let found = neighbours_meet before after neighbours (has second) (has first) quorums.quorum_after quorums.quorum_before in
-    (found.0, record { in_first = found.2; in_second = found.1 })
+QuorumsMeet-from_neighbours_back before after neighbours first second quorums = grind (arith, neighbours_meet)
 
 pub QuorumsMeet-from_neighbours : (before after : Voters) → AreNeighbours before after → QuorumsMeet before after
-QuorumsMeet-from_neighbours before after neighbours first second quorums =
-    let found = neighbours_meet before after neighbours (has first) (has second) quorums.quorum_before quorums.quorum_after in
-    (found.0, record { in_first = found.1; in_second = found.2 })
+QuorumsMeet-from_neighbours before after neighbours first second quorums = grind (arith, neighbours_meet)
 
 -- a majority has acknowledged what is committed
 acknowledged : (ids : Ids) (acks : Acks) (index : ℕ) → index ≤ committed_index ids acks → is_empty ids ≡ false → majority_passes (λ id. nat_le index (acked_index acks id)) ids ≡ true

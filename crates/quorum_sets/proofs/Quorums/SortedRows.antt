@@ -1,5 +1,5 @@
 -- Rows that ascend by their first number, and then by their second: where the rows with a first number begin.
-use Rattle.std.proofs.Common.{◌≡◌, ℕ, ◌<◌, ◌≤◌, true, false, List, length, get_or, sym, ap, ◌∙◌, arith, inl, inr}
+use Rattle.std.proofs.Common.{◌≡◌, ℕ, ◌<◌, ◌≤◌, true, false, List, length, get_or, sym, ap, ◌∙◌, arith}
 use Rattle.std.specs.Prelude.{nat_lt}
 use Rattle.std.specs.Ordering.{nat_cmp, ordering_then, is_lt}
 use Rattle.std.specs.List.{Contains}
@@ -23,10 +23,7 @@ Parts first rows position = IsPartitionPoint (λ r. nat_lt r.0 first ≡ true) (
 
 -- what is not before the position has no smaller first number
 pub Parts-not_before : (first : ℕ) (rows : List (ℕ × ℕ)) (position j : ℕ) (d : ℕ × ℕ) → Parts first rows position → j < length rows → first ≤ (get_or rows j d).0 → position ≤ j
-Parts-not_before first rows position j d parted within enough = elim (cases_lt j position) [
-  | inl before ↦ let less = ltb-true _ first (parted.0 j d (omega arith) before) in absurd (omega arith)
-  | inr after ↦ after
-]
+Parts-not_before first rows position j d parted within enough = grind (arith, cases_lt, ltb-true)
 
 -- the first row with a first number has the least second one: that of any row with the same first number is no less
 pub rows-first : (rows : List (ℕ × ℕ)) (first second position : ℕ) → IsSorted (λ x y. ordering_then (nat_cmp x.0 y.0) (nat_cmp x.1 y.1)) rows

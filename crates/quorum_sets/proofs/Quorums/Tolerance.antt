@@ -1,13 +1,13 @@
 -- How many ids may be down: by trying every set of ids, and by counting.
-use Rattle.std.proofs.Common.{◌≡◌, ℕ, ◌+◌, ◌-◌, ◌*◌, ◌≤◌, Bool, true, false, cond, not, ◌&&◌, ◌||◌, ◌==◌, List, [], ◌∷◌, ◌++◌, length, take, drop, refl, sym, ap, subst, ◌∙◌, arith, inl, inr, length-take, length-drop, is_some, ◌↔◌}
-use Rattle.std.specs.Prelude.{filter, nat_le, nat_lt, Option, Some, None}
+use Rattle.std.proofs.Common.{◌≡◌, ℕ, ◌+◌, ◌-◌, ◌≤◌, Bool, true, false, cond, not, ◌&&◌, ◌||◌, List, [], ◌∷◌, length, take, drop, refl, sym, ap, subst, ◌∙◌, arith, length-take, length-drop, is_some, ◌↔◌}
+use Rattle.std.specs.Prelude.{filter, Option, Some, None}
 use Rattle.std.proofs.lemmas.Bool.{cases_Bool, both_ways, or_left, or_right, ltb-true, lt-ltb, leb-true, leb-false, cond-true, cond-false, cond_both}
 use Rattle.std.proofs.lemmas.Bool.Decides.{nat_tests}
 use Rattle.std.proofs.lemmas.List.Folds.{list_any-append}
 use Rattle.std.proofs.lemmas.List.Sums.{sum_by-take-drop, count_by-le-length, length-filter}
 use Rattle.quorum_sets.specs.Ids.{Ids, no_ids, has, ascending, size, ids_of, union, count_of, majority_passes, is_empty}
 use Rattle.quorum_sets.specs.Voters.{Voters, majority, is_quorum}
-use Rattle.quorum_sets.specs.Tolerance.{voters_without, commits_without, Tolerates, IsMostDown, surplus, least, may_be_down, least_minority}
+use Rattle.quorum_sets.specs.Tolerance.{commits_without, Tolerates, IsMostDown, surplus, least, may_be_down, least_minority}
 use Rattle.quorum_sets.proofs.IdSets.Members.{has-ascending, has-ids_of, has-ids_where, has-no_ids, ascending-no_ids}
 use Rattle.quorum_sets.proofs.IdSets.Difference.{count_of-rest, count_of-within, size-with_id}
 use Rattle.quorum_sets.proofs.IdSets.Union.{has-union}
@@ -16,31 +16,17 @@ use Rattle.quorum_sets.proofs.Quorums.Counts.{count_by-filter, count_by-le, coun
 -- ---- which voters are left
 -- a majority rests on the ids of the set alone
 majority_passes-alike : (p q : ℕ → Bool) (ids : Ids) → ((x : ℕ) → has ids x ≡ true → p x ≡ q x) → majority_passes p ids ≡ majority_passes q ids
-majority_passes-alike p q ids alike =
-    let up = count_by-mono p q (ascending ids) (λ x here is. sym (alike x (has-ascending ids x ∙ here)) ∙ is) in
-    let down = count_by-mono q p (ascending ids) (λ x here is. alike x (has-ascending ids x ∙ here) ∙ is) in
-    let same : count_of p ids ≡ count_of q ids = omega arith in
-    ap (λ n. nat_lt (size ids) (2 * n)) same
+majority_passes-alike p q ids alike = grind (arith, count_by-mono, has-ascending)
 
 passes_in-alike : (voters : Voters) (p q : ℕ → Bool) → ((x : ℕ) → (has voters.incoming x || has voters.outgoing x) ≡ true → p x ≡ q x) → passes_in voters p ≡ passes_in voters q
-passes_in-alike voters p q alike = λ i.
-    majority_passes-alike p q voters.incoming (λ x here. alike x (or_left _ _ here)) i
-    && (is_empty voters.outgoing || majority_passes-alike p q voters.outgoing (λ x here. alike x (or_right (has voters.incoming x) _ here)) i)
+passes_in-alike voters p q alike = grind (arith, majority_passes-alike, or_left, or_right)
 
 abbrev pub stay : Ids → ℕ → Bool
 stay uncounted id = not (has uncounted id)
 
 -- the voters that are left are a quorum where, in both sets, more than half are counted
 pub commits_without-majority_passes : (voters : Voters) (uncounted : Ids) → commits_without voters uncounted ≡ (majority_passes (stay uncounted) voters.incoming && (is_empty voters.outgoing || majority_passes (stay uncounted) voters.outgoing))
-commits_without-majority_passes voters uncounted = passes_in-alike voters (has (voters_without voters uncounted)) (stay uncounted) (λ x here.
-    grind (
-      arith,
-      here,
-      has-ids_where (stay uncounted) (ascending voters.incoming ++ ascending voters.outgoing) x,
-      list_any-append (λ y. x == y) (ascending voters.incoming) (ascending voters.outgoing),
-      has-ascending voters.incoming x,
-      has-ascending voters.outgoing x,
-    ))
+commits_without-majority_passes voters uncounted = grind (arith, passes_in-alike, has-ids_where, list_any-append, has-ascending)
 
 -- any ids that have just the counted voters are a quorum where these commit
 pub is_quorum-without : (voters : Voters) (uncounted ids : Ids) → ((q : ℕ) → (has voters.incoming q || has voters.outgoing q) ≡ true → has ids q ≡ not (has uncounted q))
@@ -105,9 +91,7 @@ Allows-least (Some a) None k = (λ h. absurd h, λ h. h.1)
 Allows-least (Some a) (Some b) k = (λ h. (omega arith, omega arith), λ h. omega (arith, h.0, h.1))
 
 Allows-surplus : (ids uncounted : Ids) (k : ℕ) → Allows (surplus ids uncounted) k ↔ (majority (size ids) + k ≤ counted ids uncounted)
-Allows-surplus ids uncounted k =
-    cond_both (nat_le (majority (size ids)) (counted ids uncounted)) _ _ (λ a. Allows a k ↔ (majority (size ids) + k ≤ counted ids uncounted))
-    (λ enough. let within = leb-true _ _ enough in (λ h. omega arith, λ h. omega arith)) (λ less. let over = leb-false _ _ less in (λ h. absurd h, λ h. omega arith))
+Allows-surplus ids uncounted k = grind (arith, cond_both, leb-true, leb-false)
 
 Allows-may_be_down : (voters : Voters) (uncounted : Ids) (k : ℕ) → Allows (may_be_down voters uncounted) k ↔ HaveMore voters uncounted k
 Allows-may_be_down voters uncounted k =
@@ -150,16 +134,11 @@ surplus-all : (ids : Ids) → is_empty ids ≡ false → surplus ids no_ids ≡ 
 surplus-all ids some_voter = grind (arith, nat_tests, some_voter, counted-all ids)
 
 pub may_be_down-all : (voters : Voters) → is_empty voters.incoming ≡ false → may_be_down voters no_ids ≡ Some (least_minority voters)
-may_be_down-all voters some_voter = elim (cases_Bool (is_empty voters.outgoing)) [
-  | inl single ↦ cond-true _ _ _ single ∙ surplus-all voters.incoming some_voter ∙ ap Some (sym (cond-true _ _ _ single))
-  | inr joint ↦ cond-false _ _ _ joint ∙ (λ i. least (surplus-all voters.incoming some_voter i) (surplus-all voters.outgoing joint i)) ∙ ap Some (sym (cond-false _ _ _ joint))
-]
+may_be_down-all voters some_voter = grind (arith, cases_Bool, cond-true, surplus-all, cond-false)
 
 -- ---- where no id votes
 pub may_be_down-no_voter : (voters : Voters) (uncounted : Ids) → is_empty voters.incoming ≡ true → may_be_down voters uncounted ≡ None
-may_be_down-no_voter voters uncounted no_voter =
-    let no_surplus : surplus voters.incoming uncounted ≡ None = grind (arith, nat_tests, no_voter, count_by-le-length (stay uncounted) (ascending voters.incoming)) in
-    cond_both (is_empty voters.outgoing) _ _ (λ answer. answer ≡ None) (λ single. no_surplus) (λ joint. ap (λ a. least a (surplus voters.outgoing uncounted)) no_surplus)
+may_be_down-no_voter voters uncounted no_voter = grind (arith, nat_tests, count_by-le-length, cond_both)
 
 -- ---- whether the voters commit
 is_some-surplus : (ids uncounted : Ids) → majority_passes (stay uncounted) ids ≡ is_some (surplus ids uncounted)

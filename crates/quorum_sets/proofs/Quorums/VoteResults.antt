@@ -1,6 +1,6 @@
 -- How the definitions of votes relate: of sets, of lists, and of counts.
 use Rattle.std.proofs.Common.{◌≡◌, Bool, true, false, cond, not, ◌≤◌, ◌&&◌, ◌||◌, List, length, map, sym, ◌∙◌, arith}
-use Rattle.std.specs.Prelude.{Option, Some, None, nat_eq, count_by, unwrap_or, if◌then◌else◌}
+use Rattle.std.specs.Prelude.{Option, Some, None, nat_eq, unwrap_or, if◌then◌else◌}
 use Rattle.std.specs.FinMap as finite
 use Rattle.std.proofs.lemmas.Bool.Decides.{nat_tests}
 use Rattle.std.proofs.lemmas.List.{length-map}
@@ -19,9 +19,7 @@ yes_may_be None = omega arith
 yes_may_be (Some vote) = omega arith
 
 is_won_by-is_lost_by : (list : List (Option Bool)) → is_won_by list ≡ true → is_lost_by list ≡ false
-is_won_by-is_lost_by list won =
-    let fewer : count_by (λ vote. unwrap_or vote false) list ≤ count_by (λ vote. unwrap_or vote true) list = sum_by-le-sum_by _ _ list yes_may_be in
-    grind (arith, nat_tests)
+is_won_by-is_lost_by list won = grind (arith, sum_by-le-sum_by, yes_may_be, nat_tests)
 
 by_each : (w l v m : Bool) → (w ≡ true → l ≡ false) → (v ≡ true → m ≡ false) → (if w && v then VoteWon else (if l || m then VoteLost else VotePending)) ≡ both (if w then VoteWon else (if l then VoteLost else VotePending)) (if v then VoteWon else (if m then VoteLost else VotePending))
 by_each w l v m first second = grind arith

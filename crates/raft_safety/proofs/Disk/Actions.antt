@@ -14,7 +14,7 @@ use Rattle.raft_safety.specs.EtcdRules.{EtcdAction, MayBecomeLeaderApplied, MayC
 use Rattle.raft_safety.specs.EtcdRules as etcd
 use Rattle.raft_safety.specs.EtcdRuns.{commitment_of, after_etcd_action, after_etcd_actions, AreAllowedByEtcd}
 use Rattle.raft_safety.specs.DiskCluster.{Message, Raised, Given, DiskCluster, memory, in_memory}
-use Rattle.raft_safety.specs.DiskRules.{DiskAction, Campaign, Take, Save, Say, Lead, Propose, Send, Raise, Use, ApplyAsLeader, Apply, Crash, IsSaved, IsOwn, MaySave, MaySay, MayLead, MayRaise, MayUse, MayApplyInMemory, MayCrash, IsAllowedOnDisk}
+use Rattle.raft_safety.specs.DiskRules.{DiskAction, Campaign, Take, Save, Say, Lead, Propose, Send, Raise, Use, ApplyAsLeader, Apply, Crash, IsOwn, MaySave, MaySay, MayLead, MayRaise, MayUse, MayApplyInMemory, MayCrash, IsAllowedOnDisk}
 use Rattle.raft_safety.specs.DiskRuns.{with_unsaved, after_save, after_disk_action}
 use Rattle.raft_safety.proofs.Configurations.{voter_changes-prefix}
 use Rattle.raft_safety.proofs.Updates.{with_value-each}
@@ -126,15 +126,7 @@ campaign-keeps_disk first d server term may i =
 -- a commit index is durable if at most one change of the log is beyond it
 durable-keeps : (first : Configuration) (e : EtcdCluster) (server : ℕ) (commit : Log) → AreEtcdInvariants first e → IsPrefix commit (e.cluster.servers server).committed
     → (e.looks server ≡ false → IsOneChangeBeyond first (e.cluster.servers server).log commit) → AreEtcdInvariants first (record e { durable = with_value e.durable server commit })
-durable-keeps first e server commit i committed few = record {
-  core = i.core;
-  durable = λ k not. with_value-each (IsDurable first (e.cluster.servers k).log (e.cluster.servers k).committed) e.durable server commit k
-      (λ same. subst (λ (q : ℕ). IsDurable first (e.cluster.servers q).log (e.cluster.servers q).committed commit) (sym same) (record { committed = committed; one_change_beyond = few (subst (λ (q : ℕ). e.looks q ≡ false) same not) }))
-      (λ other. i.durable k not);
-  applied = i.applied;
-  candidacies = i.candidacies;
-  appends = i.appends;
-}
+durable-keeps first e server commit i committed few = grind (arith, with_value-each, IsDurable)
 
 save-keeps : (first : Configuration) (d : DiskCluster) (server : ℕ) (saved rest : List EtcdAction) (commit : Log) → MaySave first d server saved rest commit → AreDiskInvariants first d
     → AreDiskInvariants first (after_disk_action d (Save server saved rest commit)) × Grows d.disk.cluster (after_disk_action d (Save server saved rest commit)).disk.cluster
@@ -157,15 +149,7 @@ save-keeps first d server saved rest commit may i =
     )
 
 say-keeps : (first : Configuration) (d : DiskCluster) (message : Message) → MaySay d message → AreDiskInvariants first d → AreDiskInvariants first (record d { said = message ∷ d.said })
-say-keeps first d message may i = record {
-  disk = i.disk;
-  own = i.own;
-  allowed = i.allowed;
-  said = λ m x. elim x [ inl is ↦ subst (IsSaved d.disk) (sym is) may.saved | inr in_d ↦ i.said m in_d ];
-  raised = i.raised;
-  given = i.given;
-  configured = i.configured;
-}
+say-keeps first d message may i = grind arith
 
 -- ---- leaders
 lead-keeps : (first : Configuration) (d : DiskCluster) (k : Candidacy) (votes : Ids) → MayLead first d k votes → AreDiskInvariants first d

@@ -1,6 +1,6 @@
 -- What a server does in memory stays allowed, and leaves it in the same state, while others go on: it hangs on the server
 -- itself, on its own votes, and on what only grows.
-use Rattle.std.proofs.Common.{◌≡◌, ℕ, ◌<◌, ◌≤◌, List, [], ◌∷◌, ◌++◌, refl, sym, ap, subst, ◌∙◌, inl, inr}
+use Rattle.std.proofs.Common.{◌≡◌, ℕ, ◌<◌, ◌≤◌, List, [], ◌∷◌, ◌++◌, refl, sym, ap, subst, ◌∙◌, inl, inr, arith}
 use Rattle.std.specs.Prelude.{Bool}
 use Rattle.conf_change.specs.Configuration.{Configuration}
 use Rattle.raft_safety.specs.Logs.{IsPrefix, IsUpToDate, longer}
@@ -69,8 +69,7 @@ allowed_later first server e f g (Campaign s term applied) own may =
       ready = subst (λ (b : Bool). IsReady first b (f.cluster.servers s) applied) (sym (subst (λ (q : ℕ). f.looks q ≡ e.looks q) (sym own) g.looks))
           (subst (λ (x : Server). IsReady first (e.looks s) x applied) (sym at) may.ready);
     }
-allowed_later first server e f g (SeeTerm s term) own may =
-    record { higher = subst (λ (x : Server). x.term < term) (sym (server_at server s e f g own)) may.higher }
+allowed_later first server e f g (SeeTerm s term) own may = grind (arith, server_at)
 allowed_later first server e f g (GrantVote s request) own may =
     let at : f.cluster.servers s ≡ e.cluster.servers s = server_at server s e f g own in
     record {
@@ -102,10 +101,7 @@ allowed_later first server e f g action own may = absurd own
 
 -- ---- and leaves the server in the same state
 same_after : (old other : ℕ → Server) (s server : ℕ) (a b : Server) → s ≡ server → a ≡ b → with_value other s a server ≡ with_value old s b server
-same_after old other s server a b own is =
-    let there : with_value other s a server ≡ a = subst (λ (q : ℕ). with_value other s a q ≡ a) own (with_value-here other s a) in
-    let here : with_value old s b server ≡ b = subst (λ (q : ℕ). with_value old s b q ≡ b) own (with_value-here old s b) in
-    there ∙ is ∙ sym here
+same_after old other s server a b own is = grind (arith, with_value-here)
 
 -- ---- what a server does by itself: its state becomes another one, and it votes, asks or acknowledges. A vote is written as its term
 -- and its candidate
@@ -225,13 +221,8 @@ AreOwn server (action ∷ actions) = IsOwn server action × AreOwn server action
 
 pub all_allowed_later : (first : Configuration) (server : ℕ) (e f : EtcdCluster) → GoesOn server e f → (actions : List EtcdAction) → AreOwn server actions → AreAllowedByEtcd first e actions → AreAllowedByEtcd first f actions
 all_allowed_later first server e f g [] own allowed = tt
-all_allowed_later first server e f g (action ∷ actions) own allowed = (
-  allowed_later first server e f g action own.0 allowed.0,
-  all_allowed_later first server (after_etcd_action e action) (after_etcd_action f action) (after_later server e f g action own.0) actions own.1 allowed.1,
-)
+all_allowed_later first server e f g (action ∷ actions) own allowed = grind (arith, allowed_later, after_later, all_allowed_later first server (after_etcd_action e action) (after_etcd_action f action) (after_later server e f g action own.0) actions own.1 allowed.1)
 
 pub all_beside : (server k : ℕ) → (k ≡ server → ⊥) → (e : EtcdCluster) (actions : List EtcdAction) → AreOwn server actions → GoesOn k e (after_etcd_actions e actions)
 all_beside server k other e [] own = GoesOn-refl k e
-all_beside server k other e (action ∷ actions) own =
-    GoesOn-trans k e (after_etcd_action e action) (after_etcd_actions (after_etcd_action e action) actions)
-    (beside server k other e action own.0) (all_beside server k other (after_etcd_action e action) actions own.1)
+all_beside server k other e (action ∷ actions) own = grind (arith, GoesOn-trans, beside, all_beside server k other (after_etcd_action e action) actions own.1)

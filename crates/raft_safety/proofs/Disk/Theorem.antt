@@ -1,6 +1,6 @@
 -- The theorem where memory and disk are apart: the invariants hold before anything happens, each action keeps them, and the
 -- claims follow.
-use Rattle.std.proofs.Common.{ℕ, ◌+◌, List, [], ◌∷◌, ◌++◌, refl, sym, subst, inr}
+use Rattle.std.proofs.Common.{ℕ, ◌+◌, List, [], ◌∷◌, ◌++◌, sym, subst, inr, arith}
 use Rattle.std.specs.Prelude.{Bool}
 use Rattle.conf_change.specs.Configuration.{Configuration}
 use Rattle.raft_safety.specs.Cluster.{Cluster, In}
@@ -15,15 +15,7 @@ use Rattle.raft_safety.proofs.Disk.Invariants.{AreDiskInvariants}
 use Rattle.raft_safety.proofs.Disk.Actions.{disk_action_keeps, known_in_memory}
 
 pub new_holds_disk : (first : Configuration) (looks : ℕ → Bool) → AreDiskInvariants first (new_disk_cluster looks)
-new_holds_disk first looks = record {
-  disk = new_holds first looks;
-  own = λ server. tt;
-  allowed = λ server. tt;
-  said = λ m x. absurd x;
-  raised = λ r x. absurd x;
-  given = λ v x. absurd x;
-  configured = λ server. refl;
-}
+new_holds_disk first looks = grind (arith, new_holds)
 
 keeps : (first : Configuration) (d : DiskCluster) (action : DiskAction) → IsAllowedOnDisk first d action → AreDiskInvariants first d → AreDiskInvariants first (after_disk_action d action)
 keeps first d action may i = (disk_action_keeps first d action may i).0

@@ -1,7 +1,7 @@
 -- What etcd asks of actions is no less than what Steps.antt asks, as far as the invariants hold, but that a candidate may count by
 -- less than it knew to be committed.
 use Rattle.std.proofs.Common.{◌≡◌, ℕ, ◌+◌, ◌≤◌, ◌<◌, min, [], ◌∷◌, ◌++◌, length, refl, sym, ap, subst, ◌∙◌, inl, inr, arith, length-append}
-use Rattle.std.specs.Prelude.{Bool, nat_lt}
+use Rattle.std.specs.Prelude.{nat_lt}
 use Rattle.std.proofs.Math.Nat.{min-eq_left, min-eq_right}
 use Rattle.std.proofs.lemmas.Bool.{cases_Bool, cases_lt, cond-false}
 use Rattle.std.proofs.lemmas.Bool.Decides.{nat_tests}
@@ -13,7 +13,7 @@ use Rattle.raft_safety.specs.Cluster.{Server, Leadership, Cluster, Leads}
 use Rattle.raft_safety.specs.Steps.{MayCampaign, MayReceive, MayCommit, IsLogAfter}
 use Rattle.raft_safety.specs.Appending.{upto, term_at, with_entries}
 use Rattle.raft_safety.specs.EtcdCluster.{Append, Candidacy, EtcdCluster}
-use Rattle.raft_safety.specs.EtcdRules.{IsReady, MayBecomeLeaderApplied, MayTake, MayAnswer, MayTakeHeartbeat, MayCommitApplied, MayCampaignApplied}
+use Rattle.raft_safety.specs.EtcdRules.{MayBecomeLeaderApplied, MayTake, MayAnswer, MayTakeHeartbeat, MayCommitApplied, MayCampaignApplied}
 use Rattle.raft_safety.specs.EtcdRuns.{last_index, known_by, commitment_of}
 use Rattle.raft_safety.proofs.Logs.{IsPrefix-refl, IsPrefix-trans, IsPrefix-empty, shorter-prefix}
 use Rattle.raft_safety.proofs.Configurations.{voter_changes-prefix}
@@ -41,43 +41,16 @@ MayBecomeLeader-applied first e candidacy votes i may =
 
 pub MayCommit-applied : (first : Configuration) (e : EtcdCluster) (term leader : ℕ) (log : Log) (servers : Ids) → AreEtcdInvariants first e → MayCommitApplied first e term leader log servers
     → MayCommit first e.cluster leader (commitment_of e term leader log servers)
-MayCommit-applied first e term leader log servers i may =
-    let was = i.applied term leader may.leads in
-    let few : voter_changes first (log_of e.cluster term leader) ≤ voter_changes first (e.applied term leader) + 1 = was.one_change_beyond in
-    let part : voter_changes first log ≤ voter_changes first (log_of e.cluster term leader) = voter_changes-prefix first log (log_of e.cluster term leader) may.in_log in
-    record {
-      leads = may.leads;
-      longer_than = may.longer_than;
-      in_log = may.in_log;
-      own_term = may.own_term;
-      acknowledged = may.acknowledged;
-      counted = was.committed;
-      one_change_beyond = omega arith;
-      quorum = may.quorum;
-    }
+MayCommit-applied first e term leader log servers i may = grind (arith, log_of, voter_changes-prefix)
 
 -- who campaigns has applied all changes of its log but the last: it looks, or that is so of what is durable of its commit index
 pub applied-all_but_one : (first : Configuration) (e : EtcdCluster) (server term : ℕ) (applied : Log) → AreEtcdInvariants first e → MayCampaignApplied first e server term applied
     → IsOneChangeBeyond first (e.cluster.servers server).log applied
-applied-all_but_one first e server term applied i may =
-    let old : Server = e.cluster.servers server in
-    elim (cases_Bool (e.looks server)) [
-      | inl looks ↦ subst (λ (b : Bool). IsReady first b old applied) looks may.ready
-      | inr not ↦ (
-          let was = i.durable server not in
-          let few : voter_changes first old.log ≤ voter_changes first (e.durable server) + 1 = was.one_change_beyond in
-          let s : voter_changes first (e.durable server) ≤ voter_changes first old.committed = voter_changes-prefix first (e.durable server) old.committed was.committed in
-          let all : voter_changes first applied ≡ voter_changes first old.committed = subst (λ (b : Bool). IsReady first b old applied) not may.ready in
-          omega arith)
-    ]
+applied-all_but_one first e server term applied i may = grind (arith, cases_Bool, voter_changes-prefix)
 
 pub MayCampaign-applied : (first : Configuration) (e : EtcdCluster) (server term : ℕ) (applied : Log) → AreEtcdInvariants first e → MayCampaignApplied first e server term applied
     → MayCampaign first e.cluster server term (e.cluster.servers server).committed
-MayCampaign-applied first e server term applied i may =
-    let old : Server = e.cluster.servers server in
-    let few : voter_changes first old.log ≤ voter_changes first applied + 1 = applied-all_but_one first e server term applied i may in
-    let s : voter_changes first applied ≤ voter_changes first old.committed = voter_changes-prefix first applied old.committed may.committed in
-    record { later = may.later; committed = IsPrefix-refl old.committed; one_change_beyond = omega arith }
+MayCampaign-applied first e server term applied i may = grind (arith, applied-all_but_one, voter_changes-prefix, IsPrefix-refl)
 
 -- ---- a heartbeat: the server has what it acknowledged
 pub MayReceive-heartbeat : (first : Configuration) (e : EtcdCluster) (server term leader : ℕ) (known : Log) → AreInvariants first e.cluster → MayTakeHeartbeat e server term leader known

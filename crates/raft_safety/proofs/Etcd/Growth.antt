@@ -1,5 +1,5 @@
 -- What holds of functions with another value at one place, and of appends while leaders go on.
-use Rattle.std.proofs.Common.{◌≡◌, ℕ, ◌∷◌, ◌++◌, refl, sym, subst, ◌∙◌, inl, inr}
+use Rattle.std.proofs.Common.{◌≡◌, ℕ, ◌++◌, refl, sym, subst, ◌∙◌, inr, arith}
 use Rattle.std.proofs.lemmas.Bool.{cases_eq}
 use Rattle.conf_change.specs.Configuration.{Configuration}
 use Rattle.quorum_sets.specs.Ids.{Ids}
@@ -17,21 +17,12 @@ use Rattle.raft_safety.proofs.Etcd.Invariants.{IsAppend}
 -- what holds of the new values of two functions there, and of the old ones elsewhere, holds everywhere
 pub with_value-both : {X Y : Type 0} (P : X → Y → Type 0) (old : ℕ → X) (beside : ℕ → Y) (n : ℕ) (value : X) (other : Y) (k : ℕ) → (k ≡ n → P value other) → ((k ≡ n → ⊥) → P (old k) (beside k))
     → P (with_value old n value k) (with_value beside n other k)
-with_value-both {X} {Y} P old beside n value other k here there = elim (cases_eq k n) [
-  | inl same ↦ subst (λ (q : ℕ). P (with_value old n value q) (with_value beside n other q)) (sym same)
-      (subst (λ (x : X). P x (with_value beside n other n)) (sym (with_value-here old n value))
-      (subst (P value) (sym (with_value-here beside n other)) (here same)))
-  | inr differs ↦ subst (λ (x : X). P x (with_value beside n other k)) (sym (with_value-there old n value k differs))
-      (subst (P (old k)) (sym (with_value-there beside n other k differs)) (there differs))
-]
+with_value-both {X} {Y} P old beside n value other k here there = grind (arith, cases_eq, with_value-here, with_value-there)
 
 -- of a function of a term and a server
 pub with_value-pair : {X : Type 0} (P : X → Type 0) (old : ℕ → ℕ → X) (t s : ℕ) (value : X) (t' s' : ℕ) → (t' ≡ t → s' ≡ s → P value) → ((t' ≡ t → s' ≡ s → ⊥) → P (old t' s'))
     → P (with_value old t (with_value (old t) s value) t' s')
-with_value-pair {X} P old t s value t' s' here there =
-    with_value-each (λ (g : ℕ → X). P (g s')) old t (with_value (old t) s value) t'
-    (λ same_t. with_value-each P (old t) s value s' (here same_t) (λ other. subst (λ (q : ℕ). P (old q s')) same_t (there (λ a b. other b))))
-    (λ other. there (λ a b. other a))
+with_value-pair {X} P old t s value t' s' here there = grind (arith, with_value-each)
 
 pub pair-same : (P : ℕ → ℕ → Type 0) (t s t' s' : ℕ) → t' ≡ t → s' ≡ s → P t s → P t' s'
 pair-same P t s t' s' same_t same_s is = subst (λ (q : ℕ). P q s') (sym same_t) (subst (P t) (sym same_s) is)
@@ -62,11 +53,7 @@ become_leader-grows c r votes not_yet =
     (λ t s l. (l.0, inr l.1, l.2, l.3)) (λ t s l same_t same_s. absurd (not_yet (l.0, l.1, l.2 ∙ same_t, l.3 ∙ same_s)))
 
 pub propose-grows : (c : Cluster) (term leader : ℕ) (entry : Entry) → DoLeadersGrow c (after_action c (core.Propose term leader entry))
-propose-grows c term leader entry =
-    let now : Leadership = c.leaderships term leader in
-    leader-grows c (after_action c (core.Propose term leader entry)) term leader (record now { log = entry ∷ now.log }) (λ t s. refl) (λ t s l. l)
-    (λ t s l same_t same_s. pair-same (λ (a b : ℕ). IsPrefix (log_of c a b) (entry ∷ now.log) × IsPrefix (c.leaderships a b).committed now.committed) term leader t s same_t same_s
-    (inr (IsPrefix-refl now.log), IsPrefix-refl now.committed))
+propose-grows c term leader entry = grind (arith, leader-grows, pair-same, log_of, IsPrefix-refl)
 
 pub commit-grows : (c : Cluster) (leader : ℕ) (m : Commitment) → IsPrefix (c.leaderships m.term leader).committed m.log → DoLeadersGrow c (after_action c (core.Commit leader m))
 commit-grows c leader m more =

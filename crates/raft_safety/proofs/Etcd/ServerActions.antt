@@ -58,9 +58,7 @@ server_kept first e i server new votes acknowledgements durable core durable_are
 -- where nothing more is durable
 durable_kept : (first : Configuration) (e : EtcdCluster) → AreEtcdInvariants first e → (server : ℕ) (new : Server) → (e.looks server ≡ false → IsDurable first new.log new.committed (e.durable server))
     → (k : ℕ) → e.looks k ≡ false → IsDurable first (with_value e.cluster.servers server new k).log (with_value e.cluster.servers server new k).committed (e.durable k)
-durable_kept first e i server new is k not =
-    with_value-each (λ (x : Server). IsDurable first x.log x.committed (e.durable k)) e.cluster.servers server new k
-    (λ same. subst (λ (q : ℕ). IsDurable first new.log new.committed (e.durable q)) (sym same) (is (subst (λ (q : ℕ). e.looks q ≡ false) same not))) (λ other. i.durable k not)
+durable_kept first e i server new is k not = grind (arith, with_value-each, IsDurable)
 
 pub campaign-keeps_etcd : (first : Configuration) (e : EtcdCluster) (server term : ℕ) (applied : Log) → MayCampaignApplied first e server term applied → AreEtcdInvariants first e
     → AreEtcdInvariants first (after_etcd_action e (Campaign server term applied))

@@ -1,5 +1,5 @@
 -- The theorem for etcd's rules: the invariants hold before anything happens, each action keeps them, and the claims follow.
-use Rattle.std.proofs.Common.{ℕ, ◌+◌, List, ◌++◌, refl, sym, subst, inl, inr, arith}
+use Rattle.std.proofs.Common.{ℕ, ◌+◌, List, ◌++◌, sym, subst, inl, inr, arith}
 use Rattle.std.specs.Prelude.{Bool}
 use Rattle.conf_change.specs.Configuration.{Configuration}
 use Rattle.raft_safety.specs.Logs.{Log}
@@ -19,13 +19,7 @@ use Rattle.raft_safety.proofs.Etcd.LeaderActions.{become_leader-keeps_etcd, prop
 
 -- ---- every state that is reached
 pub new_holds : (first : Configuration) (looks : ℕ → Bool) → AreEtcdInvariants first (new_etcd_cluster looks)
-new_holds first looks = record {
-  core = AreInvariants-new first;
-  durable = λ server not. record { committed = refl; one_change_beyond = omega arith };
-  applied = λ term leader l. absurd l.1;
-  candidacies = λ k x. absurd x;
-  appends = λ a x. absurd x;
-}
+new_holds first looks = grind (arith, AreInvariants-new)
 
 pub action_keeps : (first : Configuration) (e : EtcdCluster) (action : EtcdAction) → IsAllowedByEtcd first e action → AreEtcdInvariants first e → AreEtcdInvariants first (after_etcd_action e action)
 action_keeps first e (Campaign server term applied) may i = campaign-keeps_etcd first e server term applied may i

@@ -1,9 +1,9 @@
 -- A leader has all that was committed in earlier terms.
-use Rattle.std.proofs.Common.{◌≡◌, ℕ, ◌+◌, ◌≤◌, ◌<◌, ◌∷◌, sym, ap, subst, inl, inr, arith, zero, suc, []}
+use Rattle.std.proofs.Common.{◌≡◌, ℕ, ◌+◌, ◌<◌, ◌∷◌, sym, ap, subst, inl, inr, arith, zero, suc, []}
 use Rattle.std.proofs.lemmas.Bool.{cases_lt}
 use Rattle.conf_change.specs.Configuration.{Configuration}
 use Rattle.raft_safety.specs.Logs.{Log, IsPrefix}
-use Rattle.raft_safety.specs.Configurations.{IsOneChangeBeyond, voter_changes}
+use Rattle.raft_safety.specs.Configurations.{IsOneChangeBeyond}
 use Rattle.raft_safety.specs.Cluster.{VoteRequest, Election, Commitment, Cluster, In}
 use Rattle.raft_safety.proofs.Configurations.{DoMeet, DoMeet-one_change, voter_changes-prefix}
 use Rattle.raft_safety.proofs.Invariants.{IsGrown, AreInvariants, log_of}
@@ -31,13 +31,7 @@ IsPrefix-grown term old (entry ∷ log) (inr more) = inr (IsPrefix-grown term ol
 
 -- quorums of two parts of a log meet if at most one of its changes of the voters is beyond each of them
 parts_meet : (first : Configuration) (one other log : Log) → IsPrefix one log → IsPrefix other log → IsOneChangeBeyond first log one → IsOneChangeBeyond first log other → DoMeet first one other
-parts_meet first one other log p q few_one few_other =
-    let s1 : voter_changes first one ≤ voter_changes first log = voter_changes-prefix first one log p in
-    let s2 : voter_changes first other ≤ voter_changes first log = voter_changes-prefix first other log q in
-    elim (IsPrefix-compare one other log p q) [
-      | inl less ↦ DoMeet-one_change first one other less (omega arith)
-      | inr more ↦ (let meet = DoMeet-one_change first other one more (omega arith) in record { forth = meet.back; back = meet.forth })
-    ]
+parts_meet first one other log p q few_one few_other = grind (arith, voter_changes-prefix, IsPrefix-compare, DoMeet-one_change)
 
 -- what was committed before is in the log with which an election was won
 in_request : (first : Configuration) (c : Cluster) → AreInvariants first c → (e : Election) → In e c.elections → AreComplete c e.request.term

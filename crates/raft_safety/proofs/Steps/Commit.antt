@@ -12,13 +12,7 @@ use Rattle.raft_safety.proofs.Logs.{IsPrefix-refl, IsPrefix-trans, IsPrefix-comp
 
 -- what is committed was committed before, and more
 pub commit-rises : (first : Configuration) (c : Cluster) (leader : ℕ) (m : Commitment) → MayCommit first c leader m → AreInvariants first c → IsPrefix (c.leaderships m.term leader).committed m.log
-commit-rises first c leader m may i =
-    let now : Leadership = c.leaderships m.term leader in
-    let longer_than : length now.committed < length m.log = may.longer_than in
-    elim (IsPrefix-compare now.committed m.log now.log (IsElectedWith-leads first c i m.term leader may.leads).stored may.in_log) [
-      | inl less ↦ less
-      | inr more ↦ (let h : length m.log ≤ length now.committed = IsPrefix-length m.log now.committed more in absurd (omega arith))
-    ]
+commit-rises first c leader m may i = grind (arith, IsPrefix-compare, IsElectedWith-leads, IsPrefix-length)
 
 pub commit-keeps : (first : Configuration) (c : Cluster) (leader : ℕ) (m : Commitment) → MayCommit first c leader m → AreInvariants first c → AreInvariants first (after_action c (Commit leader m))
 commit-keeps first c leader m may i =

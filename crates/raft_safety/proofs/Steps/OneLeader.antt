@@ -18,21 +18,7 @@ after_leader c term leader new commitments = record (with_leadership c term lead
 pub Follows-leader : (c : Cluster) (term leader : ℕ) (new : Leadership) (commitments : List Commitment) → IsPrefix (log_of c term leader) new.log
     → ((log : Log) → last_term log < term → IsPrefix log new.log → IsPrefix log (log_of c term leader)) → ((m : Commitment) → In m c.commitments → In m commitments)
     → Follows c (after_leader c term leader new commitments)
-Follows-leader c term leader new commitments grows back more = record {
-  leads = λ t s l. l;
-  logs = λ t s l. with_leadership-each c term leader new (λ (q : Leadership). IsPrefix (log_of c t s) q.log) t s
-      (λ same_t same_s. subst (λ (q : Leadership). IsPrefix q.log new.log) (sym (leadership-same c term leader t s same_t same_s)) grows) (IsPrefix-refl (log_of c t s));
-  back = λ log t s past l. with_leadership-each c term leader new (λ (q : Leadership). IsPrefix log q.log → IsPrefix log (log_of c t s)) t s
-      (λ same_t same_s p. subst (λ (q : Leadership). IsPrefix log q.log) (sym (leadership-same c term leader t s same_t same_s))
-      (back log (let g : t ≡ term = same_t in omega arith) p))
-      (λ p. p);
-  elections = λ e x. x;
-  votes = λ v x. x;
-  requests = λ r x. x;
-  acknowledgements = λ a x. x;
-  commitments = more;
-  terms = λ s. omega arith;
-}
+Follows-leader c term leader new commitments grows back more = grind (arith, with_leadership-each, log_of, leadership-same, IsPrefix-refl)
 
 pub one_leader-keeps : (first : Configuration) (c : Cluster) (term leader : ℕ) (new : Leadership) (commitments : List Commitment) → Follows c (after_leader c term leader new commitments) → AreInvariants first c
     → ((e : Election) → e.request.term ≡ term → IsElectedWith first (after_leader c term leader new commitments) e (c.leaderships term leader)

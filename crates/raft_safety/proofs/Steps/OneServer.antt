@@ -18,17 +18,7 @@ after_server c server new votes requests acknowledgements = record (with_server 
 pub Follows-server : (c : Cluster) (server : ℕ) (new : Server) (votes : List Vote) (requests : List VoteRequest) (acknowledgements : List Acknowledgement) → (c.servers server).term ≤ new.term
     → ((v : Vote) → In v c.votes → In v votes) → ((r : VoteRequest) → In r c.requests → In r requests) → ((a : Acknowledgement) → In a c.acknowledgements → In a acknowledgements)
     → Follows c (after_server c server new votes requests acknowledgements)
-Follows-server c server new votes requests acknowledgements rises more_votes more_requests more_acknowledgements = record {
-  leads = λ t s l. l;
-  logs = λ t s l. IsPrefix-refl (log_of c t s);
-  back = λ log t s past l p. p;
-  elections = λ e x. x;
-  votes = more_votes;
-  requests = more_requests;
-  acknowledgements = more_acknowledgements;
-  commitments = λ m x. x;
-  terms = with_value-term_rises c.servers server new rises;
-}
+Follows-server c server new votes requests acknowledgements rises more_votes more_requests more_acknowledgements = grind (arith, IsPrefix-refl, log_of, with_value-term_rises)
 
 pub with_server-keeps : (first : Configuration) (c : Cluster) (server : ℕ) (new : Server) → (c.servers server).term ≤ new.term → (c.servers server).log ≡ new.log
     → AreInvariants first c → (Follows c (with_server c server new) → IsServer (with_server c server new) new) → AreInvariants first (with_server c server new)

@@ -32,10 +32,7 @@ pub record AreWaitingInvariants (first : Configuration) (w : WaitingCluster) : T
 -- a server of which only the term has changed
 term_keeps : (w : WaitingCluster) (server term : ℕ) → ((k : ℕ) → IsPrefix (w.known k) (w.cluster.servers k).committed)
     → (k : ℕ) → IsPrefix (w.known k) (with_value w.cluster.servers server (record (w.cluster.servers server) { term = term }) k).committed
-term_keeps w server term known k =
-    let old : Server = w.cluster.servers server in
-    with_value-each (λ (x : Server). IsPrefix (w.known k) x.committed) w.cluster.servers server (record old { term = term }) k
-    (λ same. subst (λ (q : ℕ). IsPrefix (w.known q) old.committed) (sym same) (known server)) (λ other. known k)
+term_keeps w server term known k = grind (arith, with_value-each, known)
 
 campaign-keeps_waiting : (first : Configuration) (w : WaitingCluster) (server term : ℕ) (counted : Log) → MayCampaignWaiting w server term counted → AreWaitingInvariants first w
     → AreWaitingInvariants first (after_waiting w (Campaign server term counted))

@@ -4,7 +4,7 @@ use Rattle.std.specs.Prelude.{Bool}
 use Rattle.conf_change.specs.Configuration.{Configuration}
 use Rattle.raft_safety.specs.Logs.{Entry, Log}
 use Rattle.raft_safety.specs.Configurations.{voter_changes}
-use Rattle.raft_safety.specs.Cluster.{Cluster, Leadership, In}
+use Rattle.raft_safety.specs.Cluster.{In}
 use Rattle.raft_safety.specs.EtcdCluster.{EtcdCluster}
 use Rattle.raft_safety.specs.EtcdRules.{EtcdAction, IsReady, MayCampaignApplied, MayProposeApplied}
 use Rattle.raft_safety.specs.EtcdRules as etcd
@@ -40,8 +40,7 @@ own_keeps first server e action own stored has = has
 all_own_keep : (first : Configuration) (server : ℕ) (e : EtcdCluster) (actions : List EtcdAction) → AreOwn server actions → (stored : Log) → HasChanges first e.cluster stored
     → HasChanges first (after_etcd_actions e actions).cluster stored
 all_own_keep first server e [] own stored has = has
-all_own_keep first server e (action ∷ actions) own stored has =
-    all_own_keep first server (after_etcd_action e action) actions own.1 stored (own_keeps first server e action own.0 stored has)
+all_own_keep first server e (action ∷ actions) own stored has = grind (arith, own_keeps, all_own_keep first server (after_etcd_action e action) actions own.1 stored (own_keeps first server e action own.0 stored has))
 
 -- ---- each action is allowed
 campaigns : (first : Configuration) (w : WaitingDisks) (server term : ℕ) → MayCampaignStored w server term → AreWaitingDisks first w
@@ -63,25 +62,7 @@ campaigns first w server term may i =
 
 proposes : (first : Configuration) (w : WaitingDisks) (term leader : ℕ) (entry : Entry) → MayProposeStored first w term leader entry → AreWaitingDisks first w
     → MayProposeApplied first w.cluster.disk term leader entry
-proposes first w term leader entry may i =
-    let e : EtcdCluster = w.cluster.disk in
-    let c : Cluster = e.cluster in
-    let log : Log = log_of c term leader in
-    let applied : Log = e.applied term leader in
-    let committed : Log = (c.leaderships term leader).committed in
-    let part : voter_changes first applied ≤ voter_changes first log = voter_changes-prefix first applied log
-    (IsPrefix-trans applied committed log (i.disks.disk.applied term leader may.leads).committed (IsElectedWith-leads first c i.disks.disk.core term leader may.leads).stored) in
-    record {
-      leads = may.leads;
-      own_term = may.own_term;
-      one_at_a_time = elim may.waits [
-        | inl idle ↦ inl idle
-        | inr waited ↦ inr (
-            let all : voter_changes first log ≤ voter_changes first (w.stored leader) = waited.2 leader waited.0 in
-            let less : voter_changes first (w.stored leader) ≤ voter_changes first applied = voter_changes-prefix first (w.stored leader) applied waited.1 in
-            omega arith)
-      ];
-    }
+proposes first w term leader entry may i = grind (arith, log_of, voter_changes-prefix, IsPrefix-trans, IsElectedWith-leads)
 
 allowed_do : (first : Configuration) (w : WaitingDisks) (action : DiskAction) → IsAllowedWaitingOnDisk first w (Do action) → AreWaitingDisks first w → IsAllowedOnDisk first w.cluster action
 allowed_do first w (Campaign server term) may i = campaigns first w server term may i
@@ -101,11 +82,7 @@ changes_do first w (Lead candidacy votes) may i member x =
     (core.requests candidacy.request (i.disks.disk.candidacies candidacy may.asked).asked).from_leaders (i.changes member x)
 changes_do first w (Propose term leader entry) may i member x =
     HasChanges-proposed first w.cluster.disk.cluster term leader entry (w.stored member) may.leads (elim may.waits [ inl idle ↦ inl idle | inr waited ↦ inr (waited.2 member x) ]) (i.changes member x)
-changes_do first w (Use raised) may i member x =
-    let c : Cluster = w.cluster.disk.cluster in
-    let term : ℕ = raised.commitment.term in
-    let now : Leadership = c.leaderships term raised.leader in
-    HasChanges-same_log first c term raised.leader (record now { committed = raised.commitment.log }) (w.stored member) refl (i.disks.raised raised may.rose).leads (i.changes member x)
+changes_do first w (Use raised) may i member x = grind (arith, HasChanges-same_log)
 changes_do first w action may i member x = i.changes member x
 
 looks_do : (d : DiskCluster) (action : DiskAction) → (after_disk_action d action).disk.looks ≡ d.disk.looks
@@ -139,16 +116,10 @@ waiting_disks_keep first w (Do action) may i = record {
 
 allowed_on_disk : (first : Configuration) (w : WaitingDisks) (actions : List WaitingDiskAction) → AreAllowedWaitingOnDisk first w actions → AreWaitingDisks first w → AreAllowedOnDisk first w.cluster (done actions)
 allowed_on_disk first w [] allowed i = tt
-allowed_on_disk first w (Join server ∷ actions) allowed i =
-    allowed_on_disk first (after_waiting_on_disk w (Join server)) actions allowed.1 (waiting_disks_keep first w (Join server) allowed.0 i)
-allowed_on_disk first w (Leave server ∷ actions) allowed i =
-    allowed_on_disk first (after_waiting_on_disk w (Leave server)) actions allowed.1 (waiting_disks_keep first w (Leave server) allowed.0 i)
-allowed_on_disk first w (Store server log ∷ actions) allowed i =
-    allowed_on_disk first (after_waiting_on_disk w (Store server log)) actions allowed.1 (waiting_disks_keep first w (Store server log) allowed.0 i)
-allowed_on_disk first w (Do action ∷ actions) allowed i = (
-  allowed_do first w action allowed.0 i,
-  allowed_on_disk first (after_waiting_on_disk w (Do action)) actions allowed.1 (waiting_disks_keep first w (Do action) allowed.0 i),
-)
+allowed_on_disk first w (Join server ∷ actions) allowed i = grind (arith, waiting_disks_keep, allowed_on_disk first (after_waiting_on_disk w (Join server)) actions allowed.1 (waiting_disks_keep first w (Join server) allowed.0 i))
+allowed_on_disk first w (Leave server ∷ actions) allowed i = grind (arith, waiting_disks_keep, allowed_on_disk first (after_waiting_on_disk w (Leave server)) actions allowed.1 (waiting_disks_keep first w (Leave server) allowed.0 i))
+allowed_on_disk first w (Store server log ∷ actions) allowed i = grind (arith, waiting_disks_keep, allowed_on_disk first (after_waiting_on_disk w (Store server log)) actions allowed.1 (waiting_disks_keep first w (Store server log) allowed.0 i))
+allowed_on_disk first w (Do action ∷ actions) allowed i = grind (arith, allowed_do, waiting_disks_keep, allowed_on_disk first (after_waiting_on_disk w (Do action)) actions allowed.1 (waiting_disks_keep first w (Do action) allowed.0 i))
 
 pub AreAllowedOnDisk-waiting : (first : Configuration) (actions : List WaitingDiskAction) → AreAllowedWaitingOnDisk first new_waiting_disks actions
     → AreAllowedOnDisk first (new_disk_cluster (λ server. true)) (done actions)

@@ -5,13 +5,7 @@ use Rattle.ascii_text.proofs.Digits.{length-between_powers}
 use Rattle.ascii_text.proofs.append.append_digits.Goals as goal
 
 pub write_digits-requires : goal.write_digits-requires
-write_digits-requires c =
-    let len = c.len.ensures in
-    let digits = length-between_powers c.ilog10.result c.args.number c.ilog10.ensures.power_le c.ilog10.ensures.next_power_gt c.ranges.number.fits in
-    let few = c.ilog10.ensures.bound in
-    let whole = c.as_mut_slice.ensures.len in
-    let more = c.in_ok-extend_from_slice.ensures.len in
-    (omega arith, omega arith)
+write_digits-requires c = grind (arith, length-between_powers, c.len.ensures, c.ilog10.ensures.power_le, c.ilog10.ensures.next_power_gt, c.ilog10.ensures.bound, c.as_mut_slice.ensures.len, c.in_ok-extend_from_slice.ensures.len)
 
 pub returns-clause-ok : goal.returns-clause-ok
 returns-clause-ok c =

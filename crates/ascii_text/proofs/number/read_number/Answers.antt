@@ -9,8 +9,7 @@ digit : (c : Else-not-is_ascii_digit) → is_ascii_digit (get_or c.args.digits.n
 digit c = sym c.is_ascii_digit.ensures.value ∙ c.if-not-is_ascii_digit.false
 
 pub returns-then-not-is_ascii_digit : goal.returns-then-not-is_ascii_digit
-returns-then-not-is_ascii_digit c =
-    sym (number_in-none_at c.args.digits.now c.loop-digit.digit-index (omega arith) (sym c.is_ascii_digit.ensures.value ∙ c.if-not-is_ascii_digit.true))
+returns-then-not-is_ascii_digit c = grind (arith, number_in-none_at, c.is_ascii_digit.ensures.value, c.if-not-is_ascii_digit.true)
 
 pub returns-in_err-checked_mul : goal.returns-in_err-checked_mul
 returns-in_err-checked_mul c =

@@ -4,9 +4,7 @@ use Rattle.std.proofs.lemmas.List.Sums.{position_or_len_is}
 use Rattle.ascii_text.proofs.position.find_far_byte.Goals as goal
 
 pub returns-in-Some-clause-position : goal.returns-in-Some-clause-position
-returns-in-Some-clause-position c =
-    let found = c.in-Some.ensures in
-    sym (position_or_len_is (λ b. b == c.args.byte) c.args.text.now c.in-Some.position 0 (omega (arith, found.0.high)) (λ k before. false_from_ne_true _ (found.0.before k (omega arith) before)) (λ within. found.1))
+returns-in-Some-clause-position c = grind (arith, position_or_len_is, false_from_ne_true, c.in-Some.ensures)
 
 pub returns-in-None-clause-position : goal.returns-in-None-clause-position
 returns-in-None-clause-position c =

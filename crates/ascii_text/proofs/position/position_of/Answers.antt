@@ -1,12 +1,9 @@
-use Rattle.std.proofs.Common.{◌≡◌, ◌==◌, true, false, length, get_or, sym, arith, rules}
+use Rattle.std.proofs.Common.{◌≡◌, ◌==◌, true, false, length, get_or, sym, arith}
 use Rattle.std.proofs.lemmas.List.Sums.{position_or_len_is}
-use borrow.Author.Count.{below_more}
 use Rattle.ascii_text.proofs.position.position_of.Goals as goal
 
 pub returns-then-other-byte-clause-position : goal.returns-then-other-byte-clause-position
-returns-then-other-byte-clause-position c =
-    let found : (get_or c.args.text.now c.loop-position.position 0 == c.args.byte) ≡ true = search rules in
-    sym (position_or_len_is (λ b. b == c.args.byte) c.args.text.now c.loop-position.position 0 (omega arith) c.loop-position.invariant (λ within. found))
+returns-then-other-byte-clause-position c = grind (arith, get_or, true, position_or_len_is, c.loop-position.invariant)
 
 pub returns-clause-position : goal.returns-clause-position
 returns-clause-position c =
@@ -15,5 +12,4 @@ returns-clause-position c =
     sym (position_or_len_is (λ b. b == c.args.byte) text (length text) 0 (omega arith) (λ k below. c.loop-position.invariant k (omega (arith, below))) (λ past. absurd (omega (arith, past))))
 
 pub loop-position-preserved : goal.loop-position-preserved
-loop-position-preserved c =
-    below_more (λ k. (get_or c.args.text.now k 0 == c.args.byte) ≡ false) c.loop-position.position c.loop-position.invariant (search rules)
+loop-position-preserved c = grind (arith, get_or, false, c.loop-position.invariant)

@@ -7,8 +7,7 @@ use Rattle.ascii_text.proofs.Offered.{Extends-append, join-one_more}
 use Rattle.conf_change.proofs.append.append_numbers.Goals as goal
 
 pub returns-in_err-append_number_at-clause-extends : goal.returns-in_err-append_number_at-clause-extends
-returns-in_err-append_number_at-clause-extends c =
-    Extends-append _ _ _ (rw c.loop-position.invariant at c.append_number_at.ensures.extends)
+returns-in_err-append_number_at-clause-extends c = grind (arith, Extends-append, c.loop-position.invariant, c.append_number_at.ensures.extends)
 
 pub loop-position-preserved : goal.loop-position-preserved
 loop-position-preserved c = grind (arith, common_steps, join-one_more decimal)

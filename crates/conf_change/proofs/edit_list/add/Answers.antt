@@ -1,33 +1,35 @@
-use Rattle.std.proofs.Common.{rules, ℕ, List, cond, ◌==◌, ap, sym, subst, ◌∙◌}
+use Rattle.std.proofs.Common.{rules, ℕ, List, cond, set, ◌==◌, ap, sym, subst, ◌∙◌, arith}
+use Rattle.std.proofs.lemmas.Grind.{common_steps}
 use Rattle.std.specs.Prelude.{Some, None}
 use Rattle.std.specs.Ordering.{nat_cmp}
 use Rattle.std.specs.FinMap.{find}
 use Rattle.std.specs.List.{insert}
 use Rattle.smallvec.proofs.SmallVecLemmas.{items-with_items}
-use Rattle.quorum_sets.specs.AscendingLists.{IsAscending, IsInsertionPoint}
+use Rattle.quorum_sets.specs.AscendingLists.{IsAtPosition, IsInsertionPoint}
 use Rattle.conf_change.specs.Edits.{Adds, with_change}
 use Rattle.conf_change.specs.declared.edit_list.Edit.{Edit}
-use Rattle.conf_change.proofs.MemberProgress.Entries.{keys, ascends-put, find-missing, find-insert}
+use Rattle.conf_change.proofs.MemberProgress.Entries.{keys, keys-set, ascends-put, find-set, find-standing, find-missing, find-insert}
 use Rattle.conf_change.proofs.edit_list.add.Goals as goal
 
 abbrev EditList : Type 0
 EditList = List (ℕ × Edit)
 
 pub returns-in-Ok-clause-ascends : goal.returns-in-Ok-clause-ascends
-returns-in-Ok-clause-ascends c =
-    rw (items-with_items c.args.edits.now c.amend.new.edits (search rules))
-    (subst IsAscending (sym c.amend.ensures.keys) (let P : EditList → Type 0 = λ es. IsAscending (keys es) in subst P (sym c.as_mut_slice.ensures.value) c.requires))
+returns-in-Ok-clause-ascends c = grind (arith, common_steps, keys, items-with_items, set, keys-set, c.as_slice.ensures, c.in-Ok.ensures, c.as_mut_slice.ensures.value, c.requires)
 
 pub returns-in-Ok-clause-added : goal.returns-in-Ok-clause-added
 returns-in-Ok-clause-added c =
-    let P : EditList → Type 0 = λ es. Adds c.args.change c.args.outgoing es c.amend.new.edits in
-    rw (items-with_items c.args.edits.now c.amend.new.edits (search rules)) (subst P c.as_mut_slice.ensures.value (c.amend.ensures.added c.args.outgoing))
+    let es = c.args.edits.now.items in
+    let x = c.args.change in
+    let At : EditList → Type 0 = λ list. IsAtPosition (keys list) x.id c.in-Ok.position in
+    let at = subst At c.as_slice.ensures c.in-Ok.ensures in
+    rw (items-with_items c.args.edits.now (set c.as_mut_slice.result.now c.in-Ok.position (x.id, c.and.result)) (search rules), c.as_mut_slice.ensures.value)
+    (λ q. find-set es x.id c.in-Ok.position c.and.result c.requires at q
+    ∙ ap (λ e. cond (q == x.id) (Some e) (find nat_cmp q es)) (rw c.as_slice-in-Ok.ensures at c.and.ensures)
+    ∙ ap (λ o. cond (q == x.id) (Some (with_change o x.kind c.args.outgoing)) (find nat_cmp q es)) (sym (find-standing es x.id c.in-Ok.position _ c.requires at)))
 
 pub returns-in_ok-insert-in-Err-clause-ascends : goal.returns-in_ok-insert-in-Err-clause-ascends
-returns-in_ok-insert-in-Err-clause-ascends c =
-    let P : EditList → Type 0 = λ es. IsAscending (keys es) in
-    let G : EditList → Type 0 = λ es. IsInsertionPoint (keys es) c.args.change.id c.in-Err.position in
-    subst P (sym c.in_ok-insert-in-Err.ensures.ok) (ascends-put c.args.edits.now.items c.args.change.id c.in-Err.position _ c.requires (subst G c.as_slice.ensures c.in-Err.ensures))
+returns-in_ok-insert-in-Err-clause-ascends c = grind (arith, keys, ascends-put, c.in_ok-insert-in-Err.ensures.ok, c.requires, c.as_slice.ensures, c.in-Err.ensures)
 
 pub returns-in_ok-insert-in-Err-clause-added : goal.returns-in_ok-insert-in-Err-clause-added
 returns-in_ok-insert-in-Err-clause-added c =

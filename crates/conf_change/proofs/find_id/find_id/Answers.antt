@@ -1,12 +1,11 @@
-use Rattle.std.proofs.Common.{sym, ◌∙◌}
+use Rattle.std.proofs.Common.{sym, ◌∙◌, arith}
 use Rattle.quorum_sets.proofs.Offered.{slice_get-not_past}
 use Rattle.conf_change.proofs.SetWalks.FindId.{find-here, find-later}
 use Rattle.conf_change.proofs.find_id.find_id.Goals as goal
 use Rattle.conf_change.proofs.find_id.find_id.Goals.{in-Some+else-test, in_default}
 
 pub returns-then-test : goal.returns-then-test
-returns-then-test g c = λ passes answers.
-    sym (c.loop-position.invariant passes answers ∙ find-here passes _ c.loop-position.position c.in-Some.id (sym c.in-Some.ensures) (sym (answers _ _ c.test.ensures) ∙ c.if-test.true))
+returns-then-test g c = grind (arith, find-here, c.loop-position.invariant, c.in-Some.ensures, c.test.ensures, c.if-test.true)
 
 pub loop-position-preserved : goal.loop-position-preserved
 loop-position-preserved g c = elim c.match-at.branch [

@@ -1,6 +1,4 @@
-use Rattle.std.proofs.Common.{ℕ, List, ap, sym, subst, ◌∙◌, map, take_all}
-use Rattle.std.specs.Ordering.{nat_cmp}
-use Rattle.std.specs.FinMap as finite
+use Rattle.std.proofs.Common.{ℕ, List, ap, sym, subst, ◌∙◌, map, take_all, arith}
 use Rattle.quorum_sets.specs.Ids.{has}
 use Rattle.quorum_sets.specs.AscendingLists.{IsAscending}
 use Rattle.conf_change.specs.Configuration.{is_member}
@@ -13,15 +11,9 @@ returns-clause-ascends g c =
     let d = c.args.config.now in
     let entry = kept_entry (is_member d) (has d.learners) in
     let es = c.args.others.now in
-    let all = c.loop-member.invariant ∙ ap (filtered (λ m. m.0) entry) (take_all _ _ c.loop-member-test.false) in
+    let all = c.loop-id.invariant.items ∙ ap (filtered (λ m. m.0) entry) (take_all _ _ c.loop-id-test.false) in
     let Rises : List (ℕ × Progress) → Type 0 = λ ms. IsAscending (map (λ m. m.0) ms) in
     subst Rises (sym all) (ascends-filtered (λ m. m.0) entry es c.requires)
 
 pub returns-clause-kept : goal.returns-clause-kept
-returns-clause-kept g c = λ q.
-    let d = c.args.config.now in
-    let entry = kept_entry (is_member d) (has d.learners) in
-    let es = c.args.others.now in
-    let all = c.loop-member.invariant ∙ ap (filtered (λ m. m.0) entry) (take_all _ _ c.loop-member-test.false) in
-    ap (λ ms. finite.get (finite.from_entries {R = nat_cmp} ms) q) all
-    ∙ get-kept (is_member d) (has d.learners) es q
+returns-clause-kept g c = grind (arith, kept_entry, take_all, get-kept, c.loop-id.invariant.items, c.loop-id-test.false)

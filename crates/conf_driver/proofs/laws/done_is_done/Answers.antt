@@ -79,9 +79,7 @@ at_end : (s : Situation) (steps : List Step) → s.has_step ≡ has_step steps �
 at_end s steps same (inl here) =
     let parts = when-some (not s.has_step) (done_or_wait s (needed_at_target s ∖ s.down ∖ s.up)) Done here in
     record { steps_none = no_step steps (ap not (sym same) ∙ parts.0); none_left = done-none s _ parts.1 }
-at_end s steps same (inr other) =
-    let none : has_step steps ≡ false = ap has_step other.1 in
-    absurd (both_ways _ (when-none (not s.has_step) _ other.0) (ap not (same ∙ none)))
+at_end s steps same (inr other) = grind (arith, false, both_ways, when-none, not)
 
 -- ---- who is needed
 -- where a voter leads and each member that is not down is up, each of these knows the configuration
@@ -129,17 +127,7 @@ learner-from_member c id member votes_not = grind (arith, member, votes_not, has
 -- only members run: if others do, all members have caught up, so these are stopped first
 only-members : (s : Situation) → (is_empty (s.members ∖ s.down ∖ s.up) ≡ true → may_stop s ≡ true) → row.not_stopped s ≡ None → member_ids s.target ≡ s.members
     → is_empty (needed_at_target s ∖ s.down ∖ s.up) ≡ true → is_empty (s.running ∖ s.members) ≡ true
-only-members s may not_stopped same none_left = elim (cases_Bool (is_empty (s.running ∖ s.members))) [
-  | inl none ↦ none
-  | inr some ↦
-      let needed : needed_at_target s ≡ s.members = cond-false (is_empty (s.running ∖ s.members)) (s.before.incoming ∪ s.before.learners) s.members some in
-      let stopped = stopped-passed s not_stopped (may (ap (λ ids. is_empty (ids ∖ s.down ∖ s.up)) (sym needed) ∙ none_left)) in
-      let none : is_empty (s.running ∖ s.members ∖ s.members) ≡ true = ap (λ ids. is_empty (s.running ∖ s.members ∖ ids)) (sym same) ∙ stopped in
-      without-is_empty s.running s.members (λ q runs. elim (cases_Bool (has s.members q)) [
-        | inl member ↦ member
-        | inr other ↦ in-second (s.running ∖ s.members) s.members q none (has-without-is s.running s.members q runs other)
-      ])
-]
+only-members s may not_stopped same none_left = grind (arith, cases_Bool, cond-false, stopped-passed, not_stopped, none_left, true, without-is_empty, in-second, has-without-is)
 
 done-holds : (strategy : Strategy) (target : Configuration) (down : Ids) (view : ViewState) → is_valid view.conf_state ≡ true
     → IsRun view.conf_state (one_change_each (path_by strategy down view.conf_state target)) target → next_of strategy target down view ≡ Done → IsDone target down view

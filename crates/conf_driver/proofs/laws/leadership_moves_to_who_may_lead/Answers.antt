@@ -1,4 +1,4 @@
-use Rattle.std.proofs.Common.{◌≡◌, ◌≢◌, ℕ, true, false, not, sym, ap, subst, ◌∙◌, arith, inl, inr, ◌⊎◌}
+use Rattle.std.proofs.Common.{◌≡◌, ◌≢◌, ℕ, true, not, sym, ap, subst, ◌∙◌, arith, inl, inr}
 use Rattle.std.specs.Prelude.{nat_eq}
 use Rattle.std.proofs.lemmas.Bool.{both_ways, cases_Bool, or_left}
 use Rattle.quorum_sets.specs.Ids.{Ids, has, is_empty}
@@ -11,15 +11,15 @@ use Rattle.conf_plan.specs.OneChangeEach.{one_change_each}
 use Rattle.conf_plan.specs.PathBy.{path_by}
 use Rattle.conf_plan.specs.Run.{Gives, IsRun}
 use Rattle.conf_driver.specs.IdSets.{◌∩◌, ◌∖◌}
-use Rattle.conf_driver.specs.Leadership.{HasToMove, MayTakeOver, after_first_step}
+use Rattle.conf_driver.specs.Leadership.{after_first_step}
 use Rattle.conf_driver.specs.Next.{situation}
-use Rattle.conf_driver.specs.View.{ViewState, up_and_caught_up, voter_ids}
+use Rattle.conf_driver.specs.View.{up_and_caught_up, voter_ids}
 use Rattle.conf_driver.proofs.Counting.{is_quorum-of_voters}
 use Rattle.conf_driver.proofs.FirstStep.{after_first-is}
 use Rattle.conf_driver.proofs.IdsByMember.{has-common-is, in-common, in-second}
 use Rattle.conf_driver.proofs.Proposed.{IsProposed-from_answer, first_step, zero-from_test}
 use Rattle.conf_driver.proofs.RowsPassed.{successor-passed}
-use Rattle.conf_driver.proofs.Transfers.{IsSuccessor, MovesBeforeStep, MovesFromNonvoter, MovesWhilePending, Moves-from_answer}
+use Rattle.conf_driver.proofs.Transfers.{Moves-from_answer}
 use Rattle.conf_driver.proofs.WhoIsUp.{up-not_down}
 use Rattle.conf_driver.proofs.laws.leadership_moves_to_who_may_lead.Goals as goal
 

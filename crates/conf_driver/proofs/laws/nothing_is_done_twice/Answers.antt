@@ -1,4 +1,4 @@
-use Rattle.std.proofs.Common.{◌≡◌, ℕ, true, false, not, sym, ap, ◌∙◌, inl, inr, ◌⊎◌}
+use Rattle.std.proofs.Common.{◌≡◌, ℕ, true, not, sym, ap, ◌∙◌, inl, inr}
 use Rattle.std.specs.Prelude.{nat_eq}
 use Rattle.std.proofs.lemmas.Bool.{both_ways, or_left}
 use Rattle.quorum_sets.specs.Ids.{Ids, has, is_empty}
@@ -12,7 +12,7 @@ use Rattle.conf_driver.specs.Next.{next_of, situation}
 use Rattle.conf_driver.specs.View.{ViewState, voter_ids}
 use Rattle.conf_driver.specs.declared.action.Action.TheVariants.{Transfer}
 use Rattle.conf_driver.proofs.ServersAnswered.{IsStarted-from_answer, IsStopped-from_answer, none_to_start, none_to_stop, to_run}
-use Rattle.conf_driver.proofs.Transfers.{IsSuccessor, MovesBeforeStep, MovesFromNonvoter, MovesWhilePending, Moves, Moves-from_answer}
+use Rattle.conf_driver.proofs.Transfers.{IsSuccessor, MovesBeforeStep, MovesWhilePending, Moves, Moves-from_answer}
 use Rattle.conf_driver.proofs.laws.nothing_is_done_twice.Goals as goal
 
 pub returns-clause-start : goal.returns-clause-start

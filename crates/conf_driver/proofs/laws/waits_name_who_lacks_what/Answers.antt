@@ -34,11 +34,7 @@ use Rattle.conf_driver.proofs.WhoIsUp.{lacks-not_up, less-lacking}
 use Rattle.conf_driver.proofs.laws.waits_name_who_lacks_what.Goals as goal
 
 one-view : IsCounted → (strategy : Strategy) (target : Configuration) (down : Ids) (view : ViewState) → IsOfOneView (situation strategy target down view)
-one-view counted strategy target down view = record {
-  voters = voters-are_members view.conf_state;
-  needed = within-union view.conf_state.incoming view.conf_state.learners (member_ids view.conf_state) (incoming-are_members view.conf_state) (learners-are_members view.conf_state);
-  grows = quorum-grows counted.fits counted.commits counted.fewer view.conf_state down (up_and_caught_up down view);
-}
+one-view counted strategy target down view = grind (arith, voters-are_members, within-union, incoming-are_members, learners-are_members, quorum-grows)
 
 -- ---- what a wait is for
 in-just : (lead id : ℕ) → has (just lead) id ≡ true → id ≡ lead
@@ -66,22 +62,10 @@ data Kinds (s : Situation) (why : WaitReason) (ids : Ids) : Type 0 where
   OfStep : IsPassed s → NamesLagging s why ids → Kinds s why ids
 
 Kinds-from_row : (s : Situation) (why : WaitReason) (ids : Ids) → IsOfOneView s → Waits s (Some (Wait why ids)) → Kinds s why ids
-Kinds-from_row s why ids sets (ByHeard here) =
-    let given = if_any-some (s.down ∩ (s.heard ∩ s.members ∪ just s.lead)) (Wait Heard) (Wait why ids) here in
-    let same = same_wait Heard why _ ids given.1 in
-    OfHeard (sym same.0) (ap is_empty (sym same.1) ∙ given.0) same.1
-Kinds-from_row s why ids sets (ByLeader counts here) =
-    let given = when-some (nat_eq s.lead 0) (Wait NoLeader (or_else (s.voters ∖ s.down ∖ s.heard) (s.voters ∖ s.down))) (Wait why ids) here in
-    let same = same_wait NoLeader why _ ids given.1 in
-    OfLeader (sym same.0) counts given.0 same.1
-Kinds-from_row s why ids sets (ByPending heard votes here) =
-    let given = when-some s.is_pending (Wait Pending (or_else s.lack_pending (just s.lead))) (Wait why ids) here in
-    let same = same_wait Pending why _ ids given.1 in
-    OfPending (sym same.0) heard (nonvoter-passed s votes) given.0 same.1
-Kinds-from_row s why ids sets (ByLeaving heard votes here) =
-    let given = when-some (s.has_step && s.before.auto_leave) (Wait Leaving (or_else (s.voters ∖ s.down ∖ s.up) (just s.lead))) (Wait why ids) here in
-    let same = same_wait Leaving why _ ids given.1 in
-    OfLeaving (sym same.0) heard (nonvoter-passed s votes) given.0 same.1
+Kinds-from_row s why ids sets (ByHeard here) = grind (arith, if_any-some, same_wait, OfHeard)
+Kinds-from_row s why ids sets (ByLeader counts here) = grind (arith, when-some, same_wait, OfLeader)
+Kinds-from_row s why ids sets (ByPending heard votes here) = grind (arith, when-some, same_wait, OfPending, nonvoter-passed)
+Kinds-from_row s why ids sets (ByLeaving heard votes here) = grind (arith, when-some, same_wait, OfLeaving, nonvoter-passed)
 Kinds-from_row s why ids sets (ByNonvoter passed here) = OfStep passed (names-nonvoter s why ids sets passed.quorum_lost here)
 Kinds-from_row s why ids sets (BySuccessor passed stays here) = OfStep passed (names-successor s why ids sets stays here)
 Kinds-from_row s why ids sets (ByTarget passed here) = OfStep passed (names-target s why ids sets here)
@@ -136,14 +120,7 @@ lacks-named strategy target down view why ids id (OfHeard is some named) here =
       | inr leads ↦ inr (in-just view.lead id leads)
     ] in
     subst (λ w. LacksWhatIsNamed w down view id) (sym is) (parts.0, either)
-lacks-named strategy target down view why ids id (OfLeader is counts leads named) here =
-    let counted = voter_ids view.conf_state ∖ down in
-    let given : has counted id ≡ true = elim (in-or_else (counted ∖ heard_from view) counted id (ap (λ s. has s id) named ∙ here)) [
-      | inl silent ↦ (in-without counted (heard_from view) id silent).0
-      | inr all ↦ all
-    ] in
-    let parts = counted-voter view.conf_state down id given in
-    subst (λ w. LacksWhatIsNamed w down view id) (sym is) (parts.1, is_zero view.lead leads, parts.0)
+lacks-named strategy target down view why ids id (OfLeader is counts leads named) here = grind (arith, true, in-or_else, in-without, counted-voter, is_zero)
 lacks-named strategy target down view why ids id (OfPending is heard voter pending named) here =
     let counted = voter_ids view.conf_state ∖ down in
     let index = view.pending_conf_index in
@@ -160,12 +137,8 @@ lacks-named strategy target down view why ids id (OfLeaving is heard voter leavi
       | inr leads ↦ let same = in-just view.lead id leads in (ap (has down) same ∙ leader-not_down (situation strategy target down view) heard, inr same)
     ] in
     subst (λ w. LacksWhatIsNamed w down view id) (sym is) (given.0, (and_parts _ _ leaving).1, given.1)
-lacks-named strategy target down view why ids id (OfStep passed (inl behind)) here =
-    let lags = behind.lagging id here in
-    let member = sym (has-all_members view.conf_state id) ∙ lags.member in
-    subst (λ w. LacksWhatIsNamed w down view id) (sym behind.why_is) (lags.not_down, behind.heard id here, lacks-not_up down view id member (behind.heard id here) lags.not_down lags.not_up)
-lacks-named strategy target down view why ids id (OfStep passed (inr unheard)) here =
-    subst (λ w. LacksWhatIsNamed w down view id) (sym unheard.why_is) (unheard.not_down id here, unheard.heard_not id here)
+lacks-named strategy target down view why ids id (OfStep passed (inl behind)) here = grind (arith, has-all_members, lacks-not_up)
+lacks-named strategy target down view why ids id (OfStep passed (inr unheard)) here = grind arith
 
 -- ---- each is a member, or leads
 -- what is said of an id but for who is not heard from names a voter, a member or the leader
@@ -188,10 +161,7 @@ member-named strategy target down view why ids id after (OfPending is heard vote
 member-named strategy target down view why ids id after (OfLeaving is heard voter leaving named) here =
     voter-or_leads view id (subst (λ w. LacksWhatIsNamed w down view id) is (lacks-named strategy target down view why ids id (OfLeaving is heard voter leaving named) here)).2
 member-named strategy target down view why ids id after (OfStep passed (inl behind)) here = inl (sym (has-all_members view.conf_state id) ∙ (behind.lagging id here).member)
-member-named strategy target down view why ids id after (OfStep passed (inr unheard)) here = elim (unheard.member id here) [
-  | inl member ↦ inl (sym (has-all_members view.conf_state id) ∙ member)
-  | inr votes ↦ inl (after votes.0 votes.1)
-]
+member-named strategy target down view why ids id after (OfStep passed (inr unheard)) here = grind (arith, has-all_members)
 
 -- ---- a wait is over
 record IsClear (s : Situation) (id : ℕ) : Type 0 where
@@ -213,13 +183,10 @@ clear-from_lagging s why ids id (OfStep passed (inr unheard)) lags here = record
 -- whom a later wait names has not come
 named-not_come : (strategy : Strategy) (target : Configuration) (down : Ids) (view : ViewState) (progress : List MemberView) (why : WaitReason) (ids : Ids) (id : ℕ) → IsClear (situation strategy target down view) id
     → HasCome (record view { progress = progress }) id → Kinds (situation strategy target down (record view { progress = progress })) why ids → has ids id ≡ true → ⊥
-named-not_come strategy target down view progress why ids id clear come (OfHeard is some named) here =
-    both_ways _ clear.not_down (in-common down _ id (ap (λ s. has s id) named ∙ here)).0
+named-not_come strategy target down view progress why ids id clear come (OfHeard is some named) here = grind (arith, both_ways, in-common)
 named-not_come strategy target down view progress why ids id clear come (OfLeader is counts leads named) here = both_ways _ (when-none (nat_eq view.lead 0) _ clear.passed.no_leader) leads
-named-not_come strategy target down view progress why ids id clear come (OfPending is heard voter pending named) here =
-    both_ways _ (pending-passed (situation strategy target down view) (clear.passed.later voter).0) pending
-named-not_come strategy target down view progress why ids id clear come (OfLeaving is heard voter leaving named) here =
-    both_ways _ (leaving-passed (situation strategy target down view) (clear.passed.later voter).1) leaving
+named-not_come strategy target down view progress why ids id clear come (OfPending is heard voter pending named) here = grind (arith, both_ways, pending-passed)
+named-not_come strategy target down view progress why ids id clear come (OfLeaving is heard voter leaving named) here = grind (arith, both_ways, leaving-passed)
 named-not_come strategy target down view progress why ids id clear come (OfStep passed (inl behind)) here =
     let lags = behind.lagging id here in
     let less = lacks-not_up down (record view { progress = progress }) id (sym (has-all_members view.conf_state id) ∙ lags.member) (behind.heard id here) lags.not_down lags.not_up in

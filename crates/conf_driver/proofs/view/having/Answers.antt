@@ -1,4 +1,4 @@
-use Rattle.std.proofs.Common.{◌≡◌, ℕ, ◌<◌, Bool, List, length, map, get_or, sym, ap, ◌∙◌, arith}
+use Rattle.std.proofs.Common.{◌≡◌, ℕ, ◌<◌, Bool, List, length, map, get_or, ap, ◌∙◌, arith}
 use Rattle.std.specs.Prelude.{filter, nat_le}
 use Rattle.std.proofs.lemmas.Bool.Decides.{nat_tests}
 use Rattle.std.proofs.lemmas.List.{get_or-map, take_all}
@@ -12,8 +12,7 @@ use Rattle.conf_driver.proofs.view.having.Goals.{then-as_slice-position+in_ok-pu
 -- the match at a position
 match-at : (view : ViewState) (ids : Ids) (items matches : List ℕ) (k : ℕ) → matches ≡ map (match_of view) (ascending ids) → items ≡ ascending ids → k < length items
     → get_or matches k 0 ≡ match_of view (get_or items k 0)
-match-at view ids items matches k all same within =
-    ap (λ xs. get_or xs k 0) (all ∙ ap (map (match_of view)) (sym same)) ∙ get_or-map (match_of view) items k 0 0 within
+match-at view ids items matches k all same within = grind (arith, get_or, map, get_or-map)
 
 pub loop-position-preserved : goal.loop-position-preserved
 loop-position-preserved c =

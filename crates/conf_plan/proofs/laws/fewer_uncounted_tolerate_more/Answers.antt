@@ -1,8 +1,8 @@
-use Rattle.std.proofs.Common.{◌≡◌, ℕ, ◌≤◌, Bool, true, cond, not, ◌==◌, List, [], ◌∷◌, refl, ◌∙◌, arith, eq-eqb}
+use Rattle.std.proofs.Common.{◌≡◌, ℕ, ◌≤◌, Bool, true, cond, not, ◌==◌, List, [], ◌∷◌, refl, arith, eq-eqb}
 use Rattle.std.specs.Prelude.{count_by}
 use Rattle.std.proofs.lemmas.Bool.{or_left, or_right}
 use Rattle.std.proofs.lemmas.List.Sums.{sum_by-cons}
-use Rattle.quorum_sets.specs.Ids.{Ids, has, ascending, count_of}
+use Rattle.quorum_sets.specs.Ids.{Ids, has, count_of}
 use Rattle.quorum_sets.proofs.Offered.{Tolerates-from_counts, counts-from_Tolerates, has-ascending}
 use Rattle.conf_plan.proofs.FindingMoves.AscendingIds.{holds}
 use Rattle.conf_plan.proofs.laws.fewer_uncounted_tolerate_more.Goals as goal
@@ -17,8 +17,7 @@ count_by-more p q (x ∷ xs) passes =
 
 counted-more : (fewer more ids : Ids) → ((id : ℕ) → has ids id ≡ true → has fewer id ≡ true → has more id ≡ true)
     → count_of (λ id. not (has more id)) ids ≤ count_of (λ id. not (has fewer id)) ids
-counted-more fewer more ids within =
-    count_by-more (λ id. not (has more id)) (λ id. not (has fewer id)) (ascending ids) (λ x here counts. grind (arith, within x (has-ascending ids x ∙ here), counts))
+counted-more fewer more ids within = grind (arith, count_by-more, not, has-ascending)
 
 pub returns : goal.returns
 returns c = λ voters fewer more k within tolerates.

@@ -41,8 +41,7 @@ sorted_once s list sorted is moved up =
 
 -- a list that is written over whole
 refill-whole : (xs ws : List ℕ) → length ws ≡ length xs → refill (length xs) xs ws ≡ ws
-refill-whole xs ws e =
-    ap (take (length xs)) (ap (λ rest. ws ++ rest) (drop_all (length ws) xs (omega (arith, e))) ∙ append-nil ws) ∙ take_all (length xs) ws (omega (arith, e))
+refill-whole xs ws e = grind (arith, take, length, drop_all, append-nil, take_all)
 
 pub returns : goal.returns
 returns g c =
@@ -54,6 +53,6 @@ returns g c =
     ∙ ap (λ l. l ++ ascending (own c.args.c.now)) (c.in_ok-add_ids-2.ensures.ok
     ∙ ap (λ l. l ++ ascending b) (c.in_ok-add_ids.ensures.ok ∙ ap (λ l. l ++ ascending a) c.new-ids.ensures.items))) in
     c.dedup.ensures.items
-    ∙ ap (dedup (λ x y. x == y)) (refill-whole c.add_ids-4.new.ids.items c.sort_unstable.new.self (c.sort_unstable.ensures.len ∙ ap length c.as_mut_slice.ensures.value))
-    ∙ sorted_once (union (union a b) (union (own c.args.c.now) (own c.args.d.now))) _ c.sort_unstable.new.self (ap ids_of (c.as_mut_slice.ensures.value ∙ listed) ∙ all-ids _ _ _ _) c.sort_unstable.ensures.permutation
-    c.sort_unstable.ensures.sorted
+    ∙ ap (dedup (λ x y. x == y)) (refill-whole c.add_ids-4.new.ids.items c.sort.new.self (c.sort.ensures.len ∙ ap length c.as_mut_slice.ensures.value))
+    ∙ sorted_once (union (union a b) (union (own c.args.c.now) (own c.args.d.now))) _ c.sort.new.self (ap ids_of (c.as_mut_slice.ensures.value ∙ listed) ∙ all-ids _ _ _ _) c.sort.ensures.permutation
+    c.in_ok-sort.ensures.sorted

@@ -1,4 +1,5 @@
-use Rattle.std.proofs.Common.{◌≡◌, ℕ, true, refl, sym, ap, subst, ◌∙◌}
+use Rattle.std.proofs.Common.{◌≡◌, ℕ, true, refl, sym, ap, subst, ◌∙◌, arith}
+use Rattle.std.proofs.lemmas.Grind.{common_steps}
 use Rattle.std.proofs.lemmas.Bool.{cond-true}
 use Rattle.std.specs.Prelude.{option_copied, option_map}
 use Rattle.quorum_sets.specs.Ids.{Ids, no_ids, size}
@@ -40,7 +41,7 @@ returns-in_ok-path_to-in-Some-clause-promises g c =
     (path_by-keeps_promises c.args.strategy (g.S.MemberSet.ids c.in-Some.down.now) now target
     (valid_with_voter now _ c.len.result c.requires.valid_now (ap (λ d. d.incoming) c.now.view_is) c.len.ensures c.if-len-eq0.false)
     (valid_with_voter target _ c.len-2.result c.requires.valid_target (ap (λ d. d.incoming) c.target.view_is) c.len-2.ensures c.if-len-eq0-2.false)
-    (sym (c.if-not-leads_to.ensures now (sym c.same.ensures.same ∙ c.if-same.false))))
+    (grind (arith, common_steps)))
 
 pub returns-in_ok-path_to-in-None-clause-promises : goal.returns-in_ok-path_to-in-None-clause-promises
 returns-in_ok-path_to-in-None-clause-promises g c =
@@ -50,4 +51,4 @@ returns-in_ok-path_to-in-None-clause-promises g c =
     (path_by-keeps_promises c.args.strategy no_ids now target
     (valid_with_voter now _ c.len.result c.requires.valid_now (ap (λ d. d.incoming) c.now.view_is) c.len.ensures c.if-len-eq0.false)
     (valid_with_voter target _ c.len-2.result c.requires.valid_target (ap (λ d. d.incoming) c.target.view_is) c.len-2.ensures c.if-len-eq0-2.false)
-    (sym (c.if-not-leads_to.ensures now (sym c.same.ensures.same ∙ c.if-same.false))))
+    (grind (arith, common_steps)))

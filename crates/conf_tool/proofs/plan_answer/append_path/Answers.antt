@@ -3,34 +3,8 @@ use Rattle.std.specs.Prelude.{IfOk, OnOk}
 use Rattle.clap.proofs.BuiltLemmas.{on_ok_always}
 use Rattle.plan_output.specs.Output as output
 use Rattle.plan_output.specs.Stages.{stalls_with}
-use Rattle.plan_output.specs.Steps.{stall_note}
 use Rattle.conf_tool.specs.PlanAnswer.{session_as, text_as}
-use Rattle.conf_tool.specs.PlanScript.{script_items, script_text}
-use Rattle.conf_tool.specs.Reports.{session_after_all}
 use Rattle.conf_tool.proofs.plan_answer.append_path.Goals as goal
-
-pub returns-in-Script-clause-text : goal.returns-in-Script-clause-text
-returns-in-Script-clause-text c =
-    let session = c.args.session.now in
-    let now = c.args.now.now in
-    let steps = c.args.path.now in
-    let before = c.args.text.now.items in
-    let after = c.append_script.new.text.items in
-    let noted = subst (λ down. OnOk c.append_script.result (after ≡ before ++ script_text session (stall_note down now steps) now steps)) c.as_ref-down.ensures.value c.append_script.ensures.text in
-    subst (λ form. OnOk c.append_script.result (after ≡ before ++ text_as form session c.args.number c.args.options.now.down now steps)) (sym c.in-Script.is) noted
-
-pub returns-in-Script-clause-session : goal.returns-in-Script-clause-session
-returns-in-Script-clause-session c =
-    let session = c.args.session.now in
-    let now = c.args.now.now in
-    let steps = c.args.path.now in
-    let after = c.append_script.new.session in
-    let noted = subst (λ down. OnOk c.append_script.result (after ≡ session_after_all session (script_items (stall_note down now steps) now steps))) c.as_ref-down.ensures.value c.append_script.ensures.session in
-    subst (λ form. OnOk c.append_script.result (after ≡ session_as form session c.args.options.now.down now steps)) (sym c.in-Script.is) noted
-
-pub returns-in-Script-clause-stalls : goal.returns-in-Script-clause-stalls
-returns-in-Script-clause-stalls c =
-    subst (λ down. IfOk c.append_script.result (λ stalls. stalls ≡ stalls_with down c.args.now.now c.args.path.now)) c.as_ref-down.ensures.value c.append_script.ensures.stalls
 
 pub returns-in-Text-clause-text : goal.returns-in-Text-clause-text
 returns-in-Text-clause-text c =

@@ -1,7 +1,6 @@
-use Rattle.std.proofs.Common.{◌≡◌, ◌<◌, ◌++◌, [], ◌∷◌, List, length, sym, ap, subst, ◌∙◌, arith, rules}
-use Rattle.std.specs.Prelude.{Some}
+use Rattle.std.proofs.Common.{◌≡◌, ◌<◌, List, length, sym, subst, ◌∙◌, arith, rules}
 use Rattle.std.proofs.lemmas.List.{nil_from_length}
-use Rattle.dd_file.specs.DirectiveLine.{ArgumentText, Leading, leading, with_key}
+use Rattle.dd_file.specs.DirectiveLine.{ArgumentText}
 use Rattle.ascii_text.proofs.Offered.{length-without_leading_space}
 use Rattle.dd_file.proofs.DirectiveTokens.ArgumentsSoFar.{IsParsed, parsed-none, parsed-all, parsed-bad, parsed-more}
 use Rattle.dd_file.proofs.command.parse_arguments.Goals as goal
@@ -20,19 +19,7 @@ returns-in_default c =
     parsed-bad _ _ _ _ c.parse.invariant c.without_leading_space-begun.ensures some (sym c.in_default.is ∙ c.argument_at.ensures.argument)
 
 pub parse-smaller : goal.parse-smaller
-parse-smaller c =
-    let shorter = c.in-Some.ensures.shorter in
-    let same = ap (λ (found : Leading ArgumentText). length found.rest) c.found.view_is in
-    let fewer = length-without_leading_space c.parse.rest.now in
-    let begins = ap length c.without_leading_space-begun.ensures in
-    omega (arith, shorter, same, fewer, begins)
+parse-smaller c = grind (arith, length-without_leading_space, c.in-Some.ensures.shorter, c.found.view_is, c.without_leading_space-begun.ensures)
 
 pub parse-preserved : goal.parse-preserved
-parse-preserved c =
-    let some : 0 < length c.without_leading_space-begun.result.now = search (rules, arith) in
-    let found = leading (with_key c.found.inside.key.now c.found.inside.values) c.found.inside.rest.now in
-    let is = ap Some c.found.view_is ∙ sym c.in-Some.is ∙ c.argument_at.ensures.argument in
-    let shorter = subst (λ (l : Leading ArgumentText). length l.rest < length c.without_leading_space-begun.result.now) (sym c.found.view_is) c.in-Some.ensures.shorter in
-    let items = c.in_ok-push.ensures.items ∙ ap (λ argument. c.parse.arguments.items ++ argument ∷ []) c.in_ok-new.ensures in
-    subst (λ (arguments : List ArgumentText). IsParsed c.args.text.now arguments c.found.inside.rest.now) (sym items)
-    (parsed-more _ _ _ _ c.parse.invariant c.without_leading_space-begun.ensures some found is shorter)
+parse-preserved c = grind (arith, IsParsed, parsed-more, c.found.view_is, c.in-Some.is, c.argument_at.ensures.argument, c.in-Some.ensures.shorter, c.in_ok-push.ensures.items, c.in_ok-new.ensures, c.parse.invariant, c.without_leading_space-begun.ensures)

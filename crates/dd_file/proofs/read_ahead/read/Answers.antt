@@ -1,4 +1,4 @@
-use Rattle.std.proofs.Common.{◌-◌, length, take, sym, ap, subst, ◌∙◌, arith}
+use Rattle.std.proofs.Common.{◌-◌, take, sym, subst, ◌∙◌, arith}
 use Rattle.std.proofs.lemmas.List.{length-take}
 use Rattle.dd_file.specs.Position.{longest_input}
 use Rattle.dd_file.specs.Draft.{DraftOf, finished}
@@ -25,13 +25,7 @@ returns-in-Ok-true-clause-reads g c =
     scan (draft-uncut n input.buffered lines) (sym c.in-Ok-true.ensures.done ∙ c.in-Ok-true.field-0-test) (omega (arith, bound.1, size, limit)) (omega (arith, ahead)) c.pass.ensures.passed c.pass.ensures.counted c.finish.ensures c.count-first.ensures.count c.count.ensures.count
 
 pub returns-then-is_err-clause-buffered : goal.returns-then-is_err-clause-buffered
-returns-then-is_err-clause-buffered g c buffered =
-    let same = c.within_limit.ensures in
-    absurd (open-buffered c.parts_are_of_a_grammar.ensures.begun c.add_lines.new.draft c.add_lines.new.scan c.args.input.now (subst (DraftOf g.D.Draft.first_item g.D.Draft.begun g.D.Draft.Fits c.add_lines.new.draft c.add_lines.new.scan) same c.in-Ok-false.ensures.lines)
-    (sym c.in-Ok-false.ensures.done ∙ c.in-Ok-false.field-0-test) (c.in-Ok-false.ensures.none c.in-Ok-false.field-0-test ∙ ap length same) buffered)
+returns-then-is_err-clause-buffered g c buffered = grind (arith, open-buffered, c.parts_are_of_a_grammar.ensures.begun, c.within_limit.ensures, c.in-Ok-false.ensures.lines, c.in-Ok-false.ensures.done, c.in-Ok-false.ensures.none)
 
 pub returns-else-is_err-clause-buffered : goal.returns-else-is_err-clause-buffered
-returns-else-is_err-clause-buffered g c buffered =
-    let same = c.within_limit.ensures in
-    absurd (open-buffered c.parts_are_of_a_grammar.ensures.begun c.add_lines.new.draft c.add_lines.new.scan c.args.input.now (subst (DraftOf g.D.Draft.first_item g.D.Draft.begun g.D.Draft.Fits c.add_lines.new.draft c.add_lines.new.scan) same c.in-Ok-false.ensures.lines)
-    (sym c.in-Ok-false.ensures.done ∙ c.in-Ok-false.field-0-test) (c.in-Ok-false.ensures.none c.in-Ok-false.field-0-test ∙ ap length same) buffered)
+returns-else-is_err-clause-buffered g c buffered = grind (arith, open-buffered, c.parts_are_of_a_grammar.ensures.begun, c.within_limit.ensures, c.in-Ok-false.ensures.lines, c.in-Ok-false.ensures.done, c.in-Ok-false.ensures.none)

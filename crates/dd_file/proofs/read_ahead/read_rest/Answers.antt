@@ -10,12 +10,7 @@ use Rattle.dd_file.proofs.Reading.DraftAnswers.{item-reads, last-reads, item-too
 use Rattle.dd_file.proofs.read_ahead.read_rest.Goals as goal
 
 pub read-init : goal.read-init
-read-init g c = record {
-  filled = filled-none _ _;
-  so_far = c.requires.so_far;
-  open_end = c.requires.open_end;
-  searched = c.requires.searched;
-}
+read-init g c = grind (arith, filled-none, c.requires.so_far, c.requires.open_end, c.requires.searched)
 
 pub returns-then-is_beyond_limit : goal.returns-then-is_beyond_limit
 returns-then-is_beyond_limit g c =
@@ -71,14 +66,7 @@ returns-in-Ok-true-add_lines g c =
     c.finish.ensures c.count-first.ensures.count c.count.ensures.count
 
 pub read-preserved : goal.read-preserved
-read-preserved g c =
-    let filled = rw c.in-Ok-true.field-0-test at c.in-Ok-true.ensures.filled in
-    record {
-      filled = filled-more _ c.read.input _ _ c.read.reader _ true c.read.invariant.filled c.in-Ok-true.ensures.same filled c.in-Ok-true.ensures.failed;
-      so_far = subst (DraftOf g.D.Draft.first_item g.D.Draft.begun g.D.Draft.Fits c.add_lines.new.draft c.add_lines.new.scan) c.within_limit.ensures c.in-Ok-false-add_lines.ensures.lines;
-      open_end = sym c.in-Ok-false-add_lines.ensures.done ∙ c.in-Ok-false-add_lines.field-0-test;
-      searched = c.in-Ok-false-add_lines.ensures.none c.in-Ok-false-add_lines.field-0-test ∙ ap length c.within_limit.ensures;
-    }
+read-preserved g c = grind (arith, filled-more, c.in-Ok-true.ensures.filled, c.read.invariant.filled, c.in-Ok-true.ensures.same, c.in-Ok-true.ensures.failed, c.within_limit.ensures, c.in-Ok-false-add_lines.ensures.lines, c.in-Ok-false-add_lines.ensures.done, c.in-Ok-false-add_lines.ensures.none)
 
 pub returns-in-Err : goal.returns-in-Err
 returns-in-Err g c =

@@ -1,13 +1,11 @@
+use Rattle.std.proofs.lemmas.Grind.{common_steps}
 use Rattle.std.proofs.Common.{subst, arith}
 use Rattle.dd_file.specs.Draft.{Adds}
 use Rattle.dd_file.proofs.Reading.LinesOfDraft.{draft-bound, draft-whole, draft-last}
 use Rattle.dd_file.proofs.scan.add_last_line.Goals as goal
 
 pub returns-then-scan-bytes-clause-all : goal.returns-then-scan-bytes-clause-all
-returns-then-scan-bytes-clause-all g c =
-    let searched = c.requires.searched in
-    let all = c.if-scan-bytes.true in
-    draft-whole c.requires.so_far searched (omega (arith, searched, all))
+returns-then-scan-bytes-clause-all g c = grind (arith, common_steps, draft-whole, c.requires.searched, c.if-scan-bytes.true, c.requires.so_far)
 
 pub returns-then-scan-bytes-clause-few : goal.returns-then-scan-bytes-clause-few
 returns-then-scan-bytes-clause-few g c =

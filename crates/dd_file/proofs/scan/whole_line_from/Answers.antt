@@ -13,10 +13,7 @@ returns-then-ends_in_newline-clause-line c =
     begins-first c.args.bytes.now _ (first _ _ _ _ c.requires (c.first_line_len.ensures.count ∙ ap first_len c.split_at.ensures.back) c.split_at-2.ensures.front) (sym c.ends_in_newline.ensures ∙ c.if-ends_in_newline.true)
 
 pub returns-then-ends_in_newline-clause-searched : goal.returns-then-ends_in_newline-clause-searched
-returns-then-ends_in_newline-clause-searched c =
-    let count = c.first_line_len.ensures.count in
-    let farther = first_len-farther c.args.searched c.args.bytes.now _ c.split_at.result.1.now c.requires (c.split_at-2.ensures.front ∙ ap (λ n. take (c.args.searched + n) c.args.bytes.now) count) (sym c.ends_in_newline.ensures ∙ c.if-ends_in_newline.true) in
-    omega (arith, farther, count, c.split_at-2.ensures.front_len)
+returns-then-ends_in_newline-clause-searched c = grind (arith, first_len-farther, c.first_line_len.ensures.count, c.requires, c.split_at-2.ensures.front, c.ends_in_newline.ensures, c.if-ends_in_newline.true, c.split_at-2.ensures.front_len)
 
 pub returns-else-ends_in_newline-clause-line : goal.returns-else-ends_in_newline-clause-line
 returns-else-ends_in_newline-clause-line c =

@@ -1,4 +1,4 @@
-use Rattle.std.proofs.Common.{sym, ap, ◌∙◌}
+use Rattle.std.proofs.Common.{sym, ap, ◌∙◌, arith}
 use Rattle.std.specs.Prelude.{option_copied}
 use Rattle.std.proofs.lemmas.Result.{IfOk-weaker}
 use Rattle.serde_json.specs.Written.{has_float}
@@ -20,6 +20,4 @@ returns-in-Some-clause-no_float c =
     c.step_members.ensures
 
 pub returns-clause-no_float : goal.returns-clause-no_float
-returns-clause-no_float c =
-    IfOk-weaker c.no_steps_members.result _ _
-    (λ members is. ap has_float is ∙ has_float-no_steps_json (option_copied c.args.down) c.in_ok-stalls.stalls c.args.plan) c.no_steps_members.ensures
+returns-clause-no_float c = grind (arith, IfOk-weaker, has_float-no_steps_json, c.no_steps_members.ensures)

@@ -1,4 +1,4 @@
-use Rattle.std.proofs.Common.{◌≡◌, true}
+use Rattle.std.proofs.Common.{◌≡◌, true, arith}
 use Rattle.quorum_sets.specs.Ids.{Ids}
 use Rattle.conf_change.specs.Configuration.{Configuration, is_joint, is_same}
 use Rattle.conf_change.specs.ConfState.{lists_of}
@@ -16,8 +16,7 @@ of_strategy : (strategy : Strategy) (down : Ids) (now target : Configuration) �
     → stays_till_last (path_by strategy down now target) ≡ true
 of_strategy Shortest down now target promises =
     stays_till_last-left_first (is_same now target) (is_joint now) _ _ (stays_till_last-planned_from_single (after_leave now) target) (stays_till_last-planned_from_single now target)
-of_strategy LearnersFirst down now target promises =
-    stays_till_last-left_first (is_same now target) (is_joint now) _ _ (stays_till_last-learners_first (after_leave now) target) (stays_till_last-learners_first now target)
+of_strategy LearnersFirst down now target promises = grind (arith, stays_till_last-left_first, stays_till_last-learners_first)
 of_strategy OneAtATime down now target promises = stays_till_last-from_one_change (path_by OneAtATime down now target) now target promises.run
 
 pub returns : goal.returns

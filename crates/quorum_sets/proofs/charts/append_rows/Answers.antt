@@ -5,7 +5,7 @@ use Rattle.std.proofs.lemmas.List.Elements.{Contains-get_or}
 use Rattle.std.proofs.lemmas.List.Sorted.{length_permutation}
 use Rattle.std.specs.Prelude.{unwrap_or}
 use Rattle.ascii_text.proofs.Offered.{Extends-append}
-use Rattle.quorum_sets.specs.Chart.{chart_row, ranked, row_text}
+use Rattle.quorum_sets.specs.Chart.{chart_row, row_text}
 use Rattle.quorum_sets.proofs.charts.append_rows.Goals as goal
 
 flat_map_one_more : (f : ℕ → List ℕ) (xs : List ℕ) (i : ℕ) → i < length xs → flat_map f (take (i + 1) xs) ≡ flat_map f (take i xs) ++ f (get_or xs i 0)
@@ -13,13 +13,10 @@ flat_map_one_more f xs i within =
     ap (flat_map f) (take_more xs i 0 within) ∙ flat_map-append f (take i xs) _ ∙ ap (λ rest. flat_map f (take i xs) ++ rest) (append-nil (f (get_or xs i 0)))
 
 pub append_row-requires-clause-within : goal.append_row-requires-clause-within
-append_row-requires-clause-within g c =
-    let len = length_permutation _ _ c.requires.same ∙ length-map c.args.ids.now (ranked (g.A.AckSource.acks c.args.acks.now)) in
-    omega (arith, c.width_of_bar-width.ensures.within)
+append_row-requires-clause-within g c = grind (arith, length_permutation, length-map, c.requires.same, c.width_of_bar-width.ensures.within)
 
 pub returns-in_err-append_row-clause-extends : goal.returns-in_err-append_row-clause-extends
-returns-in_err-append_row-clause-extends g c =
-    Extends-append _ _ _ (rw c.loop-id.invariant at c.append_row.ensures.extends)
+returns-in_err-append_row-clause-extends g c = grind (arith, Extends-append, c.loop-id.invariant, c.append_row.ensures.extends)
 
 pub loop-id-preserved : goal.loop-id-preserved
 loop-id-preserved g c =

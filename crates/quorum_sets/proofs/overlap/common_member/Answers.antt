@@ -1,4 +1,4 @@
-use Rattle.std.proofs.Common.{◌≡◌, ℕ, true, refl, sym}
+use Rattle.std.proofs.Common.{◌≡◌, ℕ, true, sym, arith}
 use Rattle.std.specs.Prelude.{Option, Some, None, IfSome, IfNone}
 use Rattle.quorum_sets.specs.Ids.{Ids}
 use Rattle.quorum_sets.specs.Voters.{Voters, is_quorum}
@@ -14,12 +14,7 @@ shared_member before after first second None quorum_before quorum_after least no
   none = λ quorums. none;
   neighbours = λ neighbours quorums. (let found = QuorumsMeet-from_neighbours before after neighbours first second quorums in absurd (none found.0 found.1));
 }
-shared_member before after first second (Some id) quorum_before quorum_after least none = record {
-  quorums = record { quorum_before = quorum_before; quorum_after = quorum_after };
-  least = least;
-  none = tt;
-  neighbours = λ neighbours quorums. refl;
-}
+shared_member before after first second (Some id) quorum_before quorum_after least none = grind arith
 
 pub returns-then-is_quorum-2 : goal.returns-then-is_quorum-2
 returns-then-is_quorum-2 g c = shared_member _ _ _ _ _ (sym c.if-is_quorum.ensures) (sym c.if-is_quorum-2.ensures) c.least_common.ensures.least c.least_common.ensures.none

@@ -1,9 +1,10 @@
-use Rattle.std.proofs.Common.{◌≡◌, sym, subst, ◌∙◌, ap, true, Result, Ok, Err, None, IsErrAnd, MatchResult}
+use Rattle.std.proofs.Common.{◌≡◌, sym, subst, ◌∙◌, ap, arith, true, ◌&&◌, Result, Ok, Err, None, IsErrAnd, MatchResult}
+use Rattle.std.proofs.lemmas.Grind.{common_steps}
 use Rattle.conf_change.specs.ConfState.{restored}
 use Rattle.conf_change.specs.declared.restore.RestoreFault.{RestoreFault}
 use Rattle.conf_change.specs.declared.restore.RestoreFault.TheVariants.{NotAConfiguration}
 use Rattle.conf_change.proofs.Configurations.DescribedByLists.{restored-none}
-use Rattle.conf_change.specs.Configuration.{is_restorable}
+use Rattle.conf_change.specs.Configuration.{is_valid, is_restorable}
 use Rattle.conf_change.specs.Changer.{IsSound, TrackerState, begun_with, tracker_of}
 use Rattle.conf_change.specs.Progress.{all_fresh}
 use Rattle.conf_change.proofs.Steps.Soundness.{begun_with-is_sound}
@@ -11,7 +12,9 @@ use Rattle.conf_change.proofs.changer.Changer.restore_with_floor.Goals as goal
 
 pub begin-requires-2 : goal.begin-requires-2
 begin-requires-2 g c =
-    let restorable : is_restorable c.in_ok-config.config ≡ true = sym c.is_restorable.ensures ∙ c.if-not-is_restorable.false in
+    let valid : is_valid c.in_ok-config.config ≡ true = c.check.ensures.valid.0 (grind (arith, common_steps)) in
+    let voter = sym c.has_voter_or_is_empty.ensures ∙ c.if-not-has_voter_or_is_empty.false in
+    let restorable : is_restorable c.in_ok-config.config ≡ true = λ i. valid i && voter i in
     let begun : c.begin.result ≡ (begun_with c.args.floor c.args.last_index c.in_ok-config.config).tracker =
     c.begin.ensures ∙ ap (tracker_of c.args.floor c.in_ok-config.config) (c.in_ok-progress.ensures.fresh ∙ ap (λ next. all_fresh next c.in_ok-config.config) c.fresh_next.ensures) in
     let P : TrackerState → Type 0 = IsSound in

@@ -1,31 +1,25 @@
 use Rattle.std.proofs.Common.{◌≡◌, ap, subst, sym, ◌∙◌}
-use Rattle.std.specs.Prelude.{option_map}
-use Rattle.conf_session.specs.Commands.{row_with, reply_to}
+use Rattle.conf_session.specs.Commands.{row_of, reply_by, reply_to}
 use Rattle.conf_session.specs.Reply.{Reply, reply_in}
 use Rattle.conf_session.specs.ReplyLines.{IsValidOutput}
 use Rattle.conf_session.specs.SessionState.{SessionState, IsSession, after_directive}
-use Rattle.conf_session.proofs.CommandReplies.{reply-of_row}
 use Rattle.conf_session.proofs.session.Session.step.Goals as goal
 
 pub apply-requires : goal.apply-requires
 apply-requires c =
     let state = c.self.inside.state in
     let directive = c.args.directive.now in
-    let row = c.row_of-row.result in
-    let made = c.row_of-row.ensures in
     let After : Reply → Type 0 = λ reply. IsSession (after_directive state reply.update) in
-    let reply = c.in_ok-update.ensures ∙ reply-of_row state directive (row_with row.command row.input (option_map (λ p. p.now) row.parameters)) _ _ _ c.command.ensures made.command made.input made.parameters c.input-input.ensures c.arguments-arguments.ensures.arguments in
-    subst After (sym reply) (c.answer_keeps_session.ensures state directive c.is_session.ensures)
+    let row = (λ i. reply_by (c.row_of-row.ensures i) state (c.input-input.ensures i) (c.arguments-arguments.ensures.arguments i)) ∙ ap (λ name. reply_by (row_of name) state directive.input directive.arguments) c.command.ensures in
+    subst After (sym (c.in_ok-update.ensures ∙ row)) (c.answer_keeps_session.ensures state directive c.is_session.ensures)
 
 pub returns : goal.returns
 returns c =
     let state = c.self.inside.state in
     let directive = c.args.directive.now in
-    let row = c.row_of-row.result in
-    let made = c.row_of-row.ensures in
     let After : Reply → SessionState = λ reply. after_directive state reply.update in
     let reply : reply_in state.changer c.run.new.buffers.next c.run.new.text.items c.in_ok-update.update ≡ reply_to state directive =
-    c.in_ok-update.ensures ∙ reply-of_row state directive (row_with row.command row.input (option_map (λ p. p.now) row.parameters)) _ _ _ c.command.ensures made.command made.input made.parameters c.input-input.ensures c.arguments-arguments.ensures.arguments in
+    c.in_ok-update.ensures ∙ (λ i. reply_by (c.row_of-row.ensures i) state (c.input-input.ensures i) (c.arguments-arguments.ensures.arguments i)) ∙ ap (λ name. reply_by (row_of name) state directive.input directive.arguments) c.command.ensures in
     let same : state ≡ c.args.self.now = c.self.view_is in
     let actual = ap (λ (r : Reply). r.actual) reply in
     record {

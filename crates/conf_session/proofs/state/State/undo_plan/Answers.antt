@@ -1,9 +1,8 @@
-use Rattle.std.proofs.Common.{◌≡◌, sym, ap, subst, ◌∙◌}
+use Rattle.std.proofs.Common.{◌≡◌, sym, ap, ◌∙◌, arith}
 use Rattle.std.specs.Prelude.{Err, option_copied}
 use Rattle.std.proofs.lemmas.Bool.{true_from_ne_false}
 use Rattle.conf_change.specs.Configuration.{Configuration, has_voter}
 use Rattle.conf_change.specs.TrackerState.{TrackerState}
-use Rattle.conf_plan.specs.Best.{IsBest}
 use Rattle.conf_plan.specs.Planned.{planned}
 use Rattle.conf_session.specs.SessionState.{current}
 use Rattle.conf_session.proofs.Kept.{valid-older, plan-is, same-some}
@@ -34,9 +33,4 @@ returns-in-Ok-clause-planned c =
     (c.in-Ok.ensures.planned ∙ ap (λ (d : Configuration). planned d c.in-Some.older.now) now)
 
 pub returns-in-Ok-clause-best : goal.returns-in-Ok-clause-best
-returns-in-Ok-clause-best c = λ older is.
-    let kept = sym c.kept_at.ensures ∙ ap option_copied c.in-Some.is in
-    let now : c.config-now.result.now ≡ current c.args.self.now = c.config-now.ensures ∙ ap (λ (t : TrackerState). t.config) c.tracker.ensures.tracker ∙ ap current c.self.view_is in
-    let Target : Configuration → Type 0 = λ d. IsBest (current c.args.self.now) c.in-Ok.plan d in
-    let Now : Configuration → Type 0 = λ d. IsBest d c.in-Ok.plan c.in-Some.older.now in
-    subst Target (same-some _ _ (sym kept ∙ is)) (subst Now now c.in-Ok.ensures.best)
+returns-in-Ok-clause-best c = grind (arith, same-some, c.kept_at.ensures, c.in-Some.is, c.config-now.ensures, c.tracker.ensures.tracker, c.self.view_is, c.in-Ok.ensures.best)

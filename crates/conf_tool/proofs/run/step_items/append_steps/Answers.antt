@@ -10,9 +10,10 @@ loop-step-init c = appended-nothing _ _
 
 pub loop-step-preserved : goal.loop-step-preserved
 loop-step-preserved c =
-    subst (Appended c.args.session.now c.append_step.new.session c.args.text.now.items c.append_step.new.text.items)
+    let ran = rw c.in_ok-directive.ensures at c.in_ok-rewrite_item.ensures in
+    subst (Appended c.args.session.now c.rewrite_item.new.session c.args.text.now.items c.rewrite_item.new.text.items)
     (sym (directives-more c.args.steps.now c.loop-step.step-index _ (slice_get-get_or _ _ _ c.loop-step-test.true ∙ ap Some (sym c.step-item.is))))
-    (appended-more _ _ _ _ _ _ _ _ c.loop-step.invariant c.in_ok-append_step.ensures.session c.in_ok-append_step.ensures.text)
+    (appended-more _ _ _ _ _ _ _ _ c.loop-step.invariant ran.session ran.text)
 
 pub returns-then-is_empty : goal.returns-then-is_empty
 returns-then-is_empty c =

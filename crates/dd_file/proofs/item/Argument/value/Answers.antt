@@ -15,9 +15,7 @@ next values left value i is =
     ∙ (let same : i ≡ i + 0 = omega arith in ap Some (ap (λ k. get_or values k value) same ∙ sym (get_or-drop i values 0 value) ∙ ap (λ l. get_or l 0 value) (sym is)))
 
 pub returns-in_err-next : goal.returns-in_err-next
-returns-in_err-next c =
-    ap (option_map (λ value. value.now)) c.from_residual.ensures
-    ∙ sym (past c.args.self.now.values c.loop-passed.values c.loop-passed._passed c.args.i c.loop-passed.invariant c.in_err-next.ensures.0 (omega arith))
+returns-in_err-next c = grind (arith, past, c.from_residual.ensures, c.loop-passed.invariant, c.in_err-next.ensures.0)
 
 pub loop-passed-preserved : goal.loop-passed-preserved
 loop-passed-preserved c =

@@ -1,14 +1,11 @@
-use Rattle.std.proofs.Common.{ap, subst, ◌∙◌}
-use Rattle.quorum_sets.specs.Tolerance as tolerance
+use Rattle.std.proofs.Common.{ap, subst, ◌∙◌, arith}
 use Rattle.quorum_sets.specs.Tolerance.{IsMostDown}
 use Rattle.conf_change.specs.Configuration.{voters_of}
 use Rattle.plan_output.specs.Stages.{StageState}
 use Rattle.plan_output.proofs.stage.Stage.most_down.Goals as goal
 
 pub returns-clause-counted : goal.returns-clause-counted
-returns-clause-counted c =
-    c.may_be_down.ensures.counted
-    ∙ ap (λ voters. tolerance.may_be_down voters c.args.uncounted.now) (ap voters_of c.config.view_is ∙ ap (λ (s : StageState). voters_of s.config) c.self.view_is)
+returns-clause-counted c = grind (arith, c.may_be_down.ensures.counted, c.config.view_is, c.self.view_is)
 
 pub returns-clause-most : goal.returns-clause-most
 returns-clause-most c =

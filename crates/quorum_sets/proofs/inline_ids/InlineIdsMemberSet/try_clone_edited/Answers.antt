@@ -1,17 +1,13 @@
-use Rattle.std.proofs.Common.{ap, subst, ◌∙◌, arith}
+use Rattle.std.proofs.Common.{ap, ◌∙◌, arith}
 use Rattle.std.proofs.lemmas.List.{map-id}
 use Rattle.std.proofs.lemmas.Result.{on_ok_weaker}
 use Rattle.quorum_sets.specs.Ids.{has, ids_of}
-use Rattle.quorum_sets.specs.AscendingLists.{IsAscending}
 use Rattle.quorum_sets.specs.Edits.{edited}
 use Rattle.quorum_sets.proofs.KeptSets.Merged.{IsEditedList, has-edited_list}
 use Rattle.quorum_sets.proofs.inline_ids.InlineIdsMemberSet.try_clone_edited.Goals as goal
 
 pub invariant_of-self : goal.invariant_of-self
-invariant_of-self g c = record {
-  ascends = subst IsAscending (map-id c.merge.new.items.items) c.merge.ensures.ascends;
-  room = omega (arith, c.self.invariant.room, c.merge.ensures.capacity);
-}
+invariant_of-self g c = grind (arith, map-id, c.merge.ensures.ascends, c.self.invariant.room, c.merge.ensures.capacity)
 
 pub returns : goal.returns
 returns g c =

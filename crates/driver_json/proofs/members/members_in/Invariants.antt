@@ -1,9 +1,0 @@
-use Rattle.std.proofs.Common.{◌≡◌, drop}
-use Rattle.serde_json.specs.View.{items_view}
-use Rattle.driver_json.specs.Values.{members_from}
-use Rattle.driver_json.proofs.MemberItems.{joined}
-use Rattle.driver_json.proofs.members.members_in.Given as goal
-
--- the members so far are before those of the other items
-abbrev pub invariant-loop-index : goal.invariant-loop-index
-invariant-loop-index l = members_from 0 (items_view l.items.items) ≡ joined l.members.items (members_from l.index (items_view (drop l.index l.items.items)))
