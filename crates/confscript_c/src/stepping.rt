@@ -8,6 +8,7 @@
 //! The last id, 4, is catching up; the others keep their progress.
 ghost use Rattle.std.specs.Prelude.{◌≡◌, [], ◌∷◌, ◌++◌, Ok, IfOk, IfErr, OnOk};
 ghost use Rattle.confscript_c.specs.Answer.{Refuses};
+ghost use Rattle.confscript_c.specs.Stepped as spec;
 ghost use Rattle.confscript_c.specs.Stepped.{changes_from, kind_of_number, step_kind_at, step_result};
 ghost use Rattle.confscript_c.specs.Written.{Writes};
 
@@ -16,9 +17,9 @@ use crate::applying::refusal;
 use crate::buffer::write_out;
 use crate::numbers::{Numbers, configuration_of, numbers_of};
 use crate::status::Status;
-use conf_change::{Change, Kind, StepKind, Transition, next_config, taken};
+use conf_change::{Change, Config, Kind, StepKind, Transition, next_config, taken};
 use conf_plan::catching_up_by;
-use quorum_sets::NoMemory;
+use quorum_sets::{InlineIds, NoMemory};
 use smallvec::SmallVec;
 use std::alloc::Global;
 
@@ -68,10 +69,7 @@ fn stepped(
     let config = configuration_of(alloc, configuration)?;
     let changes = read_changes(alloc, changes)?;
     let kind = step_kind_at(step, changes.as_slice())?;
-    let changes = changes.as_slice();
-    let after = next_config(&config, kind, changes).map_err(|refused| refusal(refused, 0))?;
-    let catching_up = catching_up_by(alloc, &config, kind, changes, &after)?;
-    Ok(numbers_of(alloc, &after, &catching_up)?)
+    array_after(alloc, &config, kind, changes.as_slice())
 }
 
 // The changes, or the answer for the first whose kind is unknown.
@@ -123,4 +121,20 @@ fn step_kind_at(number: u32, changes: &[Change]) -> Result<StepKind, Answer>
         4 => Ok(StepKind::Leave),
         _ => Err(Answer::new(Status::BadStep, 0)),
     }
+}
+
+// The array of the configuration after a step, or the answer for its refusal.
+fn array_after(
+    alloc: Global,
+    config: &Config<InlineIds>,
+    kind: StepKind,
+    changes: &[Change],
+) -> Result<Numbers, Answer>
+    ensures numbers { IfOk result (λ numbers. spec.stepped config.now changes.now (Ok kind)
+        ≡ Ok numbers.items) }
+    ensures refused { IfErr result (Refuses (spec.stepped config.now changes.now (Ok kind))) }
+{
+    let after = next_config(config, kind, changes).map_err(|refused| refusal(refused, 0))?;
+    let catching_up = catching_up_by(alloc, config, kind, changes, &after)?;
+    Ok(numbers_of(alloc, &after, &catching_up)?)
 }
