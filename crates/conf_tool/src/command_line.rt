@@ -1,8 +1,8 @@
 //! What the arguments of the command line ask for.
-ghost use Rattle.std.specs.Prelude.{◌≡◌, ◌≤◌, ◌<◌, [], Option, Some, None, map, codes, option_map, MatchResult, IfOk, IfErr};
+ghost use Rattle.std.specs.Prelude.{◌≡◌, ◌≤◌, [], Option, Some, map, codes, option_map, MatchResult, IfOk, IfErr};
 ghost use Rattle.clap.specs.Words.{Text, fault_of, first_of, found_of, rows_of, subcommand_of, subcommand_rows_of};
 ghost use Rattle.conf_tool.specs.Program.{program as the_program, OfProgram};
-ghost use Rattle.conf_tool.specs.CommandLine.{mode_named, option_text, floor_named, strategy_named, output_named, ids_down, pair_of, texts_of, IsOptionValue, IsInvocation, IsValueFault, IsValueFaultOf, IsRefusal};
+ghost use Rattle.conf_tool.specs.CommandLine.{mode_named, floor_named, strategy_named, output_named, ids_down, pair_of, texts_of, IsOptionValue, IsInvocation, IsValueFault, IsValueFaultOf, IsRefusal};
 ghost use Rattle.conf_tool.specs.Ranges.{IsInRange};
 
 use crate::argument_fault::ArgumentFault;

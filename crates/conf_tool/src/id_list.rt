@@ -1,5 +1,5 @@
 //! A list of ids with commas between them, as the value of an option.
-ghost use Rattle.std.specs.Prelude.{◌≡◌, ◌<◌, option_map, IfOk};
+ghost use Rattle.std.specs.Prelude.{◌≡◌, option_map, IfOk};
 ghost use Rattle.std.specs.Char.{is_ascii_hexdigit};
 ghost use Rattle.std.specs.List.{list_all};
 ghost use Rattle.conf_session.specs.Parameter.{id_in};

@@ -1,8 +1,6 @@
 //! The reply of the mode `lines` to one line.
-ghost use Rattle.std.specs.Prelude.{◌≡◌, [], ◌∷◌, ◌++◌, false, Ok, MatchOption, OnOk};
-ghost use Rattle.ascii_text.specs.Tokens.{tokens_in};
-ghost use Rattle.conf_tool.specs.LineReply as spec;
-ghost use Rattle.conf_tool.specs.LineReply.{line_reply, reply_to_changes};
+ghost use Rattle.std.specs.Prelude.{◌≡◌, ◌++◌, OnOk};
+ghost use Rattle.conf_tool.specs.LineReply.{line_reply};
 
 use ascii_text::tokens::next_token;
 use conf_change::{

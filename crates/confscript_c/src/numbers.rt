@@ -8,9 +8,8 @@
 //! The last count is that of the members that catch up. They belong to the step that led to the configuration, so
 //! what comes out of one call goes into the next as it is.
 ghost use Rattle.std.specs.Prelude.{◌≡◌, [], ◌∷◌, ◌++◌, true, Ok, IfOk, IfErr, OnOk};
-ghost use Rattle.quorum_sets.specs.Ids.{ascending, size};
+ghost use Rattle.quorum_sets.specs.Ids.{size};
 ghost use Rattle.conf_change.specs.Configuration.{is_valid};
-ghost use Rattle.conf_change.specs.ConfState.{lists_of};
 ghost use Rattle.confscript_c.specs.Answer.{Refuses};
 ghost use Rattle.confscript_c.specs.Numbers as spec;
 ghost use Rattle.confscript_c.specs.Numbers.{has_form, lists_in, violation_answer, fault_answer, configuration_of, flag_number, numbers_of, valid_configuration_of};

@@ -6,10 +6,10 @@
 //! incoming yes no not-voted     ->  pending
 //! incoming 1 2 3, down 3        ->  0 may be down
 //! ```
-ghost use Rattle.std.specs.Prelude.{◌≡◌, ◌⊎◌, map, Some, None, IfOk, if◌then◌else◌};
+ghost use Rattle.std.specs.Prelude.{◌≡◌, ◌⊎◌, map, IfOk};
 ghost use Rattle.std.specs.List.{list_all};
 ghost use Rattle.quorum_sets.specs.Committed.{joint_committed_of};
-ghost use Rattle.quorum_sets.specs.Votes.{Counts, vote_of};
+ghost use Rattle.quorum_sets.specs.Votes.{Counts};
 ghost use Rattle.confscript_c.specs.Answer.{no_memory};
 ghost use Rattle.confscript_c.specs.Quorums as spec;
 ghost use Rattle.confscript_c.specs.Quorums.{vote_answer, may_be_down_answer, ballot, is_ballot};

@@ -7,7 +7,7 @@
 //!
 //! The configuration is known at index 57, 1 leads, 60 is committed, no change is pending, and a member that has caught
 //! up lacks at most 8 entries. 1 and 2 have all entries and were heard from; 3 has 52, and was not. 1 to 3 run.
-ghost use Rattle.std.specs.Prelude.{◌≡◌, ◌<◌, true, Ok, IfOk, IfErr, nat_le};
+ghost use Rattle.std.specs.Prelude.{◌≡◌, ◌<◌, true, Ok, IfOk, IfErr};
 ghost use Rattle.std.specs.List.{slice_index};
 ghost use Rattle.confscript_c.specs.Answer.{Refuses};
 ghost use Rattle.confscript_c.specs.Views as spec;

@@ -2,7 +2,7 @@
 //!
 //! No contract of std's `BufWriter` states what was written when a write fails. Here a failed write is the last one,
 //! and what the writer got is a prefix of what was written to the blocks.
-ghost use Rattle.std.specs.Prelude.{◌≡◌, ◌≤◌, ◌<◌, ◌+◌, ◌||◌, IsErr, is_err, OnOk, IfOk, true, length, vec_len, vec_capacity};
+ghost use Rattle.std.specs.Prelude.{◌≡◌, ◌≤◌, ◌<◌, ◌||◌, IsErr, is_err, OnOk, IfOk, true, length, vec_len, vec_capacity};
 ghost use Rattle.std.specs.Io.{WritesAtMost};
 ghost use Rattle.std.specs.Io.KnownBytes.{Appends, Keeps, WriteAppends};
 ghost use Rattle.dd_file.specs.Device.{AppendsPart, is_failed_write};

@@ -4,7 +4,7 @@
 //! buffer   returned already | buffered
 //!          0                start
 //! ```
-ghost use Rattle.std.specs.Prelude.{◌≡◌, ◌≤◌, ◌<◌, ◌+◌, ◌-◌, ◌||◌, None, [], true, false, IfOk, IfErr, OnErr, length};
+ghost use Rattle.std.specs.Prelude.{◌≡◌, ◌≤◌, ◌<◌, ◌+◌, ◌||◌, [], true, false, IfOk, IfErr, OnErr, length};
 ghost use Rattle.dd_file.specs.Position.{longest_input};
 ghost use Rattle.dd_file.specs.Buffered.{FilledBy, IsInterruption, ended, passed, within_limit};
 ghost use Rattle.dd_file.specs.ReaderState.{fresh};

@@ -1,5 +1,5 @@
 //! Reading the parts of an input, items or lines, from the bytes that are read ahead.
-ghost use Rattle.std.specs.Prelude.{◌≡◌, ◌+◌, ◌||◌, None, true, false, is_err, IfOk, OnErr, IsOkUnless, length};
+ghost use Rattle.std.specs.Prelude.{◌≡◌, ◌+◌, ◌||◌, None, false, is_err, IfOk, OnErr, IsOkUnless, length};
 ghost use Rattle.std.specs.Io.KnownBytes.{Keeps};
 ghost use Rattle.dd_file.specs.Position.{longest_input};
 ghost use Rattle.dd_file.specs.Grammar.{next_of};

@@ -1,5 +1,5 @@
 //! A set of ids as a sorted list.
-ghost use Rattle.std.specs.Prelude.{◌≡◌, ◌<◌, ◌≤◌, true, not, length, insert, remove, IfOk, OnOk, OnErr, IsOk, MatchResult};
+ghost use Rattle.std.specs.Prelude.{◌≡◌, ◌<◌, ◌≤◌, true, not, length, IfOk, OnOk, OnErr, IsOk, MatchResult};
 ghost use Rattle.quorum_sets.specs.Ids.{no_ids, ascending, has, with_id, size, ids_of};
 ghost use Rattle.quorum_sets.specs.AscendingLists.{IsAscending, IsAtPosition, IsInsertionPoint};
 

@@ -1,11 +1,10 @@
 -- Which entries count as changes of the voters.
-use Rattle.std.proofs.Common.{◌≡◌, List, [], ◌∷◌, refl, ap, ◌∙◌, arith}
-use Rattle.std.specs.Prelude.{◌+◌, Ok, if◌then◌else◌}
-use Rattle.std.specs.Result.{result_unwrap_or}
+use Rattle.std.proofs.Common.{◌≡◌, List, [], ◌∷◌, refl, arith}
+use Rattle.std.specs.Prelude.{Ok}
 use Rattle.std.proofs.lemmas.Bool.Decides.{nat_tests}
 use Rattle.quorum_sets.specs.Ids.{ids_of}
 use Rattle.quorum_sets.proofs.Offered.{written_out, has-ids_of, has-no_ids}
-use Rattle.conf_change.specs.Configuration.{Configuration, voters_of}
+use Rattle.conf_change.specs.Configuration.{Configuration}
 use Rattle.conf_change.specs.Change.{result_of}
 use Rattle.conf_change.specs.Outcome.{outcome}
 use Rattle.conf_change.specs.declared.change.Change.{Change}
@@ -13,7 +12,7 @@ use Rattle.conf_change.specs.declared.change.Kind.TheVariants.{Voter, Learner}
 use Rattle.conf_change.specs.declared.step.Step.TheVariants.{Simple, LeaveJoint}
 use Rattle.conf_change.proofs.Offered.{configuration-by_members, has-incoming_after, has-learners_after, has-next_after, last_effective-one, outcome-simple_accepted}
 use Rattle.raft_safety.specs.Logs.{ConfChange}
-use Rattle.raft_safety.specs.Configurations.{configuration_after, voters_after, voter_changes, are_same_voters}
+use Rattle.raft_safety.specs.Configurations.{configuration_after, voters_after, voter_changes}
 use Rattle.safety_examples.proofs.ListedVoters.{configuration_of, changes-listed}
 use Rattle.safety_examples.proofs.Beginnings.{one_change}
 use Rattle.safety_examples.proofs.Beginnings as beginnings

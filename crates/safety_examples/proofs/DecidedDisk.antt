@@ -4,11 +4,11 @@ use Rattle.quorum_sets.specs.Ids.{no_ids, ids_of}
 use Rattle.raft_safety.specs.Logs.{Log, IsPrefix, last_term}
 use Rattle.raft_safety.specs.Cluster.{Acknowledgement, In}
 use Rattle.raft_safety.specs.EtcdCluster.{Candidacy, EtcdCluster}
-use Rattle.raft_safety.specs.EtcdRules.{EtcdAction, MayRestartDurable}
+use Rattle.raft_safety.specs.EtcdRules.{EtcdAction}
 use Rattle.raft_safety.specs.EtcdRules as etcd
 use Rattle.raft_safety.specs.EtcdRuns.{after_etcd_actions}
 use Rattle.raft_safety.specs.DiskCluster.{Message, Ask, Grant, Acknowledge, Raised, DiskCluster, HasSaidAcknowledged, memory, in_memory, new_disk_cluster}
-use Rattle.raft_safety.specs.DiskRules.{IsSaved, IsOwn, IsHeard, DiskAction, MayTakeInMemory, MaySave, MaySay, MayLead, MayRaise, MayUse, MayApplyInMemory, MayCrash, IsAllowedOnDisk}
+use Rattle.raft_safety.specs.DiskRules.{IsSaved, IsOwn, IsHeard, DiskAction, MaySave, MayLead, MayRaise, MayUse, IsAllowedOnDisk}
 use Rattle.raft_safety.specs.DiskRules as disk
 use Rattle.raft_safety.specs.DiskRuns.{after_disk_action}
 use Rattle.safety_examples.proofs.Decisions.{Decision, yes, no, undecided, number_is, less, like, so, negated, both, implied, some_in, is_in, each_id}

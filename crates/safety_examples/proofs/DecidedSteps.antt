@@ -8,7 +8,7 @@ use Rattle.raft_safety.specs.Logs.{Entry, Log, IsPrefix, IsUpToDate, last_term}
 use Rattle.raft_safety.specs.Configurations.{IsQuorumAfter, IsOneChangeBeyond}
 use Rattle.raft_safety.specs.Cluster.{Vote, VoteRequest, Election, Acknowledgement, Cluster, HasAcknowledged, HasVoted, In, Leads, new_cluster}
 use Rattle.raft_safety.specs.Steps as core
-use Rattle.raft_safety.specs.Steps.{Action, IsLogAfter, IsAllowed, AreAllowed, after_action, after_actions}
+use Rattle.raft_safety.specs.Steps.{Action, IsLogAfter, IsAllowed, after_action}
 use Rattle.safety_examples.proofs.Decisions.{Decision, yes, number_is, less, at_most, like, negated, both, either, implied, all_in, some_in, is_in, each_id}
 use Rattle.safety_examples.proofs.ListedVoters.{Lists, configuration_of, quorum, one_change_beyond}
 use Rattle.safety_examples.proofs.ListedRuns.{Level, Run, AllButOne, all_but_one, is_refused, state_before}

@@ -6,9 +6,9 @@ use Rattle.quorum_sets.specs.Ids.{ids_of}
 use Rattle.raft_safety.specs.Logs.{Entry, Log, last_term}
 use Rattle.raft_safety.specs.Configurations.{voter_changes}
 use Rattle.raft_safety.specs.Cluster.{VoteRequest, Election, Cluster, In}
-use Rattle.raft_safety.specs.Waiting.{HasChanges, HaveStored, WaitingCluster, new_waiting_cluster, WaitingAction, MayProposeWaiting, MayCommitWaiting, IsBetween, IsAllowedWaiting, AreAllowedWaiting, after_waiting}
+use Rattle.raft_safety.specs.Waiting.{HasChanges, HaveStored, WaitingCluster, new_waiting_cluster, WaitingAction, MayCommitWaiting, IsBetween, IsAllowedWaiting, after_waiting}
 use Rattle.raft_safety.specs.Waiting as waiting
-use Rattle.raft_safety.specs.WaitingOnDisk.{WaitingDisks, new_waiting_disks, WaitingDiskAction, MayCampaignStored, MayProposeStored, IsAllowedWaitingOnDisk, AreAllowedWaitingOnDisk, after_waiting_on_disk}
+use Rattle.raft_safety.specs.WaitingOnDisk.{WaitingDisks, new_waiting_disks, WaitingDiskAction, MayCampaignStored, MayProposeStored, IsAllowedWaitingOnDisk, after_waiting_on_disk}
 use Rattle.raft_safety.specs.WaitingOnDisk as stored
 use Rattle.raft_safety.specs.DiskCluster.{in_memory}
 use Rattle.raft_safety.specs.DiskRules as rules

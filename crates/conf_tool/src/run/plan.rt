@@ -13,7 +13,7 @@
 //! Blank lines and comments are skipped, and still counted in the line numbers of errors. Between the replies to two
 //! pairs comes an empty line, but none in JSON. If the replies are scripts, one session runs all of them, so that
 //! together they are one script. The first line with an error ends the run. The form of the input is own.
-ghost use Rattle.std.specs.Prelude.{◌≡◌, ℕ, ◌+◌, ◌<◌, ◌^◌, ◌||◌, ◌++◌, None, Ok, true, false, IfOk, IfErr, OnOk, IsOkUnless};
+ghost use Rattle.std.specs.Prelude.{◌≡◌, ◌+◌, ◌||◌, ◌++◌, Ok, true, false, IfOk, IfErr, OnOk, IsOkUnless};
 ghost use Rattle.conf_change.specs.Configuration.{is_valid};
 ghost use Rattle.conf_tool.specs.Outputs.{planned_texts, pair_text, separator, worse_of};
 ghost use Rattle.conf_tool.specs.Pairs.{pair_between, pair_of_texts, IsFaultOf};

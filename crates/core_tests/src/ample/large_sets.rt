@@ -1,5 +1,5 @@
 //! Sets of 8, 9 and 10,000 ids, in both representations, and lists of 10,000 changes.
-ghost use Rattle.std.specs.Prelude.{◌≤◌, ◌<◌};
+ghost use Rattle.std.specs.Prelude.{◌≤◌};
 
 use conf_change::{Change, Changer, Kind, Progress, Refused};
 use quorum_sets::{InlineIds, MemberSet, TreeIds, symdiff};
